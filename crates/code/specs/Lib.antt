@@ -1,0 +1,3 @@
+pub mod Code
+pub mod Search
+pub mod Repair
