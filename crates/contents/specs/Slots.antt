@@ -1,0 +1,19 @@
+-- The slots of a store: document 01, section 5. Each is a two-byte length, little-endian, then room for S bytes. Length 0 means empty.
+-- Assumes nothing.
+use mathlib.Core.List.{List, [], _∷_}
+use Prim.Native.Nat.{ℕ, zero, suc, _+_, _*_, _/_, _%_}
+use lib.ListN.{length, getD, set}
+use lib.Seq.{sets}
+
+-- the length that stands in the slot at at
+abbrev pub lengthAt : List ℕ → ℕ → ℕ
+lengthAt s at = getD s at 0 + getD s (at + 1) 0 * 256
+
+-- the length 0 in each of n slots, w bytes apart, from at on; no other byte changes
+unfoldable pub cleared : List ℕ → ℕ → ℕ → ℕ → List ℕ
+cleared s at zero w = s
+cleared s at (suc n) w = cleared (set (set s at 0) (at + 1) 0) (at + w) n w
+
+-- a payload in the slot at at: its length, and its bytes behind it; the slot's other bytes stay
+abbrev pub stored : List ℕ → ℕ → List ℕ → List ℕ
+stored s at b = sets s at ((length b % 256) ∷ (length b / 256) ∷ b)

@@ -1,0 +1,4 @@
+pub mod Mend
+pub mod Open
+pub mod Offer
+pub mod Hand

@@ -1,0 +1,82 @@
+-- Offer: document 01, section 5. Refusals in the order 9, then 1 to 8 as the field reader gives them, then 10 to 16.
+-- Assumes nothing.
+use mathlib.Core.Bool.{Bool, true, false, cond, not, _&&_, _||_}
+use mathlib.Core.List.{List, [], _∷_}
+use Prim.Native.Nat.{ℕ}
+use lib.Dec.{eqb, ltb}
+use lib.ListN.{length, getD}
+use Rattle.refusals.specs.declared.Refusal.{Refusal}
+use Rattle.refusals.specs.declared.Refusal.the-variants.{Unknown, Other, Wide, Repair, Crc, Slot, Conflict}
+use Rattle.packet.specs.declared.Packet.{Packet}
+use Rattle.packet.specs.declared.Reading.{Reading}
+use Rattle.packet.specs.declared.Reading.the-variants.{Sent, Refused}
+use Rattle.packet.specs.Packet.{readOf}
+use Rattle.places.specs.declared.Place.{Place}
+use Rattle.places.specs.declared.Record.{Record}
+use Rattle.places.specs.declared.Found.{Found}
+use Rattle.places.specs.declared.Found.the-variants.{At, Nothing}
+use Rattle.places.specs.Places.{unused, good, placeNamed}
+use Rattle.contents.specs.Slots.{stored}
+use Rattle.contents.specs.Contents.{Slot as Content, wrong, holding, slotAt, slotOf}
+use Rattle.record.specs.declared.Offered.{Offered}
+use Rattle.record.specs.declared.Offered.the-variants.{Stored, Repeat}
+use Rattle.record.specs.Mend.{Mended, whole, broken, payloadIn, mendedIn, agrees}
+
+-- type, update, count, protection, or M under protection 1, differs from the place
+unfoldable pub differs : Place → Packet → Bool
+differs p f =
+    not (eqb (f .kind) (p .kind)) || (not (eqb (f .update) (p .update)) || (not (eqb (f .count) (p .count))
+    || (not (eqb (f .protection) (p .protection)) || (eqb (f .protection) 1 && not (eqb (f .rows) (p .rows))))))
+
+-- what a packet comes to at a place, whatever the store holds: a refusal, or a payload for a slot
+pub data Judged : Type 0 where
+  refuse : Refusal → Judged
+  put : ℕ → List ℕ → Judged
+
+abbrev pub judgeMended : ℕ → List ℕ → Mended → Judged
+judgeMended number q (broken i) = refuse (Repair i)
+judgeMended number q (whole b) = cond (agrees q b) (put number b) (refuse Crc)
+
+unfoldable pub judge : Place → Packet → List ℕ → Judged
+judge p f q =
+    cond (differs p f) (refuse Other)
+    (cond (ltb (p .slot) (length (payloadIn q))) (refuse Wide) (judgeMended (f .number) q (mendedIn (f .protection) q)))
+
+abbrev pub same : List ℕ → List ℕ → Bool
+same [] [] = true
+same [] (y ∷ b) = false
+same (x ∷ a) [] = false
+same (x ∷ a) (y ∷ b) = eqb x y && same a b
+
+-- what a payload comes to at what a slot holds
+abbrev pub putInto : Content → List ℕ → Offered
+putInto wrong b = Offered.Refused Slot
+putInto (holding []) b = Stored
+putInto (holding (x ∷ a)) b = cond (same (x ∷ a) b) Repeat (Offered.Refused Conflict)
+
+-- what is answered, and what the store then holds
+pub record Offering : Type 0 where
+  pub answer : Offered
+  pub store : List ℕ
+
+-- the store changes with the answer Stored alone
+abbrev pub storing : List ℕ → ℕ → List ℕ → Offered → Offering
+storing s at b Stored = record { answer = Stored; store = stored s at b }
+storing s at b Repeat = record { answer = Repeat; store = s }
+storing s at b (Offered.Refused r) = record { answer = Offered.Refused r; store = s }
+
+abbrev pub offerJudged : Place → List ℕ → Judged → Offering
+offerJudged p s (refuse r) = record { answer = Offered.Refused r; store = s }
+offerJudged p s (put k b) = storing s (slotAt p k) b (putInto (slotOf p s k) b)
+
+abbrev pub offerFound : Record → List ℕ → Packet → List ℕ → Found → Offering
+offerFound h s f q (At i) = offerJudged (getD (h .places) i unused) s (judge (getD (h .places) i unused) f q)
+offerFound h s f q Nothing = record { answer = Offered.Refused Unknown; store = s }
+
+abbrev pub offerRead : Record → List ℕ → List ℕ → Reading → Offering
+offerRead h s q (Sent f) = offerFound h s f q (placeNamed (h .places) (f .resource))
+offerRead h s q (Refused r) = record { answer = Offered.Refused r; store = s }
+
+unfoldable pub offerOf : Record → List ℕ → List ℕ → Offering
+offerOf h s q =
+    cond (good (length s) (h .places)) (offerRead h s q (readOf q)) (record { answer = Offered.Refused Refusal.Record; store = s })

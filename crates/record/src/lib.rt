@@ -1,0 +1,24 @@
+// The collecting record over one lent store: document 01, section 5. The record is a struct by value, returned anew by open and close; offer only reads it.
+use places::Found;
+use places::Record;
+use refusals::Refusal;
+use refusals::Verdict;
+
+// The record after open or close, and what is answered. Beside a refusal the record is as it came.
+pub struct Kept {
+    pub record: Record,
+    pub verdict: Verdict,
+}
+
+// What offering a packet answers.
+pub enum Offered {
+    Stored,
+    Repeat,
+    Refused(Refusal),
+}
+
+// How a resource stands: the number of filled slots, and the lowest empty one.
+pub enum Standing {
+    Filled(u32, Found),
+    Refused(Refusal),
+}
