@@ -1,0 +1,105 @@
+-- The calls upon a record and its store, each by the definition that its contract cites, and runs of calls: document 01, sections 4 and 5.
+-- A program answers each call; ours is `step`, and every statement is about any program. Assumes nothing.
+use mathlib.Core.Bool.{Bool, true, false, _&&_}
+use mathlib.Core.List.{List, [], _∷_}
+use Prim.Native.Nat.{ℕ}
+use lib.Dec.{eqb, ltb}
+use lib.ListN.{length}
+use Rattle.refusals.specs.declared.Verdict.{Verdict}
+use Rattle.packet.specs.declared.Settings.{Settings}
+use Rattle.packet.specs.Packet.{resourceIn}
+use Rattle.packet.specs.Settings.{house}
+use Rattle.pack.specs.declared.Packed.{Packed}
+use Rattle.pack.specs.Pack.{packOf}
+use Rattle.places.specs.declared.Record.{Record}
+use Rattle.places.specs.Places.{freshRecord}
+use Rattle.record.specs.declared.Offered.{Offered}
+use Rattle.record.specs.declared.Standing.{Standing}
+use Rattle.record.specs.Open.{openOf, closeOf}
+use Rattle.record.specs.Offer.{offerOf}
+use Rattle.record.specs.Hand.{statusOf, handOutOf}
+
+pub data Call : Type 0 where
+  -- file, settings, packet number, output
+  packing : List ℕ → Settings → ℕ → List ℕ → Call
+  -- settings, count
+  opening : Settings → ℕ → Call
+  -- a packet
+  offering : List ℕ → Call
+  -- a resource
+  asking : ℕ → Call
+  -- resource, length, output
+  handing : ℕ → ℕ → List ℕ → Call
+  -- a resource
+  closing : ℕ → Call
+
+-- the calls without settings are the calls at the house setting
+abbrev pub packingHouse : List ℕ → ℕ → ℕ → ℕ → ℕ → List ℕ → Call
+packingHouse file resource kind update n out = packing file (house resource kind update) n out
+
+abbrev pub openingHouse : ℕ → ℕ → ℕ → ℕ → Call
+openingHouse resource kind update count = opening (house resource kind update) count
+
+-- what is answered, with the output where there is one
+pub data Answer : Type 0 where
+  packed : Packed → List ℕ → Answer
+  opened : Verdict → Answer
+  offered : Offered → Answer
+  asked : Standing → Answer
+  handed : Verdict → List ℕ → Answer
+  closed : Verdict → Answer
+
+pub record State : Type 0 where
+  pub held : Record
+  pub store : List ℕ
+
+pub record Outcome : Type 0 where
+  pub answer : Answer
+  pub state : State
+
+abbrev pub Program : Type 0
+Program = Call → State → Outcome
+
+unfoldable pub step : Program
+step (packing file g n out) x = record { answer = packed (packOf file g n out .answer) (packOf file g n out .output); state = x }
+step (opening g count) x = record {
+  answer = opened (openOf (x .held) (x .store) g count .kept .verdict);
+  state = record { held = openOf (x .held) (x .store) g count .kept .«record»; store = openOf (x .held) (x .store) g count .store };
+}
+step (offering q) x = record {
+  answer = offered (offerOf (x .held) (x .store) q .answer);
+  state = record { held = x .held; store = offerOf (x .held) (x .store) q .store };
+}
+step (asking r) x = record { answer = asked (statusOf (x .held) (x .store) r); state = x }
+step (handing r n out) x =
+    record { answer = handed (handOutOf (x .held) (x .store) r n out .answer) (handOutOf (x .held) (x .store) r n out .output); state = x }
+step (closing r) x = record {
+  answer = closed (closeOf (x .held) (x .store) r .verdict);
+  state = record { held = closeOf (x .held) (x .store) r .«record»; store = x .store };
+}
+
+-- a run of calls from a state: the answers, and the state at the end
+pub record Ran : Type 0 where
+  pub answers : List Answer
+  pub state : State
+
+abbrev pub run : Program → List Call → State → Ran
+run f [] x = record { answers = []; state = x }
+run f (c ∷ cs) x = record { answers = f c x .answer ∷ run f cs (f c x .state) .answers; state = run f cs (f c x .state) .state }
+
+-- a fresh record over a store
+abbrev pub fresh : List ℕ → State
+fresh s = record { held = freshRecord; store = s }
+
+-- a packet names the resource in its bytes 3 and 4; a shorter input names none
+abbrev pub names : ℕ → List ℕ → Bool
+names r q = ltb 4 (length q) && eqb (resourceIn q) r
+
+-- which calls are about a resource
+abbrev pub about : ℕ → Call → Bool
+about r (packing file g n out) = false
+about r (opening g count) = eqb (g .resource) r
+about r (offering q) = names r q
+about r (asking x) = eqb x r
+about r (handing x n out) = eqb x r
+about r (closing x) = eqb x r
