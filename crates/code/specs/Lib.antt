@@ -1,3 +1,6 @@
 pub mod Code
 pub mod Search
 pub mod Repair
+pub mod Register
+pub mod Value
+pub mod Cases

@@ -1,5 +1,5 @@
 -- Encoding and repair of a row: document 01, section 3, and demand 2. Contracts cite `checksOf` and `repairOf`; `ChecksAreExact` and `RepairIsExact` say what they are, in
--- terms of `Coded` and `distance` alone, and are proved (proofs/Exact.antt). How they are made, nobody has to read. Assumes nothing.
+-- terms of `Coded` and `distance` alone, and are proved (proofs/Division.antt, proofs/Exact.antt). How they are made, nobody has to read. Assumes nothing.
 use mathlib.Core.Path.{_≡_}
 use mathlib.Core.List.{List, [], _++_}
 use Prim.Native.Nat.{ℕ, _≤_}

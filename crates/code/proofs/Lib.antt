@@ -1,0 +1,10 @@
+pub mod Lists
+pub mod Division
+pub mod Weights
+pub mod Values
+pub mod Distance
+pub mod Roots
+pub mod Locate
+pub mod Errata
+pub mod Exact
+pub mod Cases
