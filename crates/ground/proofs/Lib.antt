@@ -1,3 +1,5 @@
 pub mod Sums
 pub mod Sweep
 pub mod OneResult
+pub mod Listed
+pub mod Writing

@@ -1,1 +1,4 @@
 pub mod Layout
+pub mod Rule
+pub mod Spread
+pub mod Cases

@@ -1,0 +1,4 @@
+pub mod Places
+pub mod Coded
+pub mod Scatter
+pub mod Cases
