@@ -1,0 +1,47 @@
+/* What the files of the command share: messages, whole files, archives. Every decision about packets is the library's. */
+#ifndef COMMAND_H
+#define COMMAND_H
+
+#include <stddef.h>
+#include <stdint.h>
+
+enum { EXIT_ACCEPTED = 0, EXIT_REFUSED = 1, EXIT_TROUBLE = 2 };
+
+/* say.c: messages. Each of the first two ends the command. */
+void trouble(const char *format, ...) __attribute__((noreturn, format(printf, 1, 2)));
+void usage(const char *format, ...) __attribute__((noreturn, format(printf, 1, 2)));
+int refused(uint64_t answer, const char *what);
+const char *refusal_name(unsigned number);
+
+/* files.c: whole files in memory, and files that appear only when they are complete. */
+struct bytes {
+    uint8_t *at;
+    size_t n;
+};
+struct bytes read_file(const char *path);
+void release(struct bytes b);
+struct output {
+    const char *path;
+    char *temporary;
+    int fd;
+};
+struct output begin_output(const char *path);
+void write_output(struct output *o, const uint8_t *at, size_t n);
+void finish_output(struct output *o);
+
+/* archive.c: one file with a header, the record and the store, mapped into memory. */
+struct archive {
+    const char *path;
+    int fd;
+    uint8_t *map;
+    size_t size;
+    uint8_t *record;
+    uint8_t *store;
+    size_t store_size;
+};
+void new_archive(const char *path, uint64_t store_size);
+struct archive open_archive(const char *path, int writing);
+void publish_record(struct archive *a, const uint8_t *record);
+void close_archive(struct archive *a);
+
+#endif

@@ -1,0 +1,150 @@
+/*
+ * brithelva.h: packets, rows and collected files of the data service of FM digital radio.
+ *
+ * Every function takes any bytes and any numbers, ends, and does exactly what is written here: each is proved to. Nothing is
+ * allocated, nothing is kept between calls, and no byte is read or written beyond the lengths that are given. A pointer may be
+ * NULL where its length is 0. Two lent parts must not overlap, and no other thread may write to them during a call.
+ *
+ * Answers. answer = number + 256 * value. Number 0 is accepted; any other is a refusal (enum bh_refusal below), and after a
+ * refusal the record, the store and every output hold what they held before the call. The value is the refusal's extra value,
+ * or what is said at the function; 0 where nothing is said. bh_number() and bh_value() take an answer apart.
+ */
+#ifndef BRITHELVA_H
+#define BRITHELVA_H
+
+#include <stddef.h>
+#include <stdint.h>
+
+#ifdef __cplusplus
+extern "C" {
+#endif
+
+enum bh_limit {
+    BH_HEADER = 14,           /* bytes of a packet before its payload */
+    BH_CRC = 4,               /* bytes behind it */
+    BH_LARGEST_PAYLOAD = 4077,
+    BH_LARGEST_PACKET = 4095,
+    BH_SMALLEST_PACKET = 19,
+    BH_ROW = 255,             /* bytes of a row: 239 information bytes, then 16 checks */
+    BH_ROW_INFO = 239,
+    BH_ROW_CHECKS = 16,
+    BH_RECORD = 128,          /* bytes of a record; all 0 is a fresh one */
+    BH_PLACES = 8,
+    BH_LARGEST_FILE = 16777216,
+    BH_USABLE_STORE = 16777216, /* only so many bytes of a longer store are used */
+    BH_LARGEST_COUNT = 1048575
+};
+
+enum bh_refusal {
+    BH_ACCEPTED = 0,
+    BH_SHORT = 1,       /* a packet of fewer than 19 bytes; a row call with a wrong length */
+    BH_MARK = 2,        /* the start mark is not 49 59 69 */
+    BH_LENGTH = 3,      /* the length field differs from the length given */
+    BH_TYPE = 4,        /* type 3 */
+    BH_PROTECTION = 5,  /* protection 2 or 3; or 1 with M = 0 */
+    BH_NUMBER = 6,      /* packet number not below the count, or a count that the type does not have */
+    BH_ROWS = 7,        /* protection 1, and the payload is not whole rows */
+    BH_RESOURCE = 8,    /* resource 0 */
+    BH_RECORD_BAD = 9,  /* the record is not 128 bytes, or one of its places is out of range, passes the store or meets another */
+    BH_UNKNOWN = 10,    /* no place holds the resource */
+    BH_OTHER = 11,      /* type, update, count, protection or M differs from the place */
+    BH_WIDE = 12,       /* the payload is longer than the place's slots */
+    BH_REPAIR = 13,     /* a row has no coded row within eight bytes; value: the first such row, 0 for a row alone */
+    BH_CRC_BAD = 14,    /* the CRC differs */
+    BH_SLOT = 15,       /* the store is damaged: a slot's length is out of range */
+    BH_CONFLICT = 16,   /* the slot holds a different payload, which stays */
+    BH_FIELD = 17,      /* an argument is out of its range */
+    BH_HELD = 18,       /* the resource is open already */
+    BH_FULL = 19,       /* all eight places are in use */
+    BH_ROOM = 20,       /* no room for the slots in the store */
+    BH_MISSING = 21,    /* a packet has not come yet; value: the lowest such number */
+    BH_SHAPE = 22,      /* the joined rows are not whole tables */
+    BH_SIZE = 23,       /* the file's length is 0 or above the limit, or is not the one that came */
+    BH_PADDING = 24,    /* a position beyond the file's length is not 0 */
+    BH_COUNT = 25,      /* the file would need more than 1048575 packets */
+    BH_OUTPUT = 26      /* the output is too short */
+};
+
+static inline unsigned bh_number(uint64_t answer) { return (unsigned)(answer & 255); }
+static inline uint64_t bh_value(uint64_t answer) { return answer >> 8; }
+
+/* A place of the record, as its sixteen bytes lie in memory (little-endian). It is unused exactly if its resource is 0. A
+ * program reads it to list what is open; it is changed by bh_open and bh_close alone. */
+struct bh_place {
+    uint16_t resource;
+    uint8_t type;
+    uint8_t update;
+    uint32_t count;
+    uint8_t protection;
+    uint8_t rows;
+    uint16_t slot;
+    uint32_t start;
+};
+
+/* The CRC-32 of n bytes: polynomial 04C11DB7, most significant bit first, all ones at the start, complemented at the end. */
+uint32_t bh_crc32(const uint8_t *bytes, size_t n);
+
+/* The sixteen checks of 239 information bytes, written to the start of `checks`. Bytes behind them stay.
+ * Refusals: 1 where n is not 239; 26 where room is below 16. */
+uint64_t bh_encode_row(const uint8_t *info, size_t n, uint8_t *checks, size_t room);
+
+/* The one coded row that differs from the given 255 bytes in at most eight of them, written to the start of `fixed`.
+ * Refusals: 1 where n is not 255; 13 where there is no such row; 26 where room is below 255. */
+uint64_t bh_repair_row(const uint8_t *row, size_t n, uint8_t *fixed, size_t room);
+
+/* The fields of a packet, as sent: nine numbers, resource, number, update, length, count, type, protection, rows, reserved, written
+ * to the start of `fields`; room counts numbers, not bytes. Types 0, 1 and 2 are read. The CRC is not looked at.
+ * Refusals: 1 to 8, the first that applies; 26 where room is below 9. */
+uint64_t bh_read_fields(const uint8_t *packet, size_t n, uint32_t *fields, size_t room);
+
+/* Writes packet `number` of a file of n bytes to the start of `out`. Value: the packet's length, at most 4095.
+ * resource 1 to 65535; type 1 (file) or 2 (description file); update 0 to 15; protection 0 or 1; rows (M) 1 to 255 with
+ * protection, any without; size (P), the payload of every packet but the last: 1 to 4077, with protection a multiple of 255 up
+ * to 3825. A file has as many packets as its first packet's count field says.
+ * Refusals, the first that applies: 17 an argument out of range; 23 n is 0 or above 16,777,216; 25 more than 1048575 packets;
+ * 6 no packet has this number; 26 the packet does not fit room. */
+uint64_t bh_pack(const uint8_t *file, size_t n, uint16_t resource, uint8_t type, uint8_t update, uint8_t protection,
+                 uint8_t rows, uint16_t size, uint32_t number, uint8_t *out, size_t room);
+
+/* The same at the house setting: protection 1, 32 rows, size 255. */
+uint64_t bh_pack_house(const uint8_t *file, size_t n, uint16_t resource, uint8_t type, uint8_t update, uint32_t number,
+                       uint8_t *out, size_t room);
+
+/* Opens a place in which `count` packets of a resource are collected: the first unused one of the record, its slots at the lowest
+ * start of the store where count * (slot + 2) bytes fit. Writes the place into the record and the length 0 into each slot; no
+ * other byte of the store changes. rn is 128; sn is the store's length. `slot` has the range of bh_pack's size.
+ * Refusals: 9; 17 an argument out of range (count 1 to 1048575); 18; 19; 20. */
+uint64_t bh_open(uint8_t *record, size_t rn, uint8_t *store, size_t sn, uint16_t resource, uint8_t type, uint8_t update,
+                 uint32_t count, uint8_t protection, uint8_t rows, uint16_t slot);
+
+/* The same at the house setting: protection 1, 32 rows, slots of 255. */
+uint64_t bh_open_house(uint8_t *record, size_t rn, uint8_t *store, size_t sn, uint16_t resource, uint8_t type, uint8_t update,
+                       uint32_t count);
+
+/* Offers one packet. With protection each row is repaired first; then the CRC has to agree. Value 0: stored in its slot, payload
+ * first and length last. Value 1: the slot holds these bytes already. The record is only read.
+ * Refusals: 9; 1 to 8 as bh_read_fields; 10 to 16. */
+uint64_t bh_offer(const uint8_t *record, size_t rn, uint8_t *store, size_t sn, const uint8_t *packet, size_t n);
+
+/* How a resource stands. Value: filled + 2^24 * (lowest empty + 1), the number of slots that are filled and the lowest that is
+ * empty; the second part is 0 where none is. bh_filled() and bh_lowest_empty() take it apart.
+ * Refusals: 9; 10; 15. */
+uint64_t bh_status(const uint8_t *record, size_t rn, const uint8_t *store, size_t sn, uint16_t resource);
+
+static inline uint32_t bh_filled(uint64_t answer) { return (uint32_t)(bh_value(answer) & 0xFFFFFF); }
+/* the lowest empty slot, or -1 */
+static inline int32_t bh_lowest_empty(uint64_t answer) { return (int32_t)(bh_value(answer) >> 24) - 1; }
+
+/* Writes the file of a resource, `length` bytes, to the start of `out`; bytes behind them stay.
+ * Refusals: 9; 10; 15; 21 a packet is missing; 22; 23 the length is not the one that came; 24; 26 room is below length. */
+uint64_t bh_hand_out(const uint8_t *record, size_t rn, const uint8_t *store, size_t sn, uint16_t resource, uint64_t length,
+                     uint8_t *out, size_t room);
+
+/* Closes a resource's place: all its fields become 0. The store is only read; its room serves later openings.
+ * Refusals: 9; 10. */
+uint64_t bh_close(uint8_t *record, size_t rn, const uint8_t *store, size_t sn, uint16_t resource);
+
+#ifdef __cplusplus
+}
+#endif
+#endif
