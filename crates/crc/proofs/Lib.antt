@@ -1,0 +1,10 @@
+pub mod Linear
+pub mod Bounds
+pub mod Parts
+pub mod Numbers
+pub mod Entries
+pub mod Walk
+pub mod Steps
+pub mod Constant
+pub mod Cases
+pub mod OneResult

@@ -1,0 +1,25 @@
+-- `crc::one` adds the byte that leaves the register to the byte that comes, and their entries to the register moved up by a byte.
+-- Assumes nothing.
+use borrow.Author.Needs.{needs}
+use Rattle.ground.specs.Bits.{sum}
+use Rattle.crc.proofs.Steps.{one-is}
+use Rattle.crc.proofs.one.Statement.{statement}
+use Rattle.crc.proofs.one.Tie as tie
+
+shared-slice-read-wide : tie.Need-shared-slice-read-wide
+shared-slice-read-wide c = search needs
+
+wide-requires : tie.Need-wide-requires
+wide-requires c κs = search needs
+
+two-requires : tie.Need-two-requires
+two-requires c κs = search needs
+
+returns : tie.Need-returns
+unfolding sum
+returns c =
+    let s = c .before .before .before .before .args in
+    one-is (s .t .now) (s .register) (s .bytes .now) (s .i) (c .before .wide .result) (c .two .result) (search needs) (c .before .wide .ensures) (c .two .ensures)
+
+pub one-spec : {M : Type 1} → statement M
+one-spec = tie.close (tie.spec shared-slice-read-wide wide-requires two-requires returns)
