@@ -1,0 +1,17 @@
+pub mod Words
+pub mod Bytes
+pub mod Turns
+pub mod Constant
+pub mod Feeding
+pub mod Putting
+pub mod Serving
+pub mod Numbers
+pub mod Stores
+pub mod ByExponents
+pub mod Totals
+pub mod Null
+pub mod Shares
+pub mod Locators
+pub mod Solving
+pub mod Mending
+pub mod Answers

@@ -1,0 +1,56 @@
+-- `encode::rows` writes one row behind the other. The invariant: what is left to write makes what the whole makes (`Putting`).
+-- Assumes nothing.
+use Prim.Native.Nat.{_-_}
+use borrow.Author.Needs.{needs}
+use Rattle.rows.proofs.Putting.{Putting, putting-start, putting-more, putting-done}
+use Rattle.rows.proofs.encode.rows.Statement.{statement}
+use Rattle.rows.proofs.encode.rows.Tie as tie
+
+abbrev Inv-loop : tie.InvT-loop
+Inv-loop file m at n t out₀ r₀ out r = Putting file m at n out₀ out r
+
+abbrev μ-loop : tie.MeasureT-loop
+μ-loop file m at n t out₀ r₀ out r = n - r
+
+loop-holds : tie.Need-loop-holds Inv-loop μ-loop
+loop-holds c = putting-start _ _ _ _ _
+
+add-one : tie.Need-add-one Inv-loop μ-loop
+add-one c = search needs
+
+mul-one : tie.Need-mul-one Inv-loop μ-loop
+mul-one c = search needs
+
+one-requires : tie.Need-one-requires Inv-loop μ-loop
+one-requires c κs = search needs
+
+add-r : tie.Need-add-r Inv-loop μ-loop
+add-r c = search needs
+
+loop-less : tie.Need-loop-less Inv-loop μ-loop
+loop-less c = search needs
+
+loop-again : tie.Need-loop-again Inv-loop μ-loop
+loop-again c = putting-more _ _ _ _ _ _ _ _ 1 (search needs) (c .before .before .one .ensures) (c .before .before .before .before .before .loop .inv)
+
+same-length : tie.Need-same-length Inv-loop μ-loop
+same-length c = search needs
+
+returns : tie.Need-returns Inv-loop μ-loop
+returns c = putting-done _ _ _ _ _ _ _ (search needs) (c .before .loop .inv)
+
+pub rows-spec : {M : Type 1} → statement M
+rows-spec =
+    tie.close
+    (tie.spec
+    Inv-loop
+    μ-loop
+    loop-holds
+    add-one
+    mul-one
+    one-requires
+    add-r
+    loop-less
+    loop-again
+    same-length
+    returns)

@@ -1,0 +1,30 @@
+-- The register that divides by the generator, in two words, and the table by which eight bytes go in at once (document 01, section 3): vocabulary of the contracts of
+-- private functions, which nobody needs to believe. Assumes nothing.
+use mathlib.Core.Path.{_≡_}
+use mathlib.Core.List.{List, [], _∷_, _++_}
+use Prim.Native.Nat.{ℕ, zero, suc, _+_, _*_, _/_, _%_, _^_, _<_}
+use lib.ListN.{length, getD, replicate}
+use Rattle.ground.specs.Lists.{listed}
+use Rattle.code.specs.Register.{run}
+
+-- n bytes of d, from byte i on
+abbrev pub part : List ℕ → ℕ → ℕ → List ℕ
+part d i n = listed (λ k. getD d k 0) n i
+
+-- the low k bytes of w, the top one first
+unfoldable pub unpack : ℕ → ℕ → List ℕ
+unpack zero w = []
+unpack (suc k) w = w / 2 ^ (k * 8) % 256 ∷ unpack k w
+
+-- the sixteen bytes of two words
+unfoldable pub both : ℕ → ℕ → List ℕ
+both h l = unpack 8 h ++ unpack 8 l
+
+-- what the register holds after the eight bytes of a word, from nothing
+unfoldable pub through : ℕ → List ℕ
+through w = run (replicate 16 0) (unpack 8 w)
+
+-- the table: two words for each half byte v at each of sixteen places, the lowest place first
+pub record Halves (t : List ℕ) : Type 0 where
+  pub room : length t ≡ 512
+  pub entry : (k v : ℕ) → k < 16 → v < 16 → both (getD t (32 * k + 2 * v) 0) (getD t (32 * k + 2 * v + 1) 0) ≡ through (v * 2 ^ (k * 4))

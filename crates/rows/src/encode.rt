@@ -1,0 +1,73 @@
+// Rows of a table, taken out of a file and encoded (document 01, section 3).
+ghost use mathlib.Core.Path.{_≡_};
+ghost use Prim.Native.Nat.{_+_, _*_, _≤_};
+ghost use lib.ListN.{length, getD};
+ghost use lib.Seq.{sets};
+ghost use Rattle.rows.specs.Put.{infoFrom, rowsFrom, putServes};
+ghost use Rattle.rows.specs.InnerRegister.{Halves};
+use crate::register;
+
+// Whether `put_rows` serves.
+pub(crate) fn serves(len: usize, m: usize, at: usize, n: usize, room: usize) -> bool
+    ensures { λ r. ⌜ r ≡ putServes len m at n room ⌝ }
+{
+    if m == 0 {
+        return false;
+    }
+    if 255 < m {
+        return false;
+    }
+    if 15 < n {
+        return false;
+    }
+    if 16777216 < at {
+        return false;
+    }
+    if 16777216 < len {
+        return false;
+    }
+    n * 255 <= room
+}
+
+// Byte i of the file, 0 beyond it.
+fn byte(file: &[u8], i: usize) -> u8
+    ensures { λ r. ⌜ r ≡ getD (now (file .entry)) i 0 ⌝ }
+{
+    if i < file.len() { file[i] } else { 0 }
+}
+
+// Writes the information bytes of the row that starts at byte `at` of the file.
+fn gather(file: &[u8], m: usize, at: usize, out: &mut [u8], o: usize)
+    requires { ⌜ (m ≤ 255) × (at ≤ 16777231) × (o + 239 ≤ length (now out)) ⌝ }
+    ensures { λ r. ⌜ now (out .exit) ≡ sets (now (out .entry)) o (infoFrom (now (file .entry)) m at) ⌝ }
+{
+    let mut i = at;
+    let mut c: usize = 0;
+    while c < 239 {
+        out[o + c] = byte(file, i);
+        i += m;
+        c += 1;
+    }
+}
+
+// Writes the row that starts at byte `at` of the file.
+fn one(file: &[u8], m: usize, at: usize, t: &[u64; 512], out: &mut [u8], o: usize)
+    requires { ⌜ (m ≤ 255) × (at ≤ 16777231) × Halves (now t) × (o + 255 ≤ length (now out)) ⌝ }
+    ensures { λ r. ⌜ now (out .exit) ≡ sets (now (out .entry)) o (rowsFrom (now (file .entry)) m at 1) ⌝ }
+{
+    gather(file, m, at, out, o);
+    let q = register::checks(out, o, t);
+    register::put(out, o + 239, q);
+}
+
+// Writes the n rows from byte `at` of the file on to the start of `out`.
+pub(crate) fn rows(file: &[u8], m: usize, at: usize, n: usize, t: &[u64; 512], out: &mut [u8])
+    requires { ⌜ (m ≤ 255) × (n ≤ 15) × (at ≤ 16777216) × Halves (now t) × (n * 255 ≤ length (now out)) ⌝ }
+    ensures { λ r. ⌜ now (out .exit) ≡ sets (now (out .entry)) 0 (rowsFrom (now (file .entry)) m at n) ⌝ }
+{
+    let mut r: usize = 0;
+    while r < n {
+        one(file, m, at + r, t, out, r * 255);
+        r += 1;
+    }
+}
