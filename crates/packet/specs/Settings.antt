@@ -1,6 +1,6 @@
 -- The settings of a file: document 01, sections 2 and 4, and the house setting, which stands here alone.
 -- Assumes nothing.
-use mathlib.Core.Bool.{Bool, true, false, cond, _&&_, _||_}
+use mathlib.Core.Bool.{Bool, cond, _&&_, _||_}
 use Prim.Native.Nat.{ℕ, _%_}
 use lib.Dec.{eqb, leb}
 use Rattle.packet.specs.declared.Settings.{Settings}

@@ -1,4 +1,9 @@
 // The packet of document 01, section 2: its fields, read and written; and the settings under which a file is packed and collected.
+ghost use mathlib.Core.Path.{_≡_};
+ghost use Prim.Native.Nat.{_+_, _*_, _/_, _%_, _≤_};
+ghost use lib.ListN.{length};
+ghost use Rattle.packet.specs.Packet.{fieldsIn, marked, badProtection, badNumber, badRows, judged, readOf, headerOf};
+ghost use Rattle.packet.specs.Settings.{sizeFits, settingsFit, rowsHeld, house as houseOf};
 use refusals::Refusal;
 
 // A packet's fields, as sent. `kind` is document 01's type: 0 stream, 1 file, 2 description file.
@@ -37,4 +42,212 @@ pub struct Settings {
     pub protection: u8,
     pub rows: u8,
     pub size: u16,
+}
+
+// Whether the start mark stands at the front.
+fn marked(packet: &[u8]) -> bool
+    requires { ⌜ 14 ≤ length (now packet) ⌝ }
+    ensures { λ r. ⌜ r ≡ marked (now (packet .entry)) ⌝ }
+{
+    if packet[0] != 0x49 {
+        return false;
+    }
+    packet[1] == 0x59 && packet[2] == 0x69
+}
+
+// The sixteen bits of the resource: bytes 3 and 4.
+fn resource_in(high: u8, low: u8) -> u16
+    ensures { λ r. ⌜ r ≡ high * 256 + low ⌝ }
+{
+    high as u16 * 256 + low as u16
+}
+
+// The twenty bits of the packet number: bytes 5 and 6 and the high half of byte 7.
+fn number_in(high: u8, middle: u8, low: u8) -> u32
+    ensures { λ r. ⌜ r ≡ high * 4096 + middle * 16 + low / 16 ⌝ }
+{
+    high as u32 * 4096 + middle as u32 * 16 + low as u32 / 16
+}
+
+// The twelve bits of the packet length: byte 8 and the high half of byte 9.
+fn length_in(high: u8, low: u8) -> u16
+    ensures { λ r. ⌜ r ≡ high * 16 + low / 16 ⌝ }
+{
+    high as u16 * 16 + low as u16 / 16
+}
+
+// The twenty bits of the packet count: the low half of byte 9 and bytes 10 and 11.
+fn count_in(high: u8, middle: u8, low: u8) -> u32
+    ensures { λ r. ⌜ r ≡ high % 16 * 65536 + middle * 256 + low ⌝ }
+{
+    high as u32 % 16 * 65536 + middle as u32 * 256 + low as u32
+}
+
+// The eight bits of the rows: the low half of byte 12 and the high half of byte 13.
+fn rows_in(high: u8, low: u8) -> u8
+    ensures { λ r. ⌜ r ≡ high % 16 * 16 + low / 16 ⌝ }
+{
+    high % 16 * 16 + low / 16
+}
+
+// The nine fields of a header, as sent.
+fn fields_in(packet: &[u8]) -> Packet
+    requires { ⌜ 14 ≤ length (now packet) ⌝ }
+    ensures { λ r. ⌜ r ≡ fieldsIn (now (packet .entry)) ⌝ }
+{
+    Packet {
+        resource: resource_in(packet[3], packet[4]),
+        number: number_in(packet[5], packet[6], packet[7]),
+        update: packet[7] % 16,
+        length: length_in(packet[8], packet[9]),
+        count: count_in(packet[9], packet[10], packet[11]),
+        kind: packet[12] / 64,
+        protection: packet[12] / 16 % 4,
+        rows: rows_in(packet[12], packet[13]),
+        reserved: packet[13] % 16,
+    }
+}
+
+// Refusal 5: protection 2 or 3, or 1 with M = 0.
+fn bad_protection(fields: Packet) -> bool
+    ensures { λ r. ⌜ r ≡ badProtection fields ⌝ }
+{
+    1 < fields.protection || fields.protection == 1 && fields.rows == 0
+}
+
+// Refusal 6: of a stream a count that is not 0, or number 1048575; of a file a number that is not below the count.
+fn bad_number(fields: Packet) -> bool
+    ensures { λ r. ⌜ r ≡ badNumber fields ⌝ }
+{
+    if fields.kind == 0 {
+        return fields.count != 0 || fields.number == 1048575;
+    }
+    fields.count <= fields.number
+}
+
+// Refusal 7: with protection, the payload of a packet of n bytes is not whole rows.
+fn bad_rows(fields: Packet, n: usize) -> bool
+    requires { ⌜ 19 ≤ n ⌝ }
+    ensures { λ r. ⌜ r ≡ badRows fields n ⌝ }
+{
+    fields.protection == 1 && (n - (Packet::HEADER + Packet::CRC)) % 255 != 0
+}
+
+// The fields of a packet of n bytes, or the first of the refusals 4 to 8.
+fn judge(fields: Packet, n: usize) -> Reading
+    requires { ⌜ 19 ≤ n ⌝ }
+    ensures { λ r. ⌜ r ≡ judged fields n ⌝ }
+{
+    if fields.kind == 3 {
+        return Reading::Refused(Refusal::Type);
+    }
+    if bad_protection(fields) {
+        return Reading::Refused(Refusal::Protection);
+    }
+    if bad_number(fields) {
+        return Reading::Refused(Refusal::Number);
+    }
+    if bad_rows(fields, n) {
+        return Reading::Refused(Refusal::Rows);
+    }
+    if fields.resource == 0 {
+        return Reading::Refused(Refusal::Resource);
+    }
+    Reading::Sent(fields)
+}
+
+// The fields of a packet as sent, or the first of the refusals 1 to 8. The payload and the CRC are not looked at.
+pub fn read_fields(packet: &[u8]) -> Reading
+    ensures { λ r. ⌜ r ≡ readOf (now (packet .entry)) ⌝ }
+{
+    if packet.len() < Packet::HEADER + 1 + Packet::CRC {
+        return Reading::Refused(Refusal::Short);
+    }
+    if !marked(packet) {
+        return Reading::Refused(Refusal::Mark);
+    }
+    let fields = fields_in(packet);
+    if fields.length as usize != packet.len() {
+        return Reading::Refused(Refusal::Length);
+    }
+    judge(fields, packet.len())
+}
+
+// The fourteen bytes before a payload. Of a field that is too wide for the header its low bits are written.
+pub fn header(packet: Packet) -> [u8; Packet::HEADER]
+    ensures { λ r. ⌜ r ≡ headerOf packet ⌝ }
+{
+    [
+        0x49,
+        0x59,
+        0x69,
+        (packet.resource / 256) as u8,
+        (packet.resource % 256) as u8,
+        (packet.number / 4096 % 256) as u8,
+        (packet.number / 16 % 256) as u8,
+        (packet.number % 16) as u8 * 16 + packet.update % 16,
+        (packet.length / 16 % 256) as u8,
+        (packet.length % 16) as u8 * 16 + (packet.count / 65536 % 16) as u8,
+        (packet.count / 256 % 256) as u8,
+        (packet.count % 256) as u8,
+        packet.kind % 4 * 64 + packet.protection % 4 * 16 + packet.rows / 16,
+        packet.rows % 16 * 16 + packet.reserved % 16,
+    ]
+}
+
+// Whether payloads and slots may have this size. A protection other than 0 asks for whole rows.
+pub fn size_fits(protection: u8, size: u16) -> bool
+    ensures { λ r. ⌜ r ≡ sizeFits protection size ⌝ }
+{
+    if protection == 0 {
+        return 1 <= size && size as usize <= Packet::LARGEST;
+    }
+    if size % 255 != 0 {
+        return false;
+    }
+    255 <= size && size <= 3825
+}
+
+// Whether every setting is within its range, type 0 being outside. Without protection any M is taken.
+pub fn settings_fit(settings: Settings) -> bool
+    ensures { λ r. ⌜ r ≡ settingsFit settings ⌝ }
+{
+    if settings.resource == 0 {
+        return false;
+    }
+    if settings.kind == 0 || 2 < settings.kind {
+        return false;
+    }
+    if 15 < settings.update || 1 < settings.protection {
+        return false;
+    }
+    if settings.protection == 1 && settings.rows == 0 {
+        return false;
+    }
+    size_fits(settings.protection, settings.size)
+}
+
+// M as it is written and held: 0 without protection.
+pub fn rows_held(settings: Settings) -> u8
+    ensures { λ r. ⌜ r ≡ rowsHeld settings ⌝ }
+{
+    if settings.protection == 0 {
+        0
+    } else {
+        settings.rows
+    }
+}
+
+// The house setting, for a packing or an opening call that names none.
+pub fn house(resource: u16, kind: u8, update: u8) -> Settings
+    ensures { λ r. ⌜ r ≡ houseOf resource kind update ⌝ }
+{
+    Settings {
+        resource,
+        kind,
+        update,
+        protection: 1,
+        rows: 32,
+        size: 255,
+    }
 }

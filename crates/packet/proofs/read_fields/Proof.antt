@@ -1,0 +1,71 @@
+-- `packet::read_fields` meets its contract: it asks for length, mark and length field in the definition's order, and the rest is `judge`.
+-- Assumes nothing.
+use mathlib.Core.Path.{sym, ap, _∙_}
+use mathlib.Core.Bool.{not}
+use borrow.Author.Needs.{needs}
+use borrow.Author.Tests.{lt-ltb, le-ltb, eq-eqb, ne-eqb}
+use Rattle.packet.specs.Packet.{readOf}
+use Rattle.packet.proofs.read_fields.Statement.{statement}
+use Rattle.packet.proofs.read_fields.Tie as tie
+
+add-if1 : tie.Need-add-if1
+add-if1 c = search needs
+
+add-if1-2 : tie.Need-add-if1-2
+add-if1-2 c = search needs
+
+returns : tie.Need-returns
+unfolding readOf
+returns c = rw (lt-ltb _ _ (c .if1 .taken))
+
+marked-requires : tie.Need-marked-requires
+marked-requires c κs = search needs
+
+returns-2 : tie.Need-returns-2
+unfolding readOf
+returns-2 c = rw (le-ltb _ _ (c .before .before .if1 .left), sym (ap not (c .before .marked .ensures)) ∙ c .if2 .taken)
+
+fields-in-requires : tie.Need-fields-in-requires
+fields-in-requires c κs = search needs
+
+cast-if3 : tie.Need-cast-if3
+cast-if3 c = search needs
+
+returns-3 : tie.Need-returns-3
+unfolding readOf
+returns-3 c =
+    rw (
+      le-ltb _ _ (c .before .before .before .before .before .if1 .left),
+      sym (ap not (c .before .before .before .before .marked .ensures)) ∙ c .before .before .before .if2 .left,
+      ← c .before .before .fields-in .ensures,
+      ne-eqb _ _ (c .if3 .taken),
+    )
+
+judge-requires : tie.Need-judge-requires
+judge-requires c κs = search needs
+
+returns-4 : tie.Need-returns-4
+unfolding readOf
+returns-4 c =
+    rw (
+      le-ltb _ _ (c .before .before .before .before .before .before .if1 .left),
+      sym (ap not (c .before .before .before .before .before .marked .ensures)) ∙ c .before .before .before .before .if2 .left,
+      ← c .before .before .before .fields-in .ensures,
+      eq-eqb _ _ (c .before .if3 .left),
+    )
+    (c .judge .ensures)
+
+pub read-fields-spec : {M : Type 1} → statement M
+read-fields-spec =
+    tie.close
+    (tie.spec
+    add-if1
+    add-if1-2
+    returns
+    marked-requires
+    returns-2
+    fields-in-requires
+    cast-if3
+    returns-3
+    judge-requires
+    returns-4)

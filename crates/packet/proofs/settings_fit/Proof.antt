@@ -1,0 +1,49 @@
+-- `packet::settings_fit` meets its contract: where it stops, a fact that fitting settings have does not hold, and at the end only
+-- the size is left to judge.
+-- Assumes nothing.
+use mathlib.Core.Path.{_≡_, sym, _∙_}
+use mathlib.Core.Logic.{⊎-elim}
+use Prim.Native.Nat.{_<_}
+use native.Mathlib.Omega.{arith}
+use borrow.Author.Needs.{needs}
+use borrow.Author.Tests.{ltb-true, eqb-true, eqb-false}
+use Rattle.packet.proofs.Laws.{settings-unfit, settings-by-size}
+use Rattle.packet.proofs.settings_fit.Statement.{statement}
+use Rattle.packet.proofs.settings_fit.Tie as tie
+
+returns : tie.Need-returns
+returns c = sym (settings-unfit _ (λ s. omega arith))
+
+returns-2 : tie.Need-returns-2
+returns-2 c = sym (settings-unfit _ (λ s. ⊎-elim (λ w. omega arith) (λ w. omega (arith, ltb-true)) (c .if2 .came)))
+
+returns-3 : tie.Need-returns-3
+returns-3 c = sym (settings-unfit _ (λ s. ⊎-elim (λ w. omega arith) (λ w. omega (arith, ltb-true)) (c .if4 .came)))
+
+returns-4 : tie.Need-returns-4
+returns-4 c = sym (settings-unfit _ (λ s. let m = s .rows (search needs) in omega (arith, eqb-true)))
+
+size-fits-requires : tie.Need-size-fits-requires
+size-fits-requires c κs = search needs
+
+returns-5 : tie.Need-returns-5
+returns-5 c =
+    let g = c .before .before .before .before .before .before .before .before .before .before .before .before .before .args .settings in
+    let rows : g .protection ≡ 1 → 0 < g .rows =
+    λ o. ⊎-elim (λ w. omega (arith, eqb-false (g .rows) 0 (w .2 .left))) (λ w. absurd (w .left o)) (c .before .if6 .came) in
+    c .size-fits .ensures
+    ∙ sym (settings-by-size g (λ s. record {
+      resource = search needs;
+      resource-most = search needs;
+      kind = search needs;
+      kind-most = search needs;
+      update = search needs;
+      protection = search needs;
+      rows = rows;
+      rows-most = λ o. search needs;
+      size = s;
+    }))
+
+pub settings-fit-spec : {M : Type 1} → statement M
+settings-fit-spec =
+    tie.close (tie.spec returns returns-2 returns-3 returns-4 size-fits-requires returns-5)
