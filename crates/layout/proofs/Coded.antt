@@ -1,14 +1,15 @@
 -- The coded file: its length, its rows, that each is a coded row, and that undoing the tables gives the file followed by zeros. The last is said of any
 -- position rule of what is sent. Assumes nothing.
-use mathlib.Core.Path.{_≡_, sym, ap, _∙_}
+use mathlib.Core.Path.{_≡_, sym, ap, ap₂, _∙_}
 use mathlib.Core.List.{List, _++_, flatten}
 use Prim.Native.Nat.{ℕ, _+_, _-_, _*_, _/_, _%_, _<_, _≤_}
 use native.Mathlib.Nat.{mul-assoc, mul-comm, mul-pos, mod-lt, div-add-mod', zero-lt-suc}
 use native.Mathlib.Omega.{arith}
 use mathlib.Core.Logic.{⊎-elim}
+use lib.Arith.{digits-div, digits-mod}
 use lib.ListN.{length, getD, take, drop, replicate, length-append, List·getD-append, List·getD-eq-default}
 use Rattle.ground.specs.Lists.{listed}
-use Rattle.ground.proofs.Listed.{length-listed, getD-listed-0, slice-listed, listed-same, listed-ext, listed-whole, listed-padded, listed-constant, joined-all, ceil-upper, le-or-lt}
+use Rattle.ground.proofs.Listed.{length-listed, getD-listed-0, slice-listed, listed-same, listed-ext, listed-whole, listed-padded, listed-constant, joined-pieces, joined-all, ceil-upper, le-or-lt}
 use Rattle.code.specs.Code.{Bytes, Coded}
 use Rattle.code.specs.Repair.{checksOf}
 use Rattle.code.proofs.Lists.{bytes-of, bytes-at}
@@ -52,11 +53,34 @@ pub row-coded : (m : ℕ) (file : List ℕ) (t r : ℕ) → Bytes file → Coded
 unfolding rowOf
 row-coded m file t r b = checks-exact (infoOf m file t r) (length-info m file t r) (info-bytes m file t r b) .coded
 
+-- rows of one table start at file bytes that follow each other: row i behind row r
+pub info-from : (m : ℕ) (file : List ℕ) (t r i : ℕ) → infoOf m file t (r + i) ≡ listed (λ c. getD file (t * (239 * m) + r + i + c * m) 0) 239 0
+unfolding infoOf
+info-from m file t r i =
+    listed-ext (λ c. getD file (fileByteAt m (record { table = t; row = r + i; column = c })) 0) (λ c. getD file (t * (239 * m) + r + i + c * m) 0) 239 0
+    (λ c a b. let e : t * (239 * m) + c * m + (r + i) ≡ t * (239 * m) + r + i + c * m = omega arith in ap (λ (x : ℕ). getD file x 0) e)
+
 -- ---- all rows
 
 pub length-coded : (m : ℕ) (file : List ℕ) → length (codedFile m file) ≡ 255 * m * tablesOf m (length file)
 unfolding codedFile
 length-coded m file = length-listed (λ j. codedAt m file (sentSpot m j)) (255 * m * tablesOf m (length file)) 0
+
+pub coded-bytes : (m : ℕ) (file : List ℕ) → Bytes file → Bytes (codedFile m file)
+unfolding codedFile
+coded-bytes m file b =
+    let n : ℕ = 255 * m * tablesOf m (length file) in
+    bytes-of (codedFile m file)
+    (λ j. ⊎-elim
+    (λ (l : n ≤ j). omega (arith, List·getD-eq-default (codedFile m file) 0 {n = j} (omega (arith, length-coded m file))))
+    (λ (l : j < n).
+    let s : Spot = sentSpot m j in
+    omega (
+      arith,
+      getD-listed-0 (λ j. codedAt m file (sentSpot m j)) n j 0 l,
+      bytes-at (rowOf m file (s .table) (s .row)) (row-coded m file (s .table) (s .row) b .bytes) (s .column),
+    ))
+    (le-or-lt n j))
 
 module _ (m : ℕ) (h : 0 < m) (file : List ℕ) where
   -- byte c of row q
@@ -80,6 +104,21 @@ module _ (m : ℕ) (h : 0 < m) (file : List ℕ) where
       let z : c ≡ 0 + c = omega arith in
       ap (λ (x : ℕ). codedAt m file (sentSpot m x)) e ∙ ap (codedAt m file) (spot-at q c k) ∙ ap (λ (x : ℕ). getD row x 0) z)
       ∙ ap (λ (x : ℕ). listed (λ c. getD row c 0) x 0) (sym n) ∙ listed-whole row 0
+
+  -- the rows behind row q, as long as they lie in its table
+  pub row-behind : (q i : ℕ) → q % m + i < m → rowOf m file ((q + i) / m) ((q + i) % m) ≡ rowOf m file (q / m) (q % m + i)
+  row-behind q i l =
+      let e : q + i ≡ q / m * m + (q % m + i) = omega (arith, div-add-mod' q m) in
+      ap₂ (rowOf m file) (ap (λ (x : ℕ). x / m) e ∙ digits-div (q / m) l) (ap (λ (x : ℕ). x % m) e ∙ digits-mod (q / m) l)
+
+  -- k rows of it, from row q on
+  pub coded-rows : (q k : ℕ) → q + k ≤ m * tablesOf m (length file)
+      → take (k * 255) (drop (q * 255) (codedFile m file)) ≡ flatten (listed (λ i. rowOf m file (i / m) (i % m)) k q)
+  coded-rows q k l =
+      sym
+      (ap flatten
+      (listed-ext (λ i. rowOf m file (i / m) (i % m)) (λ i. take 255 (drop (i * 255) (codedFile m file))) k q (λ i a b. sym (coded-row i (omega arith))))
+      ∙ joined-pieces (codedFile m file) 255 k q)
 
   -- its rows joined
   pub coded-joined : flatten (listed (λ q. rowOf m file (q / m) (q % m)) (m * tablesOf m (length file)) 0) ≡ codedFile m file

@@ -1,1 +1,3 @@
 pub mod Pack
+pub mod Inner
+pub mod Cases

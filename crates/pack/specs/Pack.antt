@@ -1,14 +1,16 @@
 -- Packing: document 01, section 4, and the refusals 17, 23, 25, 6, 26 in that order (section 6).
 -- Assumes nothing.
-use mathlib.Core.Bool.{Bool, true, false, cond, not, _||_}
+use mathlib.Core.Path.{_≡_}
+use mathlib.Core.Bool.{cond, not, _||_}
 use mathlib.Core.List.{List, [], _∷_, _++_}
-use Prim.Native.Nat.{ℕ, _+_, _-_, _*_, _/_, _%_}
+use Prim.Native.Nat.{ℕ, _+_, _*_, _/_, _%_}
 use lib.Dec.{eqb, leb, ltb}
 use lib.ListN.{length, take, drop}
 use Rattle.ground.specs.Lists.{ceil}
 use Rattle.crc.specs.Crc.{crc32Of}
 use Rattle.refusals.specs.declared.Refusal.{Refusal}
 use Rattle.refusals.specs.declared.Refusal.the-variants.{Number, Field, Size, Count, Output}
+use Rattle.packet.specs.declared.Packet.{Packet}
 use Rattle.packet.specs.declared.Settings.{Settings}
 use Rattle.packet.specs.Packet.{headerOf}
 use Rattle.packet.specs.Settings.{settingsFit, rowsHeld}
@@ -44,9 +46,9 @@ fourBytes v = (v / 16777216 % 256) ∷ (v / 65536 % 256) ∷ (v / 256 % 256) ∷
 unfoldable pub sealed : List ℕ → List ℕ
 sealed b = b ++ fourBytes (crc32Of b)
 
--- the header of packet n, before a payload of k bytes
-unfoldable pub headerFor : Settings → ℕ → ℕ → ℕ → List ℕ
-headerFor g count n k = headerOf (record {
+-- the fields of packet n, with a payload of k bytes
+abbrev pub fieldsFor : Settings → ℕ → ℕ → ℕ → Packet
+fieldsFor g count n k = record {
   resource = g .resource;
   number = n;
   update = g .update;
@@ -56,7 +58,11 @@ headerFor g count n k = headerOf (record {
   protection = g .protection;
   rows = rowsHeld g;
   reserved = 0;
-})
+}
+
+-- its header
+unfoldable pub headerFor : Settings → ℕ → ℕ → ℕ → List ℕ
+headerFor g count n k = headerOf (fieldsFor g count n k)
 
 -- packet n of a file
 unfoldable pub packetOf : Settings → List ℕ → ℕ → List ℕ
@@ -83,3 +89,8 @@ packOf file g n out =
     (cond (eqb (length file) 0 || ltb largestFile (length file)) (refusing Size out)
     (cond (ltb 1048575 (countOf g (length file))) (refusing Count out)
     (cond (leb (countOf g (length file)) n) (refusing Number out) (written (packetOf g file n) out))))
+
+-- a call answered, and left the output, as p says
+pub record Packs (p : Packing) (r : Packed) (out : List ℕ) : Type 0 where
+  pub answer : r ≡ p .answer
+  pub output : out ≡ p .output

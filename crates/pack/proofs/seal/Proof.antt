@@ -1,0 +1,90 @@
+-- `pack::seal` meets its contract: four stores that follow each other are one run of stores, and what they store are the four bytes of what `crc32` gives.
+-- Assumes nothing.
+use mathlib.Core.Path.{_≡_, sym, ap, _∙_}
+use mathlib.Core.List.{List, [], _∷_}
+use Prim.Native.Nat.{ℕ, suc, _+_}
+use native.Mathlib.Omega.{arith}
+use borrow.Author.Needs.{needs}
+use lib.ListN.{set, length-set}
+use lib.Seq.{sets, length-take-le}
+use Rattle.pack.specs.Pack.{fourBytes}
+use Rattle.pack.proofs.seal.Statement.{statement}
+use Rattle.pack.proofs.seal.Tie as tie
+
+four-sets : (l : List ℕ) (n a b c d : ℕ) → set (set (set (set l n a) (n + 1) b) (n + 2) c) (n + 3) d ≡ sets l n (a ∷ b ∷ c ∷ d ∷ [])
+four-sets l n a b c d =
+    let e : n + 1 ≡ suc n = omega arith in
+    let f : n + 2 ≡ suc (suc n) = omega arith in
+    let g : n + 3 ≡ suc (suc (suc n)) = omega arith in
+    rw (e, f, g)
+
+slice-reshare-prefix-crc32 : tie.Need-slice-reshare-prefix-crc32
+slice-reshare-prefix-crc32 c = search needs
+
+slice-aggregate-crc32 : tie.Need-slice-aggregate-crc32
+slice-aggregate-crc32 c = sym (length-take-le (c .before .before .args .n) (c .before .before .args .out .now) (search needs))
+
+crc32-requires : tie.Need-crc32-requires
+crc32-requires c κs = search needs
+
+cast-out : tie.Need-cast-out
+cast-out c = search needs
+
+slice-write-out : tie.Need-slice-write-out
+slice-write-out c = search needs
+
+cast-out-2 : tie.Need-cast-out-2
+cast-out-2 c = search needs
+
+add-out : tie.Need-add-out
+add-out c = search needs
+
+slice-write-out-2 : tie.Need-slice-write-out-2
+slice-write-out-2 c = simp length-set (search needs)
+
+cast-out-3 : tie.Need-cast-out-3
+cast-out-3 c = search needs
+
+add-out-2 : tie.Need-add-out-2
+add-out-2 c = search needs
+
+slice-write-out-3 : tie.Need-slice-write-out-3
+slice-write-out-3 c = simp length-set (search needs)
+
+cast-out-4 : tie.Need-cast-out-4
+cast-out-4 c = search needs
+
+add-out-3 : tie.Need-add-out-3
+add-out-3 c = search needs
+
+slice-write-out-4 : tie.Need-slice-write-out-4
+slice-write-out-4 c = simp length-set (search needs)
+
+same-length : tie.Need-same-length
+same-length c = search needs
+
+returns : tie.Need-returns
+returns c =
+    let a = c .before .before .before .args in
+    four-sets (a .out .now) (a .n) _ _ _ _ ∙ ap (λ (v : ℕ). sets (a .out .now) (a .n) (fourBytes v)) (c .crc32 .ensures)
+
+pub seal-spec : {M : Type 1} → statement M
+seal-spec =
+    tie.close
+    (tie.spec
+    slice-reshare-prefix-crc32
+    slice-aggregate-crc32
+    crc32-requires
+    cast-out
+    slice-write-out
+    cast-out-2
+    add-out
+    slice-write-out-2
+    cast-out-3
+    add-out-2
+    slice-write-out-3
+    cast-out-4
+    add-out-3
+    slice-write-out-4
+    same-length
+    returns)
