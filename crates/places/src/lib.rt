@@ -1,5 +1,12 @@
-// The record of eight places, and where the bytes of each stand in the store: document 01, section 5.
+// The record of eight places, and where the bytes of each stand in the store: document 01, section 5; when refusal 9 is given: section 6.
+// A record is judged by `is_good` before anything else is asked of it; every other call here answers for any record.
+ghost use mathlib.Core.Path.{_≡_};
+ghost use Rattle.places.specs.Places.{freshRecord, coverOf, placeOf, countFits, good, placeNamed, firstUnused};
+ghost use Rattle.places.specs.Room.{lowestStart};
 use packet::Settings;
+
+mod ranges;
+mod room;
 
 // A place in use holds what a file is collected under and where its slots start. It is in use exactly if its resource is not 0.
 pub struct Place {
@@ -21,4 +28,140 @@ pub struct Record {
 pub enum Found {
     At(usize),
     Nothing,
+}
+
+// A record whose places are all unused.
+pub fn fresh() -> Record
+    ensures { λ r. ⌜ r ≡ freshRecord ⌝ }
+{
+    let unused = Place {
+        resource: 0,
+        kind: 0,
+        update: 0,
+        count: 0,
+        protection: 0,
+        rows: 0,
+        slot: 0,
+        start: 0,
+    };
+    Record {
+        places: [unused; 8],
+    }
+}
+
+// The place that holds a resource. None holds 0.
+pub fn find_place(held: Record, resource: u16) -> Found
+    ensures { λ r. ⌜ r ≡ placeNamed (held .places) resource ⌝ }
+{
+    if resource == 0 {
+        return Found::Nothing;
+    }
+    let mut i: usize = 0;
+    while i < 8 {
+        if held.places[i].resource == resource {
+            return Found::At(i);
+        }
+        i += 1;
+    }
+    Found::Nothing
+}
+
+// The first unused place.
+pub fn find_unused(held: Record) -> Found
+    ensures { λ r. ⌜ r ≡ firstUnused (held .places) ⌝ }
+{
+    let mut i: usize = 0;
+    while i < 8 {
+        if held.places[i].resource == 0 {
+            return Found::At(i);
+        }
+        i += 1;
+    }
+    Found::Nothing
+}
+
+// The bytes that `count` slots for `size` bytes cover.
+pub fn cover_of(count: u32, size: u16) -> usize
+    ensures { λ r. ⌜ r ≡ coverOf count size ⌝ }
+{
+    count as usize * (size as usize + 2)
+}
+
+// Whether a file may have this many packets.
+pub fn count_fits(count: u32) -> bool
+    ensures { λ r. ⌜ r ≡ countFits count ⌝ }
+{
+    1 <= count && count <= 1048575
+}
+
+// The place that settings, a count and a start ask for. Without protection M is held as 0.
+pub fn place_of(settings: Settings, count: u32, start: u32) -> Place
+    ensures { λ r. ⌜ r ≡ placeOf settings count start ⌝ }
+{
+    Place {
+        resource: settings.resource,
+        kind: settings.kind,
+        update: settings.update,
+        count: count,
+        protection: settings.protection,
+        rows: packet::rows_held(settings),
+        slot: settings.size,
+        start: start,
+    }
+}
+
+// Whether the record is good for a store of `n` bytes: refusal 9 is given exactly if it is not.
+pub fn is_good(held: Record, n: usize) -> bool
+    ensures { λ r. ⌜ r ≡ good n (held .places) ⌝ }
+{
+    let mut i: usize = 0;
+    while i < 8 {
+        let p = held.places[i];
+        i += 1;
+        if p.resource != 0 {
+            if !ranges::is_sound(n, p) {
+                return false;
+            }
+            // A second loop here, since a function of its own would be handed a copy of the record.
+            let mut j = i;
+            while j < 8 {
+                let q = held.places[j];
+                if !ranges::do_agree(p, q) {
+                    return false;
+                }
+                j += 1;
+            }
+        }
+    }
+    true
+}
+
+// The lowest start at which `size` bytes fit a store of `n` bytes and meet no place. It is 0 or the end of a place in use: a byte
+// lower they would meet that place.
+pub fn lowest_start(held: Record, n: usize, size: usize) -> Found
+    ensures { λ r. ⌜ r ≡ lowestStart n size (held .places) ⌝ }
+{
+    let end = ranges::usable(n);
+    if room::is_free(held, end, size, 0) {
+        return Found::At(0);
+    }
+    let mut best = end + 1;
+    let mut i: usize = 0;
+    while i < 8 {
+        let p = held.places[i];
+        if p.resource != 0 {
+            let start = ranges::end_of(p);
+            if start < best {
+                if room::is_free(held, end, size, start) {
+                    best = start;
+                }
+            }
+        }
+        i += 1;
+    }
+    if best <= end {
+        Found::At(best)
+    } else {
+        Found::Nothing
+    }
 }

@@ -1,0 +1,13 @@
+pub mod Truth
+pub mod Steps
+pub mod Searches
+pub mod Named
+pub mod Agreeing
+pub mod Keeping
+pub mod Facts
+pub mod Holders
+pub mod Starts
+pub mod Candidates
+pub mod Opened
+pub mod Examples
+pub mod OneResult

@@ -1,0 +1,37 @@
+-- `places::room::is_clear` meets its contract: it takes the definition's three tests in their order.
+-- Assumes nothing.
+use borrow.Author.Needs.{needs}
+use borrow.Author.Tests.{eq-eqb, ne-eqb, le-leb, lt-leb}
+use Rattle.places.specs.Room.{clear}
+use Rattle.places.proofs.room.is_clear.Statement.{statement}
+use Rattle.places.proofs.room.is_clear.Tie as tie
+
+returns : tie.Need-returns
+unfolding clear
+returns c = simp (eq-eqb _ _ (c .if1 .taken))
+
+end-of-requires : tie.Need-end-of-requires
+end-of-requires c κs = search needs
+
+returns-2 : tie.Need-returns-2
+unfolding clear
+returns-2 c =
+    simp (ne-eqb _ _ (c .before .before .if1 .left), le-leb _ _ (rw (c .before .end-of .ensures) at (c .if2 .taken)))
+
+add-result : tie.Need-add-result
+add-result c = search needs
+
+cast-result : tie.Need-cast-result
+cast-result c = search needs
+
+returns-3 : tie.Need-returns-3
+unfolding clear
+returns-3 c =
+    simp (
+      ne-eqb _ _ (c .before .before .before .if1 .left),
+      lt-leb _ _ (rw (c .before .before .end-of .ensures) at (c .before .if2 .left)),
+    )
+
+pub is-clear-spec : {M : Type 1} → statement M
+is-clear-spec =
+    tie.close (tie.spec returns end-of-requires returns-2 add-result cast-result returns-3)
