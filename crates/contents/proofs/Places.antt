@@ -7,7 +7,7 @@ use mathlib.Core.Logic.{_⊎_, inl, inr}
 use Prim.Native.Nat.{ℕ, zero, suc, _+_, _*_, _<_, _≤_}
 use native.Mathlib.Nat.{add-zero, zero-add}
 use native.Mathlib.Omega.{arith}
-use borrow.Author.Tests.{leb-true}
+use borrow.Author.Tests.{le-leb, leb-true}
 use lib.Dec.{leb}
 use lib.ListN.{length, set, List·getD-append}
 use Rattle.ground.specs.Lists.{listed}
@@ -76,6 +76,15 @@ apart-sides p o e = sides (leb (endOf p) (o .start)) (leb (endOf o) (p .start)) 
     sides true y a b e = inl (leb-true (endOf p) (o .start) a)
     sides false true a b e = inr (leb-true (endOf o) (p .start) b)
     sides false false a b e = let z : _≡_ {A = ℕ} 0 1 = cc in absurd (omega arith)
+
+pub apart-meets : (p o : Place) → (endOf p ≤ o .start) ⊎ (endOf o ≤ p .start) → meets p o ≡ false
+unfolding meets
+apart-meets p o (inl h) = rw (le-leb _ _ h)
+apart-meets p o (inr h) = rw (le-leb _ _ h) (either (leb (endOf p) (o .start)))
+  where
+    either : (x : Bool) → not (x || true) ≡ false
+    either true = refl
+    either false = refl
 
 place-off : (p o : Place) (at i m : ℕ) → (endOf p ≤ o .start) ⊎ (endOf o ≤ p .start) → o .start ≤ i → i < endOf o → p .start ≤ at → at + m ≤ endOf p → Off i at m
 place-off p o at i m (inl h) a b c d = inr (omega arith)

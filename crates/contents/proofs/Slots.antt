@@ -12,6 +12,7 @@ use lib.Dec.{eqb, leb}
 use lib.ListN.{length, getD}
 use Rattle.places.specs.declared.Place.{Place}
 use Rattle.places.specs.Places.{endOf}
+use Rattle.places.proofs.Facts.{slot-within as place-holds}
 use Rattle.contents.specs.Slots.{lengthAt, stored}
 use Rattle.contents.specs.Contents.{wrong, holding, bytesAt, slotAt, lengthFits, slotOf}
 use Rattle.contents.proofs.Bytes.{Off, bytes-agree, stored-length, stored-bytes}
@@ -35,10 +36,8 @@ slot-order p j k h =
 
 -- within the place
 pub slot-within : (p : Place) (k : ℕ) → k < p .count → (p .start ≤ slotAt p k) × (slotAt p k + (p .slot + 2) ≤ endOf p)
-unfolding slotAt endOf
-slot-within p k h =
-    let m : suc k * (p .slot + 2) ≤ p .count * (p .slot + 2) = mul-le-mul-right (p .slot + 2) h in
-    (omega arith, omega (arith, suc-mul k (p .slot + 2)))
+unfolding slotAt
+slot-within p k h = (omega arith, place-holds p k h)
 
 -- the bytes of one slot are none of another's
 pub slots-off : (p : Place) (j k i m : ℕ) → (j ≡ k → ⊥) → slotAt p j ≤ i → i < slotAt p j + (p .slot + 2) → m ≤ p .slot + 2 → Off i (slotAt p k) m

@@ -1,6 +1,6 @@
 -- The slots of a store: document 01, section 5. Each is a two-byte length, little-endian, then room for S bytes. Length 0 means empty.
 -- Assumes nothing.
-use mathlib.Core.List.{List, [], _∷_}
+use mathlib.Core.List.{List, _∷_}
 use Prim.Native.Nat.{ℕ, zero, suc, _+_, _*_, _/_, _%_}
 use lib.ListN.{length, getD, set}
 use lib.Seq.{sets}

@@ -1,5 +1,6 @@
 -- Open and Close: document 01, section 5. Refusals in the orders 9, 17, 18, 19, 20 and 9, 10.
 -- Assumes nothing.
+use mathlib.Core.Path.{_≡_}
 use mathlib.Core.Bool.{cond, not, _&&_}
 use mathlib.Core.List.{List}
 use Prim.Native.Nat.{ℕ, _+_}
@@ -57,6 +58,11 @@ carriedOut h s g count (take i start) = record {
 
 unfoldable pub openOf : Record → List ℕ → Settings → ℕ → Opening
 openOf h s g count = carriedOut h s g count (planOf h (length s) g count)
+
+-- a result of open and the store at its exit
+pub record Opens (h : Record) (s : List ℕ) (g : Settings) (count : ℕ) (kept : Kept) (store : List ℕ) : Type 0 where
+  pub answers : kept ≡ openOf h s g count .kept
+  pub leaves : store ≡ openOf h s g count .store
 
 -- ---- close
 

@@ -1,0 +1,145 @@
+-- What repair makes of a payload, and when the CRC agrees: document 01, section 5, Offer; what demand 3 asks of an altered copy.
+-- Assumes nothing.
+use mathlib.Core.Path.{_≡_, refl, sym, ap, ap₂, _∙_}
+use mathlib.Core.Logic.{_⊎_, ⊎-elim}
+use mathlib.Core.Bool.{Bool, true, false}
+use mathlib.Core.List.{List, [], _∷_, _++_}
+use Prim.Native.Nat.{ℕ, zero, suc, _+_, _-_, _*_, _/_, _%_, _<_, _≤_}
+use native.Mathlib.Omega.{arith}
+use borrow.Author.Tests.{eqb-true, eqb-false, ltb-true}
+use lib.Dec.{eqb, ltb}
+use lib.ListN.{length, getD, take, drop, length-append, length-drop, take-append-drop}
+use lib.Seq.{length-take-le, drop-drop, getD-drop, getD-take}
+use Rattle.code.specs.Code.{Bytes, Coded, distance}
+use Rattle.code.specs.Search.{Repaired}
+use Rattle.code.specs.Search.Repaired.{found, none}
+use Rattle.code.specs.Repair.{Near, repairOf}
+use Rattle.code.proofs.Lists.{bytes-parts}
+use Rattle.code.proofs.Exact.{repair-near, repair-found}
+use Rattle.packet.specs.Packet.{readOf}
+use Rattle.packet.proofs.Laws.{fields-first}
+use Rattle.record.specs.Mend.{Mended, whole, broken, behind, mendRows, payloadIn, mendedIn, crcIn, agrees}
+use Rattle.record.proofs.OfferCases.{payload-length, mended-plain, mended-rows}
+
+-- row j of some bytes
+abbrev pub rowOf : List ℕ → ℕ → List ℕ
+rowOf b j = take 255 (drop (j * 255) b)
+
+row-next : (b : List ℕ) (j : ℕ) → rowOf (drop 255 b) j ≡ rowOf b (suc j)
+row-next b j =
+    let e : 255 + j * 255 ≡ suc j * 255 = omega arith in
+    ap (take 255) (drop-drop (j * 255) 255 b ∙ ap (λ (x : ℕ). drop x b) e)
+
+bytes-split : (n : ℕ) (l : List ℕ) → Bytes l → Bytes (take n l) × Bytes (drop n l)
+bytes-split n l y = bytes-parts (take n l) (drop n l) (rw (take-append-drop n l) y)
+
+none-left : (l : List ℕ) → length l ≡ 0 → [] ≡ l
+none-left [] e = refl
+none-left (x ∷ l) e = absurd (omega arith)
+
+-- ---- rows, each within eight bytes of a coded row, come to those coded rows
+pub mend-whole : (n i : ℕ) (b c : List ℕ) → Bytes b → length b ≡ n * 255 → length c ≡ n * 255
+    → ((j : ℕ) → j < n → Near (rowOf b j) (rowOf c j)) → mendRows n i b ≡ whole c
+unfolding mendRows
+mend-whole zero i b c y e d near = ap whole (none-left c d)
+mend-whole (suc n) i b c y e d near =
+    let first : repairOf (take 255 b) ≡ found (take 255 c) =
+    repair-found (take 255 b) (take 255 c) (length-take-le 255 b (omega arith)) (bytes-split 255 b y .0) (near 0 (omega arith)) in
+    let rest : mendRows n (suc i) (drop 255 b) ≡ whole (drop 255 c) =
+    mend-whole n (suc i) (drop 255 b) (drop 255 c) (bytes-split 255 b y .1) (length-drop 255 b ∙ omega arith) (length-drop 255 c ∙ omega arith)
+    (λ j h. rw (row-next b j, row-next c j) (near (suc j) (omega arith))) in
+    ap₂ (λ (x : Repaired) (m : Mended). behind x i m) first rest ∙ ap whole (take-append-drop 255 c)
+
+-- ---- the length stays
+pub mend-length : (n i : ℕ) (b c : List ℕ) → mendRows n i b ≡ whole c → length c ≡ n * 255
+unfolding mendRows
+mend-length zero i b c e = let w : [] ≡ c = cc in ap length (sym w)
+mend-length (suc n) i b c e = by (repairOf (take 255 b)) refl (mendRows n (suc i) (drop 255 b)) refl e (mend-length n (suc i) (drop 255 b))
+  where
+    by : (a : Repaired) → repairOf (take 255 b) ≡ a → (m : Mended) → mendRows n (suc i) (drop 255 b) ≡ m → behind a i m ≡ whole c
+        → ((d : List ℕ) → mendRows n (suc i) (drop 255 b) ≡ whole d → length d ≡ n * 255) → length c ≡ suc n * 255
+    by (found s) p (whole d) r e ih =
+        let w : s ++ d ≡ c = cc in
+        let x : length s ≡ 255 = repair-near (take 255 b) s p .coded .sized in
+        let y : length d ≡ n * 255 = ih d r in
+        let z : length c ≡ length s + length d = ap length (sym w) ∙ length-append s d in
+        omega arith
+    by (found s) p (broken j) r e ih = let z : _≡_ {A = ℕ} 0 1 = cc in absurd (omega arith)
+    by none p m r e ih = let z : _≡_ {A = ℕ} 0 1 = cc in absurd (omega arith)
+
+pub mended-length : (t : ℕ) (q b : List ℕ) → 18 ≤ length q → (t ≡ 0) ⊎ ((length q - 18) % 255 ≡ 0) → mendedIn t q ≡ whole b → length b ≡ length q - 18
+mended-length t q b h m e = by (eqb t 0) refl
+  where
+    by : (x : Bool) → eqb t 0 ≡ x → length b ≡ length q - 18
+    by true z =
+        let w : whole (payloadIn q) ≡ whole b = sym (mended-plain t q (eqb-true t 0 z)) ∙ e in
+        let v : payloadIn q ≡ b = cc in
+        ap length (sym v) ∙ payload-length q h
+    by false z =
+        let r : (length q - 18) % 255 ≡ 0 = ⊎-elim (λ (o : t ≡ 0). absurd (eqb-false t 0 z o)) (λ o. o) m in
+        let w = mend-length _ 0 (payloadIn q) b (sym (mended-rows t q (eqb-false t 0 z)) ∙ e) in
+        omega (arith, payload-length q h)
+
+-- ---- an altered copy q of a packet p: header and CRC intact, at most eight bytes altered in each row
+
+pub record Altered (q p : List ℕ) : Type 0 where
+  pub bytes : Bytes q
+  pub sized : length q ≡ length p
+  pub header : take 14 q ≡ take 14 p
+  pub crc : drop (length q - 4) q ≡ drop (length q - 4) p
+  pub rows : (j : ℕ) → distance (rowOf (payloadIn q) j) (rowOf (payloadIn p) j) ≤ 8
+
+-- a packet with protection as it is packed: coded rows, and a CRC that agrees
+pub record Intact (p : List ℕ) : Type 0 where
+  pub least : 19 ≤ length p
+  pub multiple : (length p - 18) % 255 ≡ 0
+  pub coded : (j : ℕ) → j * 255 < length (payloadIn p) → Coded (rowOf (payloadIn p) j)
+  pub agreed : agrees p (payloadIn p) ≡ true
+
+module _ (q p : List ℕ) (a : Altered q p) where
+  first-same : (j : ℕ) → ltb j 14 ≡ true → getD q j 0 ≡ getD p j 0
+  first-same j h =
+      let l = ltb-true j 14 h in
+      sym (getD-take 14 q j 0 l) ∙ ap (λ (x : List ℕ). getD x j 0) (a .header) ∙ getD-take 14 p j 0 l
+
+  -- its fields are read as the packet's
+  pub read-copy : readOf q ≡ readOf p
+  unfolding readOf
+  read-copy = rw (fields-first q p (a .header), a .sized, first-same 0 refl, first-same 1 refl, first-same 2 refl)
+
+  module _ (w : Intact p) where
+    last-same : (k : ℕ) → 1 ≤ k → k ≤ 4 → getD q (length q - k) 0 ≡ getD p (length p - k) 0
+    last-same k l m =
+        let s : length q ≡ length p = a .sized in
+        let g : 19 ≤ length p = w .least in
+        let x : length q - k ≡ length q - 4 + (4 - k) = omega arith in
+        let y : length q - 4 + (4 - k) ≡ length p - k = omega arith in
+        ap (λ (i : ℕ). getD q i 0) x ∙ sym (getD-drop (length q - 4) q (4 - k) 0) ∙ ap (λ (l : List ℕ). getD l (4 - k) 0) (a .crc)
+        ∙ getD-drop (length q - 4) p (4 - k) 0 ∙ ap (λ (i : ℕ). getD p i 0) y
+
+    crc-same : crcIn q ≡ crcIn p
+    crc-same =
+        cc (
+          last-same 4 (omega arith) (omega arith),
+          last-same 3 (omega arith) (omega arith),
+          last-same 2 (omega arith) (omega arith),
+          last-same 1 (omega arith) (omega arith),
+        )
+
+    -- its CRC agrees with the packet's payload
+    pub agrees-copy : agrees q (payloadIn p) ≡ true
+    unfolding agrees
+    agrees-copy = rw (crc-same, a .header) (w .agreed)
+
+    -- and repair gives that payload back
+    pub mended-copy : (t : ℕ) → (t ≡ 0 → ⊥) → mendedIn t q ≡ whole (payloadIn p)
+    mended-copy t z =
+        let s : length q ≡ length p = a .sized in
+        let g : 19 ≤ length p = w .least in
+        let m : (length p - 18) % 255 ≡ 0 = w .multiple in
+        let x = payload-length q (omega arith) in
+        let y = payload-length p (omega arith) in
+        mended-rows t q z
+        ∙ mend-whole (length (payloadIn q) / 255) 0 (payloadIn q) (payloadIn p)
+        (bytes-split (length q - 18) (drop 14 q) (bytes-split 14 q (a .bytes) .1) .0) (omega arith) (omega arith)
+        (λ j l. record { coded = w .coded j (omega arith); close = a .rows j })

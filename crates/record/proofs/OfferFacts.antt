@@ -1,0 +1,120 @@
+-- What is known of a packet that was read and of a payload that is put: document 01, sections 2, 5 and 6. The packet may be any list, also one that is not of bytes.
+-- Assumes nothing.
+use mathlib.Core.Path.{_≡_, refl, sym, ap, _∙_}
+use mathlib.Core.Logic.{⊎-elim}
+use mathlib.Core.Bool.{Bool, true, false, cond, not, _&&_}
+use mathlib.Core.List.{List}
+use Prim.Native.Nat.{ℕ, _+_, _-_, _%_, _<_, _≤_}
+use native.Mathlib.Omega.{arith}
+use borrow.Author.Tests.{eq-eqb, ne-eqb, eqb-true, leb-false, ltb-false, not-false}
+use lib.Dec.{eqb, ltb}
+use lib.ListN.{length}
+use Rattle.refusals.specs.declared.Refusal.{Refusal}
+use Rattle.refusals.specs.declared.Refusal.the-variants.{Short, Mark, Length, «Type», Protection, Number, Rows, Resource}
+use Rattle.packet.specs.declared.Packet.{Packet}
+use Rattle.packet.specs.declared.Reading.{Reading}
+use Rattle.packet.specs.declared.Reading.the-variants.{Sent, Refused}
+use Rattle.packet.specs.Packet.{resourceIn, fieldsIn, marked, badProtection, badNumber, badRows, judged, readOf}
+use Rattle.packet.proofs.Laws.{resource-in}
+use Rattle.places.specs.declared.Place.{Place}
+use Rattle.places.proofs.Truth.{neither}
+use Rattle.places.proofs.Facts.{PlaceFacts}
+use Rattle.contents.specs.Contents.{slotAt}
+use Rattle.contents.proofs.Slots.{slot-within}
+use Rattle.record.specs.Offer.{differs}
+
+-- ---- a packet that was read
+
+pub record Read (q : List ℕ) (f : Packet) : Type 0 where
+  pub fields : f ≡ fieldsIn q
+  pub least : 19 ≤ length q
+  pub protection : f .protection < 2
+  pub below : 0 < f .kind → f .number < f .count
+  pub multiple : f .protection ≡ 1 → (length q - 18) % 255 ≡ 0
+
+passed : (t : Bool) (r : Refusal) (y : Reading) (f : Packet) → cond t (Refused r) y ≡ Sent f → (t ≡ false) × (y ≡ Sent f)
+passed true r y f e = absurd (let z : _≡_ {A = ℕ} 0 1 = cc in omega arith)
+passed false r y f e = (refl, e)
+
+judged-read : (g f : Packet) (n : ℕ) → judged g n ≡ Sent f
+    → (g ≡ f) × (badProtection g ≡ false) × (badNumber g ≡ false) × (badRows g n ≡ false)
+unfolding judged
+judged-read g f n e =
+    let a = passed (eqb (g .kind) 3) «Type» _ f e in
+    let b = passed (badProtection g) Protection _ f (a .1) in
+    let c = passed (badNumber g) Number _ f (b .1) in
+    let d = passed (badRows g n) Rows _ f (c .1) in
+    let h = passed (eqb (g .resource) 0) Resource _ f (d .1) in
+    let e : Sent g ≡ Sent f = h .1 in
+    (cc, b .0, c .0, d .0)
+
+-- a test that failed though its first part holds
+second-fails : (s t : Bool) → (s && t) ≡ false → s ≡ true → t ≡ false
+second-fails true t e p = e
+second-fails false t e p = absurd (let z : _≡_ {A = ℕ} 0 1 = cc in omega arith)
+
+pub read-known : (q : List ℕ) (f : Packet) → readOf q ≡ Sent f → Read q f
+unfolding readOf
+read-known q f e =
+    let a = passed (ltb (length q) 19) Short _ f e in
+    let b = passed (not (marked q)) Mark _ f (a .1) in
+    let c = passed (not (eqb (fieldsIn q .length) (length q))) Length _ f (b .1) in
+    let j = judged-read (fieldsIn q) f (length q) (c .1) in
+    let g : fieldsIn q ≡ f = j .0 in
+    let p = neither (ltb 1 (f .protection)) _ (sym (ap badProtection g) ∙ j .1) in
+    record {
+      fields = sym g;
+      least = ltb-false _ _ (a .0);
+      protection = let l = ltb-false 1 (f .protection) (p .0) in omega arith;
+      below = λ (k : 0 < f .kind). leb-false (f .count) (f .number) (rw (ne-eqb (f .kind) 0 (λ (z : f .kind ≡ 0). omega arith)) at (sym (ap badNumber g) ∙ j .2));
+      multiple = λ (o : f .protection ≡ 1).
+          eqb-true _ _ (not-false _ (second-fails (eqb (f .protection) 1) _ (sym (ap (λ (x : Packet). badRows x (length q)) g) ∙ j .3) (eq-eqb _ _ o)));
+    }
+
+pub read-resource : (q : List ℕ) (f : Packet) → readOf q ≡ Sent f → f .resource ≡ resourceIn q
+read-resource q f e = ap (λ (x : Packet). x .resource) (read-known q f e .fields) ∙ resource-in q
+
+-- ---- a packet of the file that a place collects
+
+pub record SameFile (p : Place) (f : Packet) : Type 0 where
+  pub kind : f .kind ≡ p .kind
+  pub update : f .update ≡ p .update
+  pub count : f .count ≡ p .count
+  pub protection : f .protection ≡ p .protection
+  pub rows : f .protection ≡ 1 → f .rows ≡ p .rows
+
+module _ (p : Place) (f : Packet) where
+  pub same-file : differs p f ≡ false → SameFile p f
+  unfolding differs
+  same-file e =
+      let a = neither (not (eqb (f .kind) (p .kind))) _ e in
+      let b = neither (not (eqb (f .update) (p .update))) _ (a .1) in
+      let c = neither (not (eqb (f .count) (p .count))) _ (b .1) in
+      let d = neither (not (eqb (f .protection) (p .protection))) _ (c .1) in
+      record {
+        kind = eqb-true _ _ (not-false _ (a .0));
+        update = eqb-true _ _ (not-false _ (b .0));
+        count = eqb-true _ _ (not-false _ (c .0));
+        protection = eqb-true _ _ (not-false _ (d .0));
+        rows = λ (o : f .protection ≡ 1). eqb-true _ _ (not-false _ (second-fails (eqb (f .protection) 1) _ (d .1) (eq-eqb _ _ o)));
+      }
+
+  pub same-serves : SameFile p f → differs p f ≡ false
+  unfolding differs
+  same-serves s =
+      rw (eq-eqb _ _ (s .kind), eq-eqb _ _ (s .update), eq-eqb _ _ (s .count), eq-eqb _ _ (s .protection)) (by (eqb (f .protection) 1) refl)
+    where
+      by : (t : Bool) → eqb (f .protection) 1 ≡ t → (t && not (eqb (f .rows) (p .rows))) ≡ false
+      by true e = ap not (eq-eqb _ _ (s .rows (eqb-true _ _ e)))
+      by false e = refl
+
+-- its number is one of the place's slots
+pub slot-below : (n : ℕ) (p : Place) (f : Packet) → PlaceFacts n p → (0 < f .kind → f .number < f .count) → differs p f ≡ false → f .number < p .count
+slot-below n p f w b d =
+    let s = same-file p f d in
+    let k : 0 < f .kind = ⊎-elim (λ (e : p .kind ≡ 1). omega (arith, s .kind)) (λ (e : p .kind ≡ 2). omega (arith, s .kind)) (w .kind-either) in
+    omega (arith, b k, s .count)
+
+pub slot-room : (n : ℕ) (p : Place) (f : Packet) → PlaceFacts n p → (0 < f .kind → f .number < f .count) → differs p f ≡ false
+    → slotAt p (f .number) + (p .slot + 2) ≤ n
+slot-room n p f w b d = omega (arith, slot-within p (f .number) (slot-below n p f w b d) .1, w .ends-within)

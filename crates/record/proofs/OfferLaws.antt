@@ -1,0 +1,328 @@
+-- What an offer does, in terms of what places hold: document 01, section 5. It changes at most the addressed slot of the place that its resource names, and that from empty
+-- to the payload; and it depends on nothing else of the store but its length. The packet may be any list. Assumes nothing.
+use mathlib.Core.Path.{_≡_, refl, sym, ap, subst, _∙_}
+use mathlib.Core.Logic.{_⊎_, inl, inr, ⊎-map}
+use mathlib.Core.Bool.{Bool, true, false, cond}
+use mathlib.Core.List.{List, [], _∷_}
+use Prim.Native.Nat.{ℕ, _-_, _%_, _<_, _≤_}
+use native.Mathlib.Omega.{arith}
+use borrow.Author.Tests.{eqb-true, eqb-false, ltb-false}
+use lib.Dec.{eqb, ltb}
+use lib.ListN.{length, getD, set}
+use lib.Seq.{getD-set-same, getD-set-other}
+use Rattle.ground.proofs.OneResult.{equation}
+use Rattle.refusals.specs.declared.Refusal.{Refusal}
+use Rattle.refusals.specs.declared.Refusal.the-variants.{Unknown, Other, Wide, Crc}
+use Rattle.packet.specs.declared.Packet.{Packet}
+use Rattle.packet.specs.declared.Reading.{Reading}
+use Rattle.packet.specs.declared.Reading.the-variants.{Sent}
+use Rattle.packet.specs.Packet.{resourceIn, readOf}
+use Rattle.places.specs.declared.Place.{Place}
+use Rattle.places.specs.declared.Record.{Record}
+use Rattle.places.specs.declared.Found.{Found}
+use Rattle.places.specs.declared.Found.the-variants.{At, Nothing}
+use Rattle.places.specs.Places.{unused, endOf, meets, good, placeNamed}
+use Rattle.places.proofs.Named.{names-resource, names-in-use}
+use Rattle.places.proofs.Facts.{PlaceFacts, named-facts, good-apart}
+use Rattle.places.proofs.Holders.{found-names}
+use Rattle.contents.specs.Contents.{Slot as Content, wrong, holding, slotAt, lengthFits, slotOf, contents}
+use Rattle.contents.proofs.Bytes.{length-stored}
+use Rattle.contents.proofs.Slots.{fits-made, fits-room}
+use Rattle.contents.proofs.Places.{reading-slots, storing-sets, storing-leaves, apart-meets}
+use Rattle.record.specs.declared.Offered.{Offered}
+use Rattle.record.specs.declared.Offered.the-variants.{Stored, Repeat, Refused}
+use Rattle.record.specs.Mend.{Mended, whole, broken, payloadIn, mendedIn, agrees}
+use Rattle.record.specs.Offer.{differs, Judged, refuse, put, judgeMended, judge, putInto, Offering, storing, offerJudged, offerOf}
+use Rattle.record.proofs.OfferCases.{said, payload-length, judge-puts, offer-bad, offer-unread, offer-unknown, offer-placed}
+use Rattle.record.proofs.OfferFacts.{Read, read-known, read-resource, SameFile, same-file, same-serves, slot-below}
+use Rattle.record.proofs.MendLaws.{mended-length, Altered, Intact, agrees-copy, mended-copy}
+use Rattle.record.proofs.SlotLaws.{same-self}
+
+-- ---- what is put fits the place
+
+pub record Placed (p : Place) (f : Packet) (k : ℕ) (b : List ℕ) : Type 0 where
+  pub number : k ≡ f .number
+  pub below : k < p .count
+  pub fits : lengthFits p (length b) ≡ true
+
+abbrev pub Sound : Place → Packet → Judged → Type 0
+Sound p f (refuse r) = Unit {0}
+Sound p f (put k b) = Placed p f k b
+
+module _ (n : ℕ) (p : Place) (f : Packet) (q : List ℕ) (w : PlaceFacts n p) (r : Read q f) where
+  -- without protection any length is taken; with it the payload is whole rows
+  rows-read : (f .protection ≡ 0) ⊎ ((length q - 18) % 255 ≡ 0)
+  rows-read = by (eqb (f .protection) 0) refl
+    where
+      by : (t : Bool) → eqb (f .protection) 0 ≡ t → (f .protection ≡ 0) ⊎ ((length q - 18) % 255 ≡ 0)
+      by true t = inl (eqb-true _ _ t)
+      by false t = let z : f .protection ≡ 0 → ⊥ = eqb-false _ _ t in inr (r .multiple (omega (arith, r .protection)))
+
+  module _ (d : differs p f ≡ false) (l : length (payloadIn q) ≤ p .slot) where
+    payload-placed : (b : List ℕ) → mendedIn (f .protection) q ≡ whole b → Placed p f (f .number) b
+    payload-placed b m =
+        let h : 18 ≤ length q = omega (arith, r .least) in
+        let e : length b ≡ length q - 18 = mended-length (f .protection) q b h rows-read m in
+        let s = same-file p f d in
+        record {
+          number = refl;
+          below = slot-below n p f w (r .below) d;
+          fits = fits-made p (length b) (omega (arith, payload-length q h))
+              (⊎-map (λ z. sym (s .protection) ∙ z) (λ z. ap (λ (x : ℕ). x % 255) e ∙ z) rows-read);
+        }
+
+    mended-sound : (m : Mended) → mendedIn (f .protection) q ≡ m → Sound p f (judgeMended (f .number) q m)
+    mended-sound (broken i) e = tt
+    mended-sound (whole b) e = by (agrees q b)
+      where
+        by : (a : Bool) → Sound p f (cond a (put (f .number) b) (refuse Crc))
+        by true = payload-placed b e
+        by false = tt
+
+  pub judge-sound : Sound p f (judge p f q)
+  unfolding judge
+  judge-sound = other (differs p f) refl
+    where
+      wide : differs p f ≡ false → (t : Bool) → ltb (p .slot) (length (payloadIn q)) ≡ t
+          → Sound p f (cond t (refuse Wide) (judgeMended (f .number) q (mendedIn (f .protection) q)))
+      wide d true t = tt
+      wide d false t = mended-sound d (ltb-false _ _ t) (mendedIn (f .protection) q) refl
+
+      other : (t : Bool) → differs p f ≡ t
+          → Sound p f (cond t (refuse Other) (cond (ltb (p .slot) (length (payloadIn q))) (refuse Wide) (judgeMended (f .number) q (mendedIn (f .protection) q))))
+      other true t = tt
+      other false t = wide t (ltb (p .slot) (length (payloadIn q))) refl
+
+-- what an altered copy of a packet of the place's file puts is that packet's own payload
+pub judge-copy : (o : Place) (f : Packet) (q p : List ℕ) → Altered q p → Intact p → SameFile o f → (f .protection ≡ 0 → ⊥) → length (payloadIn p) ≤ o .slot
+    → judge o f q ≡ put (f .number) (payloadIn p)
+judge-copy o f q p a w s z l =
+    let n : length q ≡ length p = a .sized in
+    let g : 19 ≤ length p = w .least in
+    judge-puts o f q (same-serves o f s) (payloadIn p) (omega (arith, payload-length q (omega arith), payload-length p (omega arith)))
+    (mended-copy q p a w (f .protection) z) (agrees-copy q p a w)
+
+-- ---- at one place: the answer and what the place holds afterwards, by what it held
+
+abbrev pub answered : Judged → List Content → Offered
+answered (refuse r) c = Refused r
+answered (put k b) c = putInto (getD c k wrong) b
+
+abbrev pub kept : Offered → List Content → ℕ → List ℕ → List Content
+kept Stored c k b = set c k (holding b)
+kept Repeat c k b = c
+kept (Refused r) c k b = c
+
+abbrev pub heldAfter : Judged → List Content → List Content
+heldAfter (refuse r) c = c
+heldAfter (put k b) c = kept (putInto (getD c k wrong) b) c k b
+
+module _ (s : List ℕ) (at : ℕ) (b : List ℕ) where
+  storing-answer : (a : Offered) → storing s at b a .answer ≡ a
+  storing-answer Stored = refl
+  storing-answer Repeat = refl
+  storing-answer (Refused r) = refl
+
+  storing-length : (a : Offered) → length (storing s at b a .store) ≡ length s
+  storing-length Stored = length-stored s at b
+  storing-length Repeat = refl
+  storing-length (Refused r) = refl
+
+  storing-same : (a : Offered) → (storing s at b a .answer ≡ Stored → ⊥) → storing s at b a .store ≡ s
+  storing-same Stored h = absurd (h refl)
+  storing-same Repeat h = refl
+  storing-same (Refused r) h = refl
+
+module _ (p : Place) (f : Packet) (s : List ℕ) where
+  answer-at : (j : Judged) → Sound p f j → offerJudged p s j .answer ≡ answered j (contents p s)
+  answer-at (refuse r) w = refl
+  answer-at (put k b) w =
+      storing-answer s (slotAt p k) b (putInto (slotOf p s k) b)
+      ∙ ap (λ (x : Content). putInto x b) (sym (reading-slots p s k (w .below)))
+
+  holds-at : (j : Judged) → Sound p f j → endOf p ≤ length s → contents p (offerJudged p s j .store) ≡ heldAfter j (contents p s)
+  holds-at (refuse r) w h = refl
+  holds-at (put k b) w h =
+      by (putInto (slotOf p s k) b) ∙ ap (λ (x : Content). kept (putInto x b) (contents p s) k b) (sym (reading-slots p s k (w .below)))
+    where
+      by : (a : Offered) → contents p (storing s (slotAt p k) b a .store) ≡ kept a (contents p s) k b
+      by Stored = storing-sets p s k b h (w .below) (w .fits)
+      by Repeat = refl
+      by (Refused r) = refl
+
+  leaves-at : (j : Judged) → Sound p f j → (o : Place) → meets p o ≡ false → contents o (offerJudged p s j .store) ≡ contents o s
+  leaves-at (refuse r) w o m = refl
+  leaves-at (put k b) w o m = by (putInto (slotOf p s k) b)
+    where
+      by : (a : Offered) → contents o (storing s (slotAt p k) b a .store) ≡ contents o s
+      by Stored = storing-leaves p o s k b m (w .below) (fits-room p (length b) (w .fits))
+      by Repeat = refl
+      by (Refused r) = refl
+
+  length-at : (j : Judged) → length (offerJudged p s j .store) ≡ length s
+  length-at (refuse r) = refl
+  length-at (put k b) = storing-length s (slotAt p k) b (putInto (slotOf p s k) b)
+
+  same-at : (j : Judged) → (offerJudged p s j .answer ≡ Stored → ⊥) → offerJudged p s j .store ≡ s
+  same-at (refuse r) h = refl
+  same-at (put k b) h = storing-same s (slotAt p k) b (putInto (slotOf p s k) b) h
+
+  -- at most the slot of the packet's number changes
+  pub slots-kept : (j : Judged) → Sound p f j → (c : List Content) (k : ℕ) → (k ≡ f .number → ⊥) → getD (heldAfter j c) k wrong ≡ getD c k wrong
+  slots-kept (refuse r) w c k d = refl
+  slots-kept (put i b) w c k d = by (putInto (getD c i wrong) b)
+    where
+      by : (a : Offered) → getD (kept a c i b) k wrong ≡ getD c k wrong
+      by Stored = getD-set-other c i k (holding b) wrong (λ (z : k ≡ i). d (z ∙ w .number))
+      by Repeat = refl
+      by (Refused r) = refl
+
+-- a slot that is empty, or holds the payload already, holds it afterwards
+pub held-after : (c : List Content) (k : ℕ) (b : List ℕ) → k < length c → (getD c k wrong ≡ holding []) ⊎ (getD c k wrong ≡ holding b) → getD (heldAfter (put k b) c) k wrong ≡ holding b
+held-after c k b h (inl e) = rw e (getD-set-same c k (holding b) wrong h)
+held-after c k [] h (inr e) = rw e (getD-set-same c k (holding []) wrong h)
+held-after c k (x ∷ b) h (inr e) = rw (e, same-self (x ∷ b)) e
+
+-- ---- an offer, whatever comes
+
+-- it is refused, or it comes to what the packet's place says
+pub data Case (h : Record) (s q : List ℕ) : Offering → Type 0 where
+  refused : (r : Refusal) → Case h s q (said (Refused r) s)
+  placed : good (length s) (h .places) ≡ true → (f : Packet) → readOf q ≡ Sent f → (i : ℕ) → placeNamed (h .places) (f .resource) ≡ At i
+      → Case h s q (offerJudged (getD (h .places) i unused) s (judge (getD (h .places) i unused) f q))
+
+module _ (h : Record) (s q : List ℕ) where
+  pub offer-case : Case h s q (offerOf h s q)
+  offer-case = record-judged (good (length s) (h .places)) refl
+    where
+      found : good (length s) (h .places) ≡ true → (f : Packet) → readOf q ≡ Sent f → (w : Found) → placeNamed (h .places) (f .resource) ≡ w → Case h s q (offerOf h s q)
+      found g f e (At i) w = subst (Case h s q) (sym (offer-placed h s q g f e i w)) (placed g f e i w)
+      found g f e Nothing w = subst (Case h s q) (sym (offer-unknown h s q g f e w)) (refused Unknown)
+
+      fields-read : good (length s) (h .places) ≡ true → (x : Reading) → readOf q ≡ x → Case h s q (offerOf h s q)
+      fields-read g (Sent f) e = found g f e (placeNamed (h .places) (f .resource)) refl
+      fields-read g (Reading.Refused r) e = subst (Case h s q) (sym (offer-unread h s q g r e)) (refused r)
+
+      record-judged : (t : Bool) → good (length s) (h .places) ≡ t → Case h s q (offerOf h s q)
+      record-judged true g = fields-read g (readOf q) refl
+      record-judged false g = subst (Case h s q) (sym (offer-bad h s q g)) (refused Refusal.Record)
+
+  pub offer-length : length (offerOf h s q .store) ≡ length s
+  offer-length = by (offerOf h s q) offer-case
+    where
+      by : (o : Offering) → Case h s q o → length (o .store) ≡ length s
+      by o (refused r) = refl
+      by o (placed g f e i w) = length-at (getD (h .places) i unused) f s (judge (getD (h .places) i unused) f q)
+
+  -- refused, or a repeat: the store is as it was
+  pub offer-unstored : (offerOf h s q .answer ≡ Stored → ⊥) → offerOf h s q .store ≡ s
+  offer-unstored = by (offerOf h s q) offer-case
+    where
+      by : (o : Offering) → Case h s q o → (o .answer ≡ Stored → ⊥) → o .store ≡ s
+      by o (refused r) d = refl
+      by o (placed g f e i w) d = same-at (getD (h .places) i unused) f s (judge (getD (h .places) i unused) f q) d
+
+  pub offer-refused : (r : Refusal) → offerOf h s q .answer ≡ Refused r → offerOf h s q .store ≡ s
+  offer-refused r e = offer-unstored (λ (z : offerOf h s q .answer ≡ Stored). let o : _≡_ {A = ℕ} 0 1 = cc in omega arith)
+
+  pub offer-repeat : offerOf h s q .answer ≡ Repeat → offerOf h s q .store ≡ s
+  offer-repeat e = offer-unstored (λ (z : offerOf h s q .answer ≡ Stored). let o : _≡_ {A = ℕ} 0 1 = cc in omega arith)
+
+  -- ---- the place that the packet's resource names
+  module _ (g : good (length s) (h .places) ≡ true) (f : Packet) (e : readOf q ≡ Sent f) (i : ℕ) (w : placeNamed (h .places) (f .resource) ≡ At i) where
+    pub offer-sound : Sound (getD (h .places) i unused) f (judge (getD (h .places) i unused) f q)
+    offer-sound = judge-sound (length s) (getD (h .places) i unused) f q (named-facts (length s) (h .places) g (f .resource) i w) (read-known q f e)
+
+    pub offer-answer : offerOf h s q .answer ≡ answered (judge (getD (h .places) i unused) f q) (contents (getD (h .places) i unused) s)
+    offer-answer =
+        ap (λ (o : Offering). o .answer) (offer-placed h s q g f e i w)
+        ∙ answer-at (getD (h .places) i unused) f s (judge (getD (h .places) i unused) f q) offer-sound
+
+    pub offer-holds : contents (getD (h .places) i unused) (offerOf h s q .store) ≡ heldAfter (judge (getD (h .places) i unused) f q) (contents (getD (h .places) i unused) s)
+    offer-holds =
+        ap (λ (o : Offering). contents (getD (h .places) i unused) (o .store)) (offer-placed h s q g f e i w)
+        ∙ holds-at (getD (h .places) i unused) f s (judge (getD (h .places) i unused) f q) offer-sound
+        (named-facts (length s) (h .places) g (f .resource) i w .ends-within)
+
+  -- ---- a place that it does not name
+  pub offer-other : (r j : ℕ) → placeNamed (h .places) r ≡ At j → (4 < length q → resourceIn q ≡ r → ⊥)
+      → contents (getD (h .places) j unused) (offerOf h s q .store) ≡ contents (getD (h .places) j unused) s
+  offer-other r j n d = by (offerOf h s q) offer-case
+    where
+      by : (o : Offering) → Case h s q o → contents (getD (h .places) j unused) (o .store) ≡ contents (getD (h .places) j unused) s
+      by o (refused x) = refl
+      by o (placed g f e i w) =
+          let a = found-names (h .places) (f .resource) i w in
+          let b = found-names (h .places) r j n in
+          let least = read-known q f e .least in
+          let named : resourceIn q ≡ f .resource = sym (read-resource q f e) in
+          let apart : i ≡ j → ⊥ = λ (z : i ≡ j).
+          d (omega arith) (named ∙ sym (names-resource (getD (h .places) i unused) (f .resource) (a .1)) ∙ ap (λ (x : ℕ). getD (h .places) x unused .resource) z
+          ∙ names-resource (getD (h .places) j unused) r (b .1)) in
+          leaves-at (getD (h .places) i unused) f s (judge (getD (h .places) i unused) f q) (offer-sound g f e i w) (getD (h .places) j unused)
+          (apart-meets (getD (h .places) i unused) (getD (h .places) j unused)
+          (good-apart (length s) (h .places) g i j (a .0) (b .0) apart
+          (names-in-use (getD (h .places) i unused) (f .resource) (a .1)) (names-in-use (getD (h .places) j unused) r (b .1))))
+
+-- ---- two stores of one length that hold the same at the place of a resource
+
+same-answer : {o u : Offering} {a : Offered} {s t : List ℕ} → o ≡ said a s → u ≡ said a t → o .answer ≡ u .answer
+same-answer e d = ap (λ (x : Offering). x .answer) e ∙ sym (ap (λ (x : Offering). x .answer) d)
+
+module _ (h : Record) (s t q : List ℕ) (n : length s ≡ length t) where
+  good-same : (x : Bool) → good (length s) (h .places) ≡ x → good (length t) (h .places) ≡ x
+  good-same x g = ap (λ (m : ℕ). good m (h .places)) (sym n) ∙ g
+
+  -- an offer that names it is answered alike
+  pub alike-answer : ((i : ℕ) → placeNamed (h .places) (resourceIn q) ≡ At i → contents (getD (h .places) i unused) s ≡ contents (getD (h .places) i unused) t)
+      → offerOf h s q .answer ≡ offerOf h t q .answer
+  alike-answer same = judged (good (length s) (h .places)) refl
+    where
+      found : good (length s) (h .places) ≡ true → (f : Packet) → readOf q ≡ Sent f → (w : Found) → placeNamed (h .places) (f .resource) ≡ w
+          → offerOf h s q .answer ≡ offerOf h t q .answer
+      found g f e (At i) w =
+          let named : f .resource ≡ resourceIn q = read-resource q f e in
+          offer-answer h s q g f e i w
+          ∙ ap (answered (judge (getD (h .places) i unused) f q)) (same i (ap (placeNamed (h .places)) (sym named) ∙ w))
+          ∙ sym (offer-answer h t q (good-same true g) f e i w)
+      found g f e Nothing w = same-answer (offer-unknown h s q g f e w) (offer-unknown h t q (good-same true g) f e w)
+
+      fields : good (length s) (h .places) ≡ true → (x : Reading) → readOf q ≡ x → offerOf h s q .answer ≡ offerOf h t q .answer
+      fields g (Sent f) e = found g f e (placeNamed (h .places) (f .resource)) refl
+      fields g (Reading.Refused r) e = same-answer (offer-unread h s q g r e) (offer-unread h t q (good-same true g) r e)
+
+      judged : (x : Bool) → good (length s) (h .places) ≡ x → offerOf h s q .answer ≡ offerOf h t q .answer
+      judged true g = fields g (readOf q) refl
+      judged false g = same-answer (offer-bad h s q g) (offer-bad h t q (good-same false g))
+
+  -- and after any offer they hold the same again
+  module _ (r j : ℕ) (w : placeNamed (h .places) r ≡ At j) (c : contents (getD (h .places) j unused) s ≡ contents (getD (h .places) j unused) t) where
+    abbrev Alike : Type 0
+    Alike = contents (getD (h .places) j unused) (offerOf h s q .store) ≡ contents (getD (h .places) j unused) (offerOf h t q .store)
+
+    said-alike : (a : Offered) → offerOf h s q ≡ said a s → offerOf h t q ≡ said a t → Alike
+    said-alike a e d =
+        ap (λ (o : Offering). contents (getD (h .places) j unused) (o .store)) e ∙ c
+        ∙ sym (ap (λ (o : Offering). contents (getD (h .places) j unused) (o .store)) d)
+
+    pub alike-holds : contents (getD (h .places) j unused) (offerOf h s q .store) ≡ contents (getD (h .places) j unused) (offerOf h t q .store)
+    alike-holds = names (eqb (resourceIn q) r) refl
+      where
+        fields : resourceIn q ≡ r → good (length s) (h .places) ≡ true → (x : Reading) → readOf q ≡ x → Alike
+        fields z g (Sent f) e =
+            let i : placeNamed (h .places) (f .resource) ≡ At j = ap (placeNamed (h .places)) (read-resource q f e ∙ z) ∙ w in
+            offer-holds h s q g f e j i ∙ ap (heldAfter (judge (getD (h .places) j unused) f q)) c ∙ sym (offer-holds h t q (good-same true g) f e j i)
+        fields z g (Reading.Refused x) e = said-alike (Refused x) (offer-unread h s q g x e) (offer-unread h t q (good-same true g) x e)
+
+        judged : resourceIn q ≡ r → (x : Bool) → good (length s) (h .places) ≡ x → Alike
+        judged z true g = fields z g (readOf q) refl
+        judged z false g = said-alike (Refused Refusal.Record) (offer-bad h s q g) (offer-bad h t q (good-same false g))
+
+        names : (x : Bool) → eqb (resourceIn q) r ≡ x → Alike
+        names true z = judged (eqb-true _ _ z) (good (length s) (h .places)) refl
+        names false z = offer-other h s q r j w (λ l. eqb-false _ _ z) ∙ c ∙ sym (offer-other h t q r j w (λ l. eqb-false _ _ z))
+
+-- ---- one result: of two that the contract allows the answers are equal, and so are the stores
+pub offer-one : (h : Record) (s q : List ℕ) (a a′ : Offered) (t t′ : List ℕ)
+    → (a ≡ offerOf h s q .answer) × (t ≡ offerOf h s q .store) → (a′ ≡ offerOf h s q .answer) × (t′ ≡ offerOf h s q .store) → (a ≡ a′) × (t ≡ t′)
+offer-one h s q a a′ t t′ x y = (equation (x .0) (y .0), equation (x .1) (y .1))

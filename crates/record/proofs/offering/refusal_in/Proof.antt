@@ -1,0 +1,21 @@
+-- The refusal is taken out of the reading.
+use mathlib.Core.Path.{sym, ap}
+use borrow.Author.Needs.{needs}
+use Rattle.record.specs.InnerOffer.{refusalIn}
+use Rattle.record.proofs.offering.refusal_in.Statement.{statement}
+use Rattle.record.proofs.offering.refusal_in.Tie as tie
+
+enum-known-reading : tie.Need-enum-known-reading
+enum-known-reading c = search needs
+
+enum-told : tie.Need-enum-told
+enum-told c = search needs
+
+returns : tie.Need-returns
+returns c = sym (ap refusalIn (c .before .reading .given .1))
+
+returns-2 : tie.Need-returns-2
+returns-2 c = search needs
+
+pub refusal-in-spec : {M : Type 1} → statement M
+refusal-in-spec = tie.close (tie.spec enum-known-reading enum-told returns returns-2)

@@ -1,0 +1,144 @@
+// Offer: document 01, section 5. A packet is judged first, which does not look at the store; then its payload meets what the slot of its number holds.
+// Refusals in the order 9, then 1 to 8 as the field reader gives them, then 10 to 16.
+ghost use mathlib.Core.Path.{_≡_};
+ghost use mathlib.Core.Bool.{true};
+ghost use Prim.Native.Nat.{_+_, _-_, _/_, _%_, _≤_};
+ghost use lib.ListN.{length};
+ghost use Rattle.packet.specs.Packet.{readOf};
+ghost use Rattle.packet.specs.declared.Reading.the-variants.{Sent};
+ghost use Rattle.places.specs.Places.{inUse, fits};
+ghost use Rattle.contents.specs.Contents.{slotAt};
+ghost use Rattle.record.specs.Mend.{whole, mendRows, payloadIn};
+ghost use Rattle.record.specs.Offer.{differs, put, judgeMended, judge, offerJudged, offerOf};
+ghost use Rattle.record.specs.InnerOffer.{Comes, refusalIn};
+use super::Offered;
+use super::mend;
+use super::mend::Mending;
+use super::slots;
+use packet::Packet;
+use packet::Reading;
+use places::Found;
+use places::Place;
+use places::Record;
+use refusals::Refusal;
+
+// The refusal that a reading is. Of one that is none this is never asked.
+fn refusal_in(reading: Reading) -> Refusal
+    ensures { λ r. ⌜ r ≡ refusalIn reading ⌝ }
+{
+    match reading {
+        Reading::Refused(refusal) => refusal,
+        Reading::Sent(_) => Refusal::Short,
+    }
+}
+
+// Refusal 11.
+fn differs(p: Place, fields: Packet) -> bool
+    ensures { λ r. ⌜ r ≡ differs p fields ⌝ }
+{
+    if fields.kind != p.kind {
+        return true;
+    }
+    if fields.update != p.update {
+        return true;
+    }
+    if fields.count != p.count {
+        return true;
+    }
+    if fields.protection != p.protection {
+        return true;
+    }
+    fields.protection == 1 && fields.rows != p.rows
+}
+
+// A payload meets the slot of its number: an empty one takes it, and no other changes.
+fn put_in(p: Place, store: &mut [u8], number: u32, payload: &[u8]) -> Offered
+    requires { ⌜ (slotAt p number + (p .slot + 2) ≤ length (now store)) × (length (now payload) ≤ p .slot) ⌝ }
+    ensures { λ r. ⌜ Comes (offerJudged p (now (store .entry)) (put number (now (payload .entry)))) r (now (store .exit)) ⌝ }
+{
+    let at = slots::slot_at(p, number);
+    let n = slots::slot_length(store, at);
+    if !slots::length_fits(p, n) {
+        return Offered::Refused(Refusal::Slot);
+    }
+    if n == 0 {
+        slots::put_slot(store, at, payload);
+        return Offered::Stored;
+    }
+    if n != payload.len() {
+        return Offered::Refused(Refusal::Conflict);
+    }
+    if slots::same_bytes(store, at + 2, payload) {
+        return Offered::Repeat;
+    }
+    Offered::Refused(Refusal::Conflict)
+}
+
+// A packet without protection: its payload goes on as it came.
+fn offer_plain(p: Place, store: &mut [u8], number: u32, packet: &[u8]) -> Offered
+    requires { ⌜ (slotAt p number + (p .slot + 2) ≤ length (now store)) × (19 ≤ length (now packet)) × (length (now packet) ≤ p .slot + 18) ⌝ }
+    ensures { λ r. ⌜ Comes (offerJudged p (now (store .entry)) (judgeMended number (now (packet .entry)) (whole (payloadIn (now (packet .entry)))))) r (now (store .exit)) ⌝ }
+{
+    let end = packet.len() - Packet::CRC;
+    let payload = &packet[Packet::HEADER..end];
+    if !mend::crc_agrees(packet, payload) {
+        return Offered::Refused(Refusal::Crc);
+    }
+    put_in(p, store, number, payload)
+}
+
+// A packet with protection: each row of its payload is repaired first, and the repaired payload goes on. There are fifteen rows at most.
+fn offer_rows(p: Place, store: &mut [u8], number: u32, packet: &[u8]) -> Offered
+    requires { ⌜ (slotAt p number + (p .slot + 2) ≤ length (now store)) × (19 ≤ length (now packet)) × (length (now packet) ≤ 4095) × (length (now packet) ≤ p .slot + 18) × ((length (now packet) - 18) % 255 ≡ 0) ⌝ }
+    ensures { λ r. ⌜ Comes (offerJudged p (now (store .entry)) (judgeMended number (now (packet .entry)) (mendRows (length (payloadIn (now (packet .entry))) / 255) 0 (payloadIn (now (packet .entry)))))) r (now (store .exit)) ⌝ }
+{
+    let end = packet.len() - Packet::CRC;
+    let payload = &packet[Packet::HEADER..end];
+    let n = payload.len();
+    let mut buffer = [0u8; 3825];
+    let mending = mend::mend_rows(payload, &mut buffer);
+    if let Mending::Broken(row) = mending {
+        return Offered::Refused(Refusal::Repair(row));
+    }
+    let mended = &buffer[..n];
+    if !mend::crc_agrees(packet, mended) {
+        return Offered::Refused(Refusal::Crc);
+    }
+    put_in(p, store, number, mended)
+}
+
+// A packet that was read, at the place that holds its resource.
+fn offer_at(p: Place, store: &mut [u8], fields: Packet, packet: &[u8]) -> Offered
+    requires { ⌜ (readOf (now packet) ≡ Sent fields) × (fits (length (now store)) p ≡ true) × (inUse p ≡ true) ⌝ }
+    ensures { λ r. ⌜ Comes (offerJudged p (now (store .entry)) (judge p fields (now (packet .entry)))) r (now (store .exit)) ⌝ }
+{
+    if differs(p, fields) {
+        return Offered::Refused(Refusal::Other);
+    }
+    if (p.slot as usize) < packet.len() - (Packet::HEADER + Packet::CRC) {
+        return Offered::Refused(Refusal::Wide);
+    }
+    if fields.protection == 0 {
+        return offer_plain(p, store, fields.number, packet);
+    }
+    offer_rows(p, store, fields.number, packet)
+}
+
+// Offers one packet to the place that holds its resource. Its payload, repaired under protection, goes into the slot of its number if that is empty; a slot
+// that holds it already stays as it is. Refused, the store is as it came.
+pub fn offer(held: Record, store: &mut [u8], packet: &[u8]) -> Offered
+    ensures { λ r. ⌜ (r ≡ offerOf held (now (store .entry)) (now (packet .entry)) .answer) × (now (store .exit) ≡ offerOf held (now (store .entry)) (now (packet .entry)) .store) ⌝ }
+{
+    if !places::is_good(held, store.len()) {
+        return Offered::Refused(Refusal::Record);
+    }
+    let reading = packet::read_fields(packet);
+    let Reading::Sent(fields) = reading else {
+        return Offered::Refused(refusal_in(reading));
+    };
+    let Found::At(i) = places::find_place(held, fields.resource) else {
+        return Offered::Refused(Refusal::Unknown);
+    };
+    let p = held.places[i];
+    offer_at(p, store, fields, packet)
+}

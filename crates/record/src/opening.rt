@@ -1,0 +1,121 @@
+// Open and Close: document 01, section 5. Refusals in the orders 9, 17, 18, 19, 20 and 9, 10.
+ghost use mathlib.Core.Path.{_≡_};
+ghost use Rattle.packet.specs.Settings.{house};
+ghost use Rattle.places.specs.Places.{firstUnused};
+ghost use Rattle.record.specs.Open.{withUnused, planOf, Opens, closeOf};
+ghost use Rattle.record.specs.Inner.{planned};
+use super::Kept;
+use super::slots;
+use packet::Settings;
+use places::Found;
+use places::Place;
+use places::Record;
+use refusals::Refusal;
+use refusals::Verdict;
+
+// What open is to do: to refuse, or to take the place of a number from a start on.
+pub(crate) enum Planned {
+    Refuse(Refusal),
+    Take(usize, usize),
+}
+
+// An unused place and the lowest start for `size` bytes.
+fn room_for(held: Record, n: usize, size: usize) -> Planned
+    ensures { λ r. ⌜ r ≡ planned (withUnused held n size (firstUnused (held .places))) ⌝ }
+{
+    let Found::At(place) = places::find_unused(held) else {
+        return Planned::Refuse(Refusal::Full);
+    };
+    let Found::At(start) = places::lowest_start(held, n, size) else {
+        return Planned::Refuse(Refusal::Room);
+    };
+    Planned::Take(place, start)
+}
+
+// All that open judges, for a store of n bytes.
+fn plan_open(held: Record, n: usize, settings: Settings, count: u32) -> Planned
+    ensures { λ r. ⌜ r ≡ planned (planOf held n settings count) ⌝ }
+{
+    if !places::is_good(held, n) {
+        return Planned::Refuse(Refusal::Record);
+    }
+    if !packet::settings_fit(settings) {
+        return Planned::Refuse(Refusal::Field);
+    }
+    if !places::count_fits(count) {
+        return Planned::Refuse(Refusal::Field);
+    }
+    if let Found::At(_) = places::find_place(held, settings.resource) {
+        return Planned::Refuse(Refusal::Held);
+    }
+    room_for(held, n, places::cover_of(count, settings.size))
+}
+
+// Opens a place for the `count` packets of a file under `settings`: the first unused one, from the lowest start at which its slots fit
+// the store and meet no other place. Each of its slots is then empty. Refused, record and store are as they came.
+pub fn open(held: Record, store: &mut [u8], settings: Settings, count: u32) -> Kept
+    ensures { λ r. ⌜ Opens held (now (store .entry)) settings count r (now (store .exit)) ⌝ }
+{
+    match plan_open(held, store.len(), settings, count) {
+        Planned::Refuse(refusal) => Kept {
+            record: held,
+            verdict: Verdict::Refused(refusal),
+        },
+        Planned::Take(i, start) => {
+            slots::clear_slots(store, start, count as usize, settings.size as usize + 2);
+            let mut next = held;
+            next.places[i] = places::place_of(settings, count, start as u32);
+            Kept {
+                record: next,
+                verdict: Verdict::Accepted,
+            }
+        }
+    }
+}
+
+// The same under the house setting.
+pub fn open_house(
+    held: Record,
+    store: &mut [u8],
+    resource: u16,
+    kind: u8,
+    update: u8,
+    count: u32,
+) -> Kept
+    ensures { λ r. ⌜ Opens held (now (store .entry)) (house resource kind update) count r (now (store .exit)) ⌝ }
+{
+    open(held, store, packet::house(resource, kind, update), count)
+}
+
+// Makes the place that holds a resource unused, all its fields 0. The store stays. Refused, the record is as it came.
+pub fn close(held: Record, store: &[u8], resource: u16) -> Kept
+    ensures { λ r. ⌜ r ≡ closeOf held (now (store .entry)) resource ⌝ }
+{
+    if !places::is_good(held, store.len()) {
+        return Kept {
+            record: held,
+            verdict: Verdict::Refused(Refusal::Record),
+        };
+    }
+    let Found::At(i) = places::find_place(held, resource) else {
+        return Kept {
+            record: held,
+            verdict: Verdict::Refused(Refusal::Unknown),
+        };
+    };
+    let mut next = held;
+    next.places[i] = Place {
+        resource: 0,
+        kind: 0,
+        update: 0,
+        count: 0,
+        protection: 0,
+        rows: 0,
+        slot: 0,
+        start: 0,
+    };
+    Kept {
+        record: next,
+        verdict: Verdict::Accepted,
+    }
+}
