@@ -1,2 +1,5 @@
 pub mod Calls
 pub mod Statements
+pub mod Wrong
+pub mod Misreadings
+pub mod Cases

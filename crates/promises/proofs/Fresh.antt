@@ -1,0 +1,94 @@
+-- Demand 3 from a fresh record over a store with room: every packet is packed, open is accepted, and the demand does the rest.
+-- Assumes nothing.
+use mathlib.Core.Path.{_≡_, refl, ap, subst, _∙_}
+use mathlib.Core.Bool.{Bool, true, false, cond, not, _&&_, _||_}
+use mathlib.Core.List.{List, [], _∷_, _++_}
+use Prim.Native.Nat.{ℕ, _+_, _-_, _*_, _≤_, _<_}
+use native.Mathlib.Nat.{mul-assoc}
+use native.Mathlib.Omega.{arith}
+use borrow.Author.Tests.{ne-eqb, le-ltb, le-leb, lt-leb}
+use lib.Dec.{eqb, leb, ltb}
+use lib.ListN.{length, drop}
+use Rattle.refusals.specs.declared.Verdict.the-variants.{Accepted}
+use Rattle.ground.proofs.Listed.{ceil-positive}
+use Rattle.packet.specs.declared.Settings.{Settings}
+use Rattle.packet.specs.Settings.{settingsFit}
+use Rattle.packet.proofs.Laws.{settings-facts}
+use Rattle.pack.specs.declared.Packed.the-variants.{Written}
+use Rattle.pack.specs.Pack.{Packing, largestFile, countOf, codedLength, packetOf, written, packOf}
+use Rattle.pack.proofs.Laws.{rows-positive, length-tables}
+use Rattle.layout.specs.Layout.{tablesOf}
+use Rattle.layout.proofs.Coded.{tables-reach}
+use Rattle.places.specs.declared.Found.the-variants.{At, Nothing}
+use Rattle.places.specs.Places.{inUse, usable, names, coverOf, countFits, freshRecord, placeNamed, firstFrom, firstUnused}
+use Rattle.places.proofs.Facts.{usable-whole}
+use Rattle.places.proofs.Keeping.{fresh-good}
+use Rattle.places.proofs.Named.{names-unused}
+use Rattle.places.proofs.Opened.{fresh-lowest}
+use Rattle.record.specs.Open.{take, planOf, Opening, openOf}
+use Rattle.record.proofs.PlanLaws.{Fitting, Taking, taking-plan, open-by}
+use Rattle.promises.specs.Calls.{Answer, State, step, run, fresh}
+use Rattle.promises.specs.Calls.Call.{packing, opening}
+use Rattle.promises.specs.Statements.{Protected, Carries, HandsOut, FreshHandsOut, FromFresh}
+use Rattle.promises.proofs.Demand.{demand-3}
+
+module _ (g : Settings) (file : List ℕ) (p : Protected g file) where
+  -- a file that is there has a packet
+  counted : countFits (countOf g (length file)) ≡ true
+  counted = rw (le-leb 1 (countOf g (length file)) (one-packet), le-leb (countOf g (length file)) 1048575 (p .count)) refl
+    where
+      one-packet : 1 ≤ countOf g (length file)
+      one-packet =
+          let plain : g .protection ≡ 0 → ⊥ = λ z. omega (arith, p .protection) in
+          let t : ℕ = tablesOf (g .rows) (length file) in
+          let reach : length file ≤ 239 * (g .rows * t) =
+          subst (λ (x : ℕ). length file ≤ x) (mul-assoc 239 (g .rows) t) (tables-reach (g .rows) (length file) (rows-positive g (p .fit) plain)) in
+          let coded : codedLength g (length file) ≡ 255 * (g .rows * t) = length-tables g (length file) plain ∙ mul-assoc 255 (g .rows) t in
+          ceil-positive (codedLength g (length file)) (g .size) (settings-facts g (p .fit) .size .least) (omega (arith, p .some))
+
+  packs : (n : ℕ) → n < countOf g (length file) → (out : List ℕ) → length (packetOf g file n) ≤ length out
+      → packOf file g n out ≡ record { answer = Written (length (packetOf g file n)); output = packetOf g file n ++ drop (length (packetOf g file n)) out }
+  unfolding packOf written
+  packs n below out room =
+      rw (
+        p .fit,
+        ne-eqb (length file) 0 (λ (z : length file ≡ 0). omega (arith, p .some)),
+        le-ltb largestFile (length file) (p .limit),
+        le-ltb 1048575 (countOf g (length file)) (p .count),
+        lt-leb (countOf g (length file)) n below,
+        le-ltb (length out) (length (packetOf g file n)) room,
+      ) refl
+
+  module _ (s : List ℕ) (fits : coverOf (countOf g (length file)) (g .size) ≤ length s) (limit : coverOf (countOf g (length file)) (g .size) ≤ 16777216) where
+    room : coverOf (countOf g (length file)) (g .size) ≤ usable (length s)
+    room = by (leb (length s) 16777216)
+      where
+        by : (b : Bool) → coverOf (countOf g (length file)) (g .size) ≤ cond b (length s) 16777216
+        by true = fits
+        by false = limit
+
+    -- the first place, from the start of the store on
+    pub takes : Taking freshRecord (length s) g (countOf g (length file)) 0 0
+    unfolding firstFrom
+    takes = record {
+      fitting = record { sound = fresh-good (length s); fits = p .fit; counted = counted };
+      absent = refl;
+      unused = refl;
+      lowest = fresh-lowest (length s) (coverOf (countOf g (length file)) (g .size)) room;
+    }
+
+    pub opens : step (opening g (countOf g (length file))) (fresh s) .answer ≡ Answer.opened Accepted
+    unfolding step
+    opens = ap (λ (o : Opening). Answer.opened (o .kept .verdict)) (open-by freshRecord s g (countOf g (length file)) (take 0 0) (taking-plan freshRecord (length s) g (countOf g (length file)) 0 0 takes))
+
+pub from-fresh : FromFresh step
+unfolding step
+from-fresh g file p s fits limit cs carried = record {
+  packs = packed;
+  opens = opens g file p s fits limit;
+  hands = demand-3 g file p (fresh s) (opens g file p s fits limit) cs carried;
+}
+  where
+    packed : (n : ℕ) → n < countOf g (length file) → (x : State) (out : List ℕ) → length (packetOf g file n) ≤ length out
+        → step (packing file g n out) x .answer ≡ Answer.packed (Written (length (packetOf g file n))) (packetOf g file n ++ drop (length (packetOf g file n)) out)
+    packed n below x out room = ap (λ (k : Packing). Answer.packed (k .answer) (k .output)) (packs g file p n below out room)

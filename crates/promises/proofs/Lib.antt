@@ -1,0 +1,13 @@
+pub mod Refusals
+pub mod Copies
+pub mod NoSecond
+pub mod Offers
+pub mod Views
+pub mod Sequences
+pub mod Judged
+pub mod Whole
+pub mod Demand
+pub mod Fresh
+pub mod Cases
+pub mod Turned
+pub mod Misread

@@ -1,0 +1,90 @@
+-- Our definitions are not the misreadings of document 01, section 9: an input on which each differs.
+-- Assumes nothing.
+use mathlib.Core.Path.{_≡_, refl, sym, ap, ap₂, _∙_}
+use mathlib.Core.Bool.{Bool, true, false, cond, true≢false}
+use mathlib.Core.List.{List, [], _∷_, _++_, flatten}
+use Prim.Native.Nat.{ℕ, _+_, _-_, _≤_, _<_}
+use native.Mathlib.Omega.{arith}
+use lib.ListN.{length, getD, take, drop, replicate}
+use Rattle.refusals.specs.declared.Refusal.the-variants.{Conflict}
+use Rattle.refusals.specs.declared.Verdict.the-variants.{Accepted}
+use Rattle.ground.specs.Bits.{sum}
+use Rattle.field.specs.Field.{product, carryless, reduce}
+use Rattle.crc.specs.Crc.{bit, bits, feed, crc, crc32Of}
+use Rattle.code.specs.Code.{add, scale}
+use Rattle.code.specs.Search.{Repaired, lower, remainder}
+use Rattle.code.specs.Repair.{checksOf}
+use Rattle.code.proofs.Exact.{repair-found}
+use Rattle.layout.specs.Layout.{infoOf, rowOf, codedFile}
+use Rattle.pack.specs.Pack.{fourBytes}
+use Rattle.places.specs.Places.{unused}
+use Rattle.contents.specs.Contents.{holding}
+use Rattle.record.specs.declared.Offered.{Offered}
+use Rattle.record.specs.declared.Offered.the-variants.{Stored}
+use Rattle.record.specs.Mend.{whole, behind, mendRows, payloadIn, mendedIn, agrees}
+use Rattle.record.specs.Offer.{putInto}
+use Rattle.record.specs.Hand.{handJoined}
+use Rattle.promises.proofs.Turned.{zero-row, wrong-row, wrong-near, wrong-bytes}
+use Rattle.promises.specs.Misreadings.{infoByRows, informationFirst, agreesBefore, keptIfFits, replacing, cutZeros}
+
+abbrev five : List ℕ
+five = 10 ∷ 11 ∷ 12 ∷ 13 ∷ 14 ∷ []
+
+-- filled by columns, row 0 of two goes on with 12; by rows it would go on with 11
+pub not-by-rows : infoByRows 2 five 0 0 ≡ infoOf 2 five 0 0 → ⊥
+unfolding infoByRows infoOf
+not-by-rows e = let z : _≡_ {A = ℕ} 11 12 = ap (λ (l : List ℕ). getD l 1 0) e in omega arith
+
+-- behind the 239 bytes of row 0 its checks follow, which are 0 here; the next row's first byte would be 1
+pub not-information-first : informationFirst 2 (0 ∷ 1 ∷ []) ≡ codedFile 2 (0 ∷ 1 ∷ []) → ⊥
+unfolding informationFirst codedFile infoOf rowOf checksOf remainder add scale lower product carryless reduce sum flatten
+not-information-first e = let z : _≡_ {A = ℕ} 1 0 = ap (λ (l : List ℕ). getD l 239 0) e in omega arith
+
+-- a row with one wrong byte, under the CRC of the repaired row and under that of the row as it is
+abbrev under : List ℕ → List ℕ
+under row = replicate 14 0 ++ (wrong-row ++ fourBytes (crc32Of (replicate 14 0 ++ row)))
+
+agrees-after : agrees (under zero-row) zero-row ≡ true
+unfolding agrees crc feed bits bit sum
+agrees-after = refl
+
+not-agrees-before : agreesBefore (under zero-row) ≡ false
+unfolding agreesBefore agrees crc feed bits bit sum
+not-agrees-before = refl
+
+-- the CRC is tested after repair: the packet agrees, though what was received does not
+pub not-before : agreesBefore (under zero-row) ≡ agrees (under zero-row) zero-row → ⊥
+not-before e = true≢false (sym agrees-after ∙ sym e ∙ not-agrees-before)
+
+-- a row is repaired though the CRC fits it as it is
+fits-before : agreesBefore (under wrong-row) ≡ true
+unfolding agreesBefore agrees crc feed bits bit sum
+fits-before = refl
+
+mended-all-the-same : mendedIn 1 (under wrong-row) ≡ whole (zero-row ++ [])
+unfolding mendedIn mendRows
+mended-all-the-same = ap (λ (a : Repaired). behind a 0 (whole [])) (repair-found wrong-row zero-row refl wrong-bytes wrong-near)
+
+pub not-kept : keptIfFits (under wrong-row) ≡ mendedIn 1 (under wrong-row) → ⊥
+unfolding keptIfFits
+not-kept e =
+    let f : whole wrong-row ≡ whole (zero-row ++ []) =
+    sym (ap (λ (t : Bool). cond t (whole wrong-row) (mendedIn 1 (under wrong-row))) fits-before) ∙ e ∙ mended-all-the-same in
+    let g : wrong-row ≡ zero-row ++ [] = cc in
+    let z : _≡_ {A = ℕ} 1 0 = ap (λ (l : List ℕ). getD l 0 0) g in
+    omega arith
+
+-- a stored payload stays
+pub not-replacing : replacing (holding (1 ∷ [])) (2 ∷ []) ≡ putInto (holding (1 ∷ [])) (2 ∷ []) → ⊥
+not-replacing e =
+    let f : Stored ≡ Offered.Refused Conflict = e in
+    let z : _≡_ {A = ℕ} 0 1 = cc in
+    omega arith
+
+-- a file of 7 and 0 is handed out with its 0
+pub zeros-handed : handJoined unused (7 ∷ 0 ∷ []) 2 (9 ∷ 9 ∷ []) ≡ record { answer = Accepted; output = 7 ∷ 0 ∷ [] }
+unfolding handJoined
+zeros-handed = refl
+
+pub not-cut : cutZeros (7 ∷ 0 ∷ []) ≡ 7 ∷ 0 ∷ [] → ⊥
+not-cut e = let z : _≡_ {A = ℕ} 1 2 = ap length e in omega arith

@@ -1,0 +1,59 @@
+-- No second file fits: each offered copy is one of both files, so their payloads are the same, and the tables undone are the same file.
+-- Assumes nothing.
+use mathlib.Core.Path.{_≡_, refl, sym, ap, ap₂, _∙_, subst}
+use mathlib.Core.Bool.{Bool, true, false}
+use mathlib.Core.List.{List, [], _∷_, flatten}
+use Prim.Native.Nat.{ℕ, _+_, _≤_, _<_}
+use native.Mathlib.Omega.{arith}
+use lib.ListN.{length}
+use Rattle.ground.specs.Lists.{listed}
+use Rattle.ground.proofs.Listed.{listed-ext}
+use Rattle.layout.specs.Layout.{undone}
+use Rattle.packet.specs.declared.Settings.{Settings}
+use Rattle.pack.specs.Pack.{countOf, payloadOf}
+use Rattle.pack.proofs.Laws.{joined-file}
+use Rattle.promises.specs.Calls.{Call, names}
+use Rattle.promises.specs.Calls.Call.{offering}
+use Rattle.promises.specs.Statements.{Protected, Copy, Fair, AllFair, Offers, Carries, NoSecondFile}
+use Rattle.promises.proofs.Copies.{copy-names, same-number, same-payload}
+
+-- an offer that is a copy for the one file, and fair for the other
+pub record Both (g : Settings) (a b : List ℕ) (n : ℕ) : Type 0 where
+  pub packet : List ℕ
+  pub one : Copy g a n packet
+  pub other : Fair g b (offering packet)
+
+both : (g : Settings) (a b : List ℕ) (n : ℕ) {cs : List Call} → Offers g a n cs → AllFair g b cs → Both g a b n
+both g a b n (Offers.here {q} c) (AllFair.next f rest) = record { packet = q; one = c; other = f }
+both g a b n (Offers.later o) (AllFair.next f rest) = both g a b n o rest
+
+-- true is not false
+clash : {A : Type 0} {t : Bool} → t ≡ true → t ≡ false → A
+clash p q = let z : _≡_ {A = ℕ} 0 1 = cc in absurd (omega arith)
+
+module _ (g : Settings) (a b : List ℕ) (pa : Protected g a) (pb : Protected g b) where
+  served : (n : ℕ) → n < countOf g (length a) → (q : List ℕ) → Copy g a n q → (c : Call) → c ≡ offering q → Fair g b c → payloadOf g a n ≡ payloadOf g b n
+  served n l q ca c e (Fair.copy m q′ lm cb) =
+      let s : q′ ≡ q = cc in
+      let cq : Copy g b m q = subst (Copy g b m) s cb in
+      same-payload g a b pa pb n m l lm q ca cq ∙ ap (payloadOf g b) (sym (same-number g a b pa pb n m l lm q ca cq))
+  served n l q ca c e (Fair.other q′ none) =
+      let s : q′ ≡ q = cc in
+      clash (copy-names g a pa n l q ca) (subst (λ (x : List ℕ). names (g .resource) x ≡ false) s none)
+  served n l q ca c e (Fair.packs x s k out) = let z : _≡_ {A = ℕ} 0 1 = cc in absurd (omega arith)
+  served n l q ca c e (Fair.opens s k) = let z : _≡_ {A = ℕ} 0 1 = cc in absurd (omega arith)
+  served n l q ca c e (Fair.asks r) = let z : _≡_ {A = ℕ} 0 1 = cc in absurd (omega arith)
+  served n l q ca c e (Fair.hands r k out) = let z : _≡_ {A = ℕ} 0 1 = cc in absurd (omega arith)
+  served n l q ca c e (Fair.closes r k) = let z : _≡_ {A = ℕ} 0 1 = cc in absurd (omega arith)
+
+pub no-second-file : NoSecondFile
+no-second-file g a b pa pb e cs ca cb =
+    let payloads : (n : ℕ) → n < countOf g (length a) → payloadOf g a n ≡ payloadOf g b n = λ n l.
+    let s = both g a b n (ca .every n l) (cb .fair) in
+    served g a b pa pb n l (s .packet) (s .one) (offering (s .packet)) refl (s .other) in
+    let joins : flatten (listed (payloadOf g a) (countOf g (length a)) 0) ≡ flatten (listed (payloadOf g b) (countOf g (length b)) 0) =
+    ap flatten (listed-ext (payloadOf g a) (payloadOf g b) (countOf g (length a)) 0 (λ k p l. payloads k (omega arith))
+    ∙ ap (λ (n : ℕ). listed (payloadOf g b) (countOf g n) 0) e) in
+    sym (joined-file g a (pa .fit) (pa .protection))
+    ∙ ap₂ (λ (sent : List ℕ) (n : ℕ). undone (g .rows) sent n 0) joins e
+    ∙ joined-file g b (pb .fit) (pb .protection)

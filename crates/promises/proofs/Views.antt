@@ -1,0 +1,155 @@
+-- What a call that is not about a resource leaves alone: the resource's place, and what its slots hold.
+-- Assumes nothing.
+use mathlib.Core.Path.{_≡_, refl, sym, ap, ap₂, _∙_, subst}
+use mathlib.Core.Logic.{_⊎_, inl, inr}
+use mathlib.Core.Bool.{Bool, true, false, cond, _&&_}
+use mathlib.Core.List.{List, [], _∷_}
+use Prim.Native.Nat.{ℕ, _+_, _≤_, _<_}
+use native.Mathlib.Omega.{arith}
+use borrow.Author.Tests.{eqb-true, eqb-false, eq-eqb, lt-ltb}
+use lib.Dec.{eqb, ltb}
+use lib.ListN.{length, getD, set}
+use Rattle.packet.specs.declared.Packet.{Packet}
+use Rattle.packet.specs.declared.Settings.{Settings}
+use Rattle.packet.specs.Packet.{resourceIn}
+use Rattle.packet.proofs.Laws.{resource-in}
+use Rattle.places.specs.declared.Place.{Place}
+use Rattle.places.specs.declared.Record.{Record}
+use Rattle.places.specs.declared.Found.{Found}
+use Rattle.places.specs.declared.Found.the-variants.{At, Nothing}
+use Rattle.places.specs.Places.{unused, inUse, good, placeNamed, placeOf, meets}
+use Rattle.places.proofs.Truth.{differ}
+use Rattle.places.proofs.Named.{names-in-use, names-resource}
+use Rattle.places.proofs.Facts.{good-apart}
+use Rattle.places.proofs.Holders.{found-names, unused-at}
+use Rattle.contents.specs.Slots.{cleared, stored}
+use Rattle.contents.specs.Contents.{Slot as Content, contents, slotAt}
+use Rattle.contents.proofs.Bytes.{length-stored}
+use Rattle.contents.proofs.Slots.{fits-room}
+use Rattle.contents.proofs.Places.{apart-meets, storing-leaves}
+use Rattle.record.specs.Open.{Plan, refuse, take, planOf, carriedOut, Opening, openOf, closedAt, closeOf}
+use Rattle.record.specs.Offer.{Offering, offerOf}
+use Rattle.record.proofs.PlanLaws.{Taking, taking, open-by}
+use Rattle.record.proofs.OpenLaws.{open-below, open-own, open-named-other, open-others, open-length, open-good, refused-record, refused-store}
+use Rattle.record.proofs.CloseLaws.{close-record, close-unknown, close-found, close-others, close-named-other, close-keeps}
+use Rattle.promises.specs.Calls.{Call, State, step, names, about}
+use Rattle.promises.specs.Calls.Call.{packing, opening, offering, asking, handing, closing}
+use Rattle.promises.proofs.Offers.{Told, Putting, offer-effect}
+
+-- the place of resource r, and what it holds, are as they were
+pub record Kept (r : ℕ) (h : Record) (s : List ℕ) (h′ : Record) (s′ : List ℕ) : Type 0 where
+  pub named : placeNamed (h′ .places) r ≡ placeNamed (h .places) r
+  pub same-place : (i : ℕ) → placeNamed (h .places) r ≡ At i → getD (h′ .places) i unused ≡ getD (h .places) i unused
+  pub same-contents : (i : ℕ) → placeNamed (h .places) r ≡ At i → contents (getD (h .places) i unused) s′ ≡ contents (getD (h .places) i unused) s
+
+kept-all : (r : ℕ) (h : Record) (s : List ℕ) → Kept r h s h s
+kept-all r h s = record { named = refl; same-place = λ i e. refl; same-contents = λ i e. refl }
+
+-- ---- offer
+
+-- where a packet that does not name r puts its payload is not r's place
+elsewhere : (r : ℕ) (q : List ℕ) (f : Packet) → Told q f → names r q ≡ false → f .resource ≡ r → ⊥
+elsewhere r q f t n e =
+    let x : resourceIn q ≡ r = sym (resource-in q) ∙ ap (λ (g : Packet). g .resource) (sym (t .fields)) ∙ e in
+    let y : names r q ≡ true = rw (lt-ltb 4 (length q) (omega (arith, t .least)), eq-eqb (resourceIn q) r x) refl in
+    differ (sym y ∙ n)
+
+pub offer-length : (h : Record) (s q : List ℕ) → length (offerOf h s q .store) ≡ length s
+offer-length h s q = by (offer-effect h s q)
+  where
+    by : (offerOf h s q .store ≡ s) ⊎ Putting h s q → length (offerOf h s q .store) ≡ length s
+    by (inl e) = ap length e
+    by (inr p) = ap (λ (o : Offering). length (o .store)) (p .after) ∙ length-stored s _ (p .payload)
+
+pub offer-leaves : (r : ℕ) (h : Record) (s q : List ℕ) → names r q ≡ false → Kept r h s h (offerOf h s q .store)
+offer-leaves r h s q n = by (offer-effect h s q)
+  where
+    at : (p : Putting h s q) (i : ℕ) → placeNamed (h .places) r ≡ At i → contents (getD (h .places) i unused) (offerOf h s q .store) ≡ contents (getD (h .places) i unused) s
+    at p i e =
+        let a = found-names (h .places) r i e in
+        let b = found-names (h .places) (p .fields .resource) (p .place) (p .named) in
+        let apart : p .place ≡ i → ⊥ = λ z.
+        elsewhere r q (p .fields) (p .told) n
+        (sym (names-resource (getD (h .places) (p .place) unused) (p .fields .resource) (b .1))
+        ∙ ap (λ (x : ℕ). getD (h .places) x unused .resource) z ∙ names-resource (getD (h .places) i unused) r (a .1)) in
+        let away : meets (getD (h .places) (p .place) unused) (getD (h .places) i unused) ≡ false =
+        apart-meets (getD (h .places) (p .place) unused) (getD (h .places) i unused)
+        (good-apart (length s) (h .places) (p .sound) (p .place) i (b .0) (a .0) apart
+        (names-in-use (getD (h .places) (p .place) unused) (p .fields .resource) (b .1)) (names-in-use (getD (h .places) i unused) r (a .1))) in
+        ap (λ (o : Offering). contents (getD (h .places) i unused) (o .store)) (p .after)
+        ∙ storing-leaves (getD (h .places) (p .place) unused) (getD (h .places) i unused) s (p .fields .number) (p .payload) away (p .within)
+        (fits-room (getD (h .places) (p .place) unused) (length (p .payload)) (p .fits))
+
+    by : (offerOf h s q .store ≡ s) ⊎ Putting h s q → Kept r h s h (offerOf h s q .store)
+    by (inl e) = record { named = refl; same-place = λ i p. refl; same-contents = λ i p. ap (contents (getD (h .places) i unused)) e }
+    by (inr p) = record { named = refl; same-place = λ i e. refl; same-contents = at p }
+
+-- ---- open
+
+module _ (h : Record) (s : List ℕ) (g : Settings) (count : ℕ) where
+  pub open-length-kept : length (openOf h s g count .store) ≡ length s
+  open-length-kept = by (planOf h (length s) g count) refl
+    where
+      by : (p : Plan) → planOf h (length s) g count ≡ p → length (openOf h s g count .store) ≡ length s
+      by (refuse r) e = ap length (refused-store h s g count r e)
+      by (take i start) e = ap (λ (o : Opening). length (o .store)) (open-by h s g count (take i start) e) ∙ open-length h s g count i start (taking h (length s) g count i start e)
+
+  pub open-leaves : (r : ℕ) → (g .resource ≡ r → ⊥) → Kept r h s (openOf h s g count .kept .«record») (openOf h s g count .store)
+  open-leaves r d = by (planOf h (length s) g count) refl
+    where
+      by : (p : Plan) → planOf h (length s) g count ≡ p → Kept r h s (openOf h s g count .kept .«record») (openOf h s g count .store)
+      by (refuse t) e = rw (refused-record h s g count t e, refused-store h s g count t e) (kept-all r h s)
+      by (take i start) e =
+          let t = taking h (length s) g count i start e in
+          let away : (j : ℕ) → placeNamed (h .places) r ≡ At j → j ≡ i → ⊥ = λ j n z.
+          differ (sym (names-in-use (getD (h .places) j unused) r (found-names (h .places) r j n .1))
+          ∙ ap (λ (x : ℕ). inUse (getD (h .places) x unused)) z ∙ unused-at (h .places) i (t .unused) .1) in
+          rw (open-by h s g count (take i start) e) (record {
+            named = open-named-other h (length s) g count i start t r d;
+            same-place = λ j n. open-others h s g count i start t j (found-names (h .places) r j n .0) (away j n)
+                (names-in-use (getD (h .places) j unused) r (found-names (h .places) r j n .1)) .0;
+            same-contents = λ j n. open-others h s g count i start t j (found-names (h .places) r j n .0) (away j n)
+                (names-in-use (getD (h .places) j unused) r (found-names (h .places) r j n .1)) .1;
+          })
+
+-- ---- close
+
+pub close-leaves : (h : Record) (s : List ℕ) (x r : ℕ) → (x ≡ r → ⊥) → Kept r h s (closeOf h s x .«record») s
+close-leaves h s x r d = sound (good (length s) (h .places)) refl
+  where
+    at : good (length s) (h .places) ≡ true → (f : Found) → placeNamed (h .places) x ≡ f → Kept r h s (closeOf h s x .«record») s
+    at g Nothing e = rw (close-unknown h s x g e) (kept-all r h s)
+    at g (At i) e =
+        let away : (j : ℕ) → placeNamed (h .places) r ≡ At j → j ≡ i → ⊥ = λ j n z.
+        d (sym (names-resource (getD (h .places) i unused) x (found-names (h .places) x i e .1))
+        ∙ ap (λ (k : ℕ). getD (h .places) k unused .resource) (sym z) ∙ names-resource (getD (h .places) j unused) r (found-names (h .places) r j n .1)) in
+        rw (close-found h s x g i e) (record {
+          named = close-named-other (h .places) x i e r d;
+          same-place = λ j n. close-others (h .places) x i e j (away j n);
+          same-contents = λ j n. refl;
+        })
+
+    sound : (b : Bool) → good (length s) (h .places) ≡ b → Kept r h s (closeOf h s x .«record») s
+    sound true g = at g (placeNamed (h .places) x) refl
+    sound false g = rw (close-record h s x g) (kept-all r h s)
+
+-- ---- any call that is not about r
+
+pub step-leaves : (r : ℕ) (c : Call) (x : State) → about r c ≡ false → Kept r (x .held) (x .store) (step c x .state .held) (step c x .state .store)
+unfolding step
+step-leaves r (packing file g n out) x e = kept-all r (x .held) (x .store)
+step-leaves r (opening g count) x e = open-leaves (x .held) (x .store) g count r (eqb-false (g .resource) r e)
+step-leaves r (offering q) x e = offer-leaves r (x .held) (x .store) q e
+step-leaves r (asking y) x e = kept-all r (x .held) (x .store)
+step-leaves r (handing y n out) x e = kept-all r (x .held) (x .store)
+step-leaves r (closing y) x e = close-leaves (x .held) (x .store) y r (eqb-false y r e)
+
+-- the store keeps its length
+pub step-length : (c : Call) (x : State) → length (step c x .state .store) ≡ length (x .store)
+unfolding step
+step-length (packing file g n out) x = refl
+step-length (opening g count) x = open-length-kept (x .held) (x .store) g count
+step-length (offering q) x = offer-length (x .held) (x .store) q
+step-length (asking y) x = refl
+step-length (handing y n out) x = refl
+step-length (closing y) x = refl
