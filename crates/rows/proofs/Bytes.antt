@@ -2,7 +2,7 @@
 -- Assumes nothing.
 use mathlib.Core.Path.{_≡_, refl, sym, ap, ap₂, _∙_, subst}
 use mathlib.Core.List.{List, [], _∷_, _++_}
-use Prim.Native.Nat.{ℕ, zero, suc, _+_, _-_, _*_, _/_, _%_, _^_, _<_, _≤_}
+use Prim.Native.Nat.{ℕ, suc, _+_, _-_, _*_, _/_, _%_, _^_, _<_, _≤_}
 use native.Mathlib.Nat.{lt-of-lt-of-le}
 use native.Mathlib.Numerals.{add-one}
 use native.Mathlib.Omega.{arith}
@@ -12,40 +12,42 @@ use lib.Arith.{digits-lt}
 use lib.Pow.{pow-add, pow-mono}
 use Rattle.ground.proofs.Listed.{listed-append}
 use Rattle.ground.proofs.Writing.{sets-append}
-use Rattle.rows.specs.InnerRegister.{part, unpack, both}
+use Rattle.rows.specs.InnerRegister.{column, unpack, both}
 use Rattle.rows.proofs.Words.{length-unpack, unpack-push}
 
--- w has the n bytes from at on, and no more
-pub record Packing (d : List ℕ) (at w n : ℕ) : Type 0 where
+-- w has the n bytes from at on and m apart, and no more
+pub record Packing (d : List ℕ) (m at w n : ℕ) : Type 0 where
   pub within : n ≤ 8
   pub small : w < 2 ^ (n * 8)
-  pub held : unpack n w ≡ part d at n
+  pub held : unpack n w ≡ column d m at n
 
-pub packing-start : (d : List ℕ) (at : ℕ) → Packing d at 0 0
+pub packing-start : (d : List ℕ) (m at : ℕ) → Packing d m at 0 0
 unfolding unpack
-packing-start d at = record { within = omega arith; small = omega arith; held = refl }
+packing-start d m at = record { within = omega arith; small = omega arith; held = refl }
 
--- there is room for one byte more
-pub packing-room : (d : List ℕ) (at w n : ℕ) → n < 8 → Packing d at w n → w < 2 ^ 56
-packing-room d at w n h p = lt-of-lt-of-le (p .small) (pow-mono {i = n * 8} {j = 56} (omega arith))
+module _ (d : List ℕ) (m at w n : ℕ) (p : Packing d m at w n) where
+  -- there is room for one byte more
+  pub packing-room : n < 8 → w < 2 ^ 56
+  packing-room h = lt-of-lt-of-le (p .small) (pow-mono {i = n * 8} {j = 56} (omega arith))
 
-pub packing-more : (d : List ℕ) (at w n b : ℕ) → n < 8 → b < 256 → b ≡ getD d (at + n) 0 → Packing d at w n → Packing d at (w * 256 + b) (n + 1)
-packing-more d at w n b h j e p =
-    let s : n * 8 + 8 ≡ (n + 1) * 8 = omega arith in
-    record {
-      within = omega arith;
-      small = subst (λ (x : ℕ). w * 256 + b < x) (sym (pow-add 2 (n * 8) 8) ∙ ap (λ (x : ℕ). 2 ^ x) s) (digits-lt (p .small) j);
-      held =
-          ap (λ (k : ℕ). unpack k (w * 256 + b)) (add-one n) ∙ unpack-push n w b j
-          ∙ ap₂ (λ (l : List ℕ) (x : ℕ). l ++ (x ∷ [])) (p .held) e
-          ∙ sym (listed-append (λ k. getD d k 0) n 1 at);
-    }
+  pub packing-more : (b : ℕ) → n < 8 → b < 256 → b ≡ getD d (at + n * m) 0 → Packing d m at (w * 256 + b) (n + 1)
+  packing-more b h j e =
+      let s : n * 8 + 8 ≡ (n + 1) * 8 = omega arith in
+      let z : n ≡ 0 + n = omega arith in
+      record {
+        within = omega arith;
+        small = subst (λ (x : ℕ). w * 256 + b < x) (sym (pow-add 2 (n * 8) 8) ∙ ap (λ (x : ℕ). 2 ^ x) s) (digits-lt (p .small) j);
+        held =
+            ap (λ (k : ℕ). unpack k (w * 256 + b)) (add-one n) ∙ unpack-push n w b j
+            ∙ ap₂ (λ (l : List ℕ) (x : ℕ). l ++ (x ∷ [])) (p .held) (e ∙ ap (λ (k : ℕ). getD d (at + k * m) 0) z)
+            ∙ sym (listed-append (λ c. getD d (at + c * m) 0) n 1 0);
+      }
 
-pub packing-done : (d : List ℕ) (at w n : ℕ) → 8 ≤ n → Packing d at w n → unpack 8 w ≡ part d at 8
-packing-done d at w n h p =
-    let m : n ≤ 8 = p .within in
-    let e : n ≡ 8 = omega arith in
-    ap (λ (k : ℕ). unpack k w) (sym e) ∙ p .held ∙ ap (part d at) e
+  pub packing-done : 8 ≤ n → unpack 8 w ≡ column d m at 8
+  packing-done h =
+      let j : n ≤ 8 = p .within in
+      let e : n ≡ 8 = omega arith in
+      ap (λ (k : ℕ). unpack k w) (sym e) ∙ p .held ∙ ap (column d m at) e
 
 -- the top bytes of w are written; its k low bytes are left
 pub record Unpacking (w at : ℕ) (out₀ out : List ℕ) (i k : ℕ) : Type 0 where

@@ -1,17 +1,17 @@
 -- The constant table keeps its rule: its first two rows are products with the generator, and each further row is the one two above it with a byte of 0 more
 -- behind it. Both are computed. Assumes nothing.
-use mathlib.Core.Path.{_≡_, refl, sym, ap, ap₂, _∙_, subst}
+use mathlib.Core.Path.{_≡_, refl, sym, ap, ap₂, _∙_}
 use mathlib.Core.List.{List, [], _∷_, _++_, map}
-use Prim.Native.Nat.{ℕ, zero, suc, _+_, _*_, _/_, _%_, _^_, _<_, _≤_}
+use Prim.Native.Nat.{ℕ, zero, suc, _+_, _*_, _/_, _%_, _^_, _<_}
 use native.Mathlib.Nat.{mod-lt, zero-lt-suc, mul-assoc, lt-of-lt-of-le}
 use native.Mathlib.Omega.{arith}
 use lib.ListN.{length, getD, take, drop, List·getD-append, List·getD-map}
 use lib.Seq.{getD-take, getD-drop, getD-append-add}
 use lib.Pow.{pow-add, pow-mono, shl-lt}
-use lib.Bits.{bitXor, xor-shifted}
+use lib.Bits.{xor-shifted}
 use Rattle.ground.specs.Bits.{sum}
 use Rattle.ground.proofs.Sums.{sum-zero}
-use Rattle.ground.proofs.Listed.{length-listed, getD-listed-0}
+use Rattle.ground.proofs.Listed.{getD-listed-0}
 use Rattle.ground.specs.Lists.{listed}
 use Rattle.code.specs.Code.{add, scale}
 use Rattle.code.specs.Search.{lower}

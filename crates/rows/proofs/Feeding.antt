@@ -1,20 +1,20 @@
 -- A row goes into the register word by word, the first word one byte short: what the loop of `register::checks` keeps, and what comes out.
 -- Assumes nothing.
-use mathlib.Core.Path.{_≡_, refl, sym, ap, ap₂, _∙_}
+use mathlib.Core.Path.{_≡_, sym, ap, ap₂, _∙_}
 use mathlib.Core.List.{List, [], _∷_, _++_}
 use Prim.Native.Nat.{ℕ, _+_, _-_, _*_, _/_, _%_, _^_, _<_, _≤_}
 use native.Mathlib.Omega.{arith}
 use lib.ListN.{length, getD, take}
 use lib.Seq.{take-at}
 use lib.Bits.{bitXor}
-use Rattle.ground.proofs.Listed.{length-listed, listed-append, listed-whole}
+use Rattle.ground.proofs.Listed.{length-listed, listed-append, listed-same, listed-whole}
 use Rattle.code.specs.Code.{add}
 use Rattle.code.specs.Search.{remainder}
 use Rattle.code.specs.Register.{run}
 use Rattle.code.specs.Repair.{checksOf}
 use Rattle.code.proofs.Lists.{zeros}
 use Rattle.code.proofs.Division.{remainder-row, run-checks}
-use Rattle.rows.specs.InnerRegister.{part, unpack, both}
+use Rattle.rows.specs.InnerRegister.{part, column, unpack, both, Feeding}
 use Rattle.rows.proofs.Words.{length-unpack, unpack-push, unpack-top, both-zero, both-xor}
 use Rattle.rows.proofs.Turns.{run-append, next-zeros}
 
@@ -28,26 +28,27 @@ length-part d i n = length-listed (λ j. getD d j 0) n i
 pub part-whole : (d : List ℕ) (n : ℕ) → length d ≡ n → part d 0 n ≡ d
 part-whole d n e = ap (part d 0) (sym e) ∙ listed-whole d 0
 
+-- bytes that stand side by side
+column-one : (d : List ℕ) (i n : ℕ) → column d 1 i n ≡ part d i n
+column-one d i n =
+    listed-same (λ c. getD d (i + c * 1) 0) (λ k. getD d k 0) n 0 i
+    (λ k h. let e : i + (0 + k) * 1 ≡ i + k = omega arith in ap (λ (j : ℕ). getD d j 0) e)
+
 -- a word less its last byte
-seven : (d : List ℕ) (at w : ℕ) → unpack 8 w ≡ part d at 8 → unpack 7 (w / 256) ≡ part d at 7
+seven : (d : List ℕ) (at w : ℕ) → unpack 8 w ≡ column d 1 at 8 → unpack 7 (w / 256) ≡ part d at 7
 seven d at w e =
     let b : w % 256 < 256 = omega arith in
     let s : w ≡ w / 256 * 256 + w % 256 = omega arith in
     sym (take-at (unpack 7 (w / 256)) (w % 256 ∷ []) 7 (length-unpack 7 (w / 256)))
-    ∙ ap (take 7) (sym (ap (unpack 8) s ∙ unpack-push 7 (w / 256) (w % 256) b) ∙ e)
+    ∙ ap (take 7) (sym (ap (unpack 8) s ∙ unpack-push 7 (w / 256) (w % 256) b) ∙ e ∙ column-one d at 8)
 
-short : (d : List ℕ) (at w : ℕ) → w < 2 ^ 64 → unpack 8 w ≡ part d at 8 → run (both 0 0) (unpack 8 (w / 256)) ≡ run (zeros 16) (part d at 7)
+short : (d : List ℕ) (at w : ℕ) → w < 2 ^ 64 → unpack 8 w ≡ column d 1 at 8 → run (both 0 0) (unpack 8 (w / 256)) ≡ run (zeros 16) (part d at 7)
 unfolding run
 short d at w h e =
     ap₂ run both-zero (unpack-top (w / 256) (omega arith) ∙ ap (λ (l : List ℕ). 0 ∷ l) (seven d at w e))
     ∙ ap (λ (r : List ℕ). run r (part d at 7)) next-zeros
 
--- the register holds r after 8 · k + 7 bytes: what is left gives the same
-pub record Feeding (d : List ℕ) (at : ℕ) (r : List ℕ) (k : ℕ) : Type 0 where
-  pub within : k ≤ 29
-  pub left : run r (part d (at + 8 * k + 7) (8 * (29 - k))) ≡ run (zeros 16) (part d at 239)
-
-pub feeding-start : (d : List ℕ) (at w : ℕ) (r : List ℕ) → w < 2 ^ 64 → unpack 8 w ≡ part d at 8 → r ≡ run (both 0 0) (unpack 8 (w / 256)) → Feeding d at r 0
+pub feeding-start : (d : List ℕ) (at w : ℕ) (r : List ℕ) → w < 2 ^ 64 → unpack 8 w ≡ column d 1 at 8 → r ≡ run (both 0 0) (unpack 8 (w / 256)) → Feeding d at r 0
 feeding-start d at w r h e q =
     let o : at + 0 + 7 ≡ at + 7 = omega arith in
     record {
@@ -57,7 +58,7 @@ feeding-start d at w r h e q =
           ∙ sym (run-append (zeros 16) (part d at 7) (part d (at + 7) 232)) ∙ ap (run (zeros 16)) (sym (part-append d at 7 232));
     }
 
-pub feeding-more : (d : List ℕ) (at w k : ℕ) (r s : List ℕ) → k < 29 → unpack 8 w ≡ part d (at + 8 * k + 7) 8 → s ≡ run r (unpack 8 w) → Feeding d at r k
+pub feeding-more : (d : List ℕ) (at w k : ℕ) (r s : List ℕ) → k < 29 → unpack 8 w ≡ column d 1 (at + 8 * k + 7) 8 → s ≡ run r (unpack 8 w) → Feeding d at r k
     → Feeding d at s (k + 1)
 feeding-more d at w k r s h e q f =
     let i : ℕ = at + 8 * k + 7 in
@@ -67,7 +68,7 @@ feeding-more d at w k r s h e q f =
     record {
       within = omega arith;
       left =
-          ap₂ (λ (l : List ℕ) (j : ℕ). run l (part d j n)) (q ∙ ap (run r) e) o
+          ap₂ (λ (l : List ℕ) (j : ℕ). run l (part d j n)) (q ∙ ap (run r) (e ∙ column-one d i 8)) o
           ∙ sym (run-append r (part d i 8) (part d (i + 8) n)) ∙ ap (run r) (sym (part-append d i 8 n) ∙ ap (part d i) p)
           ∙ f .left;
     }
@@ -80,11 +81,11 @@ feeding-done d at k r h f =
     ap (λ (n : ℕ). run r (part d (at + 8 * k + 7) n)) (sym e) ∙ f .left ∙ run-checks (part d at 239) (length-part d at 239)
 
 -- the checks of a row, less those that came with it
-pub rest-is : (row : List ℕ) (h l x y : ℕ) → length row ≡ 255 → both h l ≡ checksOf (part row 0 239) → unpack 8 x ≡ part row 239 8 → unpack 8 y ≡ part row 247 8
+pub rest-is : (row : List ℕ) (h l x y : ℕ) → length row ≡ 255 → both h l ≡ checksOf (part row 0 239) → unpack 8 x ≡ column row 1 239 8 → unpack 8 y ≡ column row 1 247 8
     → both (bitXor h x) (bitXor l y) ≡ remainder 239 row
 unfolding both
 rest-is row h l x y n e u v =
     both-xor h l x y
-    ∙ ap₂ add e (ap₂ _++_ u v ∙ sym (part-append row 239 8 8))
+    ∙ ap₂ add e (ap₂ _++_ (u ∙ column-one row 239 8) (v ∙ column-one row 247 8) ∙ sym (part-append row 239 8 8))
     ∙ sym (remainder-row (part row 0 239) (part row 239 16) (length-part row 0 239) (length-part row 239 16))
     ∙ ap (remainder 239) (sym (part-append row 0 239 16) ∙ part-whole row 255 n)

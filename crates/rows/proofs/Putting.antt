@@ -5,15 +5,15 @@ use mathlib.Core.List.{List, [], _∷_, _++_, append-assoc, append-nil, flatten}
 use Prim.Native.Nat.{ℕ, zero, suc, _+_, _-_, _*_, _<_, _≤_}
 use native.Mathlib.Nat.{add-mul, one-mul, mul-le-mul}
 use native.Mathlib.Omega.{arith}
-use lib.ListN.{length, getD, take, drop, length-append}
-use lib.Seq.{sets, sets-eq, length-sets, take-at, drop-at, length-take-le}
+use lib.ListN.{length, getD, set, take, drop, length-append}
+use lib.Seq.{set-comm, sets, sets-eq, length-sets, take-at, drop-at, length-take-le}
 use Rattle.ground.specs.Lists.{listed}
-use Rattle.ground.proofs.Listed.{length-listed, listed-append, listed-part}
-use Rattle.ground.proofs.Writing.{sets-append, sets-front}
+use Rattle.ground.proofs.Listed.{length-listed, listed-append, listed-same, listed-part}
+use Rattle.ground.proofs.Writing.{sets-append, Run, run-jump}
 use Rattle.code.specs.Repair.{checksOf}
 use Rattle.code.proofs.Division.{length-checks}
-use Rattle.rows.specs.Put.{infoFrom, codedRow, rowsFrom, putServes, putRows}
-use Rattle.rows.specs.InnerRegister.{part, both}
+use Rattle.rows.specs.Put.{infoFrom, codedRow, rowsFrom}
+use Rattle.rows.specs.InnerRegister.{part, column, unpack}
 
 -- ---- places in the file
 
@@ -22,6 +22,34 @@ within c m h j = mul-le-mul {n₁ = c} {m₁ = m} {n₂ = 238} {m₂ = 255} (ome
 
 pub further : (c m : ℕ) → (c + 1) * m ≡ c * m + m
 further c m = add-mul c 1 m ∙ ap (λ (k : ℕ). c * m + k) (one-mul m)
+
+-- bytes further on
+column-from : (file : List ℕ) (m at i n : ℕ) → column file m (at + i * m) n ≡ listed (λ c. getD file (at + c * m) 0) n i
+column-from file m at i n =
+    listed-same (λ c. getD file (at + i * m + c * m) 0) (λ c. getD file (at + c * m) 0) n 0 i
+    (λ k h.
+    let z : 0 + k ≡ k = omega arith in
+    let e : at + i * m + k * m ≡ at + (i + k) * m = omega (arith, add-mul i k m) in
+    ap (λ (c : ℕ). getD file (at + i * m + c * m) 0) z ∙ ap (λ (j : ℕ). getD file j 0) e)
+
+-- eight bytes more, where 8 · c are written
+pub words-more : (file : List ℕ) (m at o c w : ℕ) (out₀ out next : List ℕ) → c < 29 → unpack 8 w ≡ column file m (at + 8 * c * m) 8 → next ≡ sets out (o + 8 * c) (unpack 8 w)
+    → Run (λ j. getD file (at + j * m) 0) 232 o out₀ out (8 * c) → Run (λ j. getD file (at + j * m) 0) 232 o out₀ next (8 * (c + 1))
+words-more file m at o c w out₀ out next h e f r =
+    let s : 8 * c + 8 ≡ 8 * (c + 1) = omega arith in
+    subst (λ (k : ℕ). Run (λ j. getD file (at + j * m) 0) 232 o out₀ next k) s
+    (run-jump (λ j. getD file (at + j * m) 0) 232 o out₀ out (8 * c) r 8 next (omega arith) (f ∙ ap (sets out (o + 8 * c)) (e ∙ column-from file m at (8 * c) 8)))
+
+-- the last seven behind them
+pub info-put : (file : List ℕ) (m at : ℕ) (out : List ℕ) (o : ℕ) (x y : List ℕ) → x ≡ sets out o (column file m at 232) → y ≡ sets x (o + 232) (column file m (at + 232 * m) 7)
+    → y ≡ sets out o (infoFrom file m at)
+unfolding infoFrom
+info-put file m at out o x y e f =
+    f
+    ∙ ap₂ (λ (k : ℕ) (l : List ℕ). sets x (o + k) l) (sym (length-listed (λ c. getD file (at + c * m) 0) 232 0)) (column-from file m at 232 7)
+    ∙ ap (λ (l : List ℕ). sets l (o + length (column file m at 232)) (listed (λ c. getD file (at + c * m) 0) 7 232)) e
+    ∙ sym (sets-append out o (column file m at 232) (listed (λ c. getD file (at + c * m) 0) 7 232))
+    ∙ ap (sets out o) (sym (listed-append (λ c. getD file (at + c * m) 0) 232 7 0))
 
 -- ---- rows
 
@@ -71,14 +99,73 @@ part-sets l xs o n e h =
     ∙ ap (take n) (drop-at (take o l) (xs ++ drop (o + length xs) l) o (length-take-le o l (omega arith)))
     ∙ take-at xs (drop (o + length xs) l) n e
 
-pub row-put : (file : List ℕ) (m at : ℕ) (out : List ℕ) (o : ℕ) (c : List ℕ) → o + 255 ≤ length out → c ≡ checksOf (part (sets out o (infoFrom file m at)) o 239)
-    → sets (sets out o (infoFrom file m at)) (o + 239) c ≡ sets out o (rowsFrom file m at 1)
+row-written : (l : List ℕ) (o : ℕ) (info : List ℕ) → length info ≡ 239 → sets (sets l o info) (o + 239) (checksOf info) ≡ sets l o (codedRow info)
 unfolding codedRow
-row-put file m at out o c h e =
+row-written l o info n =
+    ap (λ (k : ℕ). sets (sets l o info) (o + k) (checksOf info)) (sym n) ∙ sym (sets-append l o info (checksOf info))
+
+pub row-put : (file : List ℕ) (m at : ℕ) (out : List ℕ) (o : ℕ) (x y c : List ℕ) → o + 255 ≤ length out → x ≡ sets out o (infoFrom file m at)
+    → c ≡ checksOf (part x o 239) → y ≡ sets x (o + 239) c → y ≡ sets out o (rowsFrom file m at 1)
+row-put file m at out o x y c h e f g =
     let info : List ℕ = infoFrom file m at in
     let n : length info ≡ 239 = length-info file m at in
-    ap₂ (λ (k : ℕ) (x : List ℕ). sets (sets out o info) (o + k) x) (sym n) (e ∙ ap checksOf (part-sets out info o 239 n (omega arith)))
-    ∙ sym (sets-append out o info (checksOf info)) ∙ ap (sets out o) (sym (rows-one file m at))
+    let k : c ≡ checksOf info = f ∙ ap checksOf (ap (λ (l : List ℕ). part l o 239) e ∙ part-sets out info o 239 n (omega arith)) in
+    g ∙ ap₂ (λ (l d : List ℕ). sets l (o + 239) d) e k ∙ row-written out o info n ∙ ap (sets out o) (sym (rows-one file m at))
+
+-- ---- two rows written: writes that do not meet may change places
+
+set-apart : (l : List ℕ) (i x j : ℕ) (ys : List ℕ) → i < j → set (sets l j ys) i x ≡ sets (set l i x) j ys
+set-apart l i x j [] h = refl
+set-apart l i x j (y ∷ ys) h =
+    set-apart (set l j y) i x (suc j) ys (omega arith)
+    ∙ ap (λ (k : List ℕ). sets k (suc j) ys) (set-comm l j i y x (λ e. omega arith))
+
+sets-apart : (l : List ℕ) (i : ℕ) (xs : List ℕ) (j : ℕ) (ys : List ℕ) → i + length xs ≤ j → sets (sets l j ys) i xs ≡ sets (sets l i xs) j ys
+sets-apart l i [] j ys h = refl
+sets-apart l i (x ∷ xs) j ys h =
+    ap (λ (k : List ℕ). sets k (suc i) xs) (set-apart l i x j ys (omega arith)) ∙ sets-apart (set l i x) (suc i) xs j ys (omega arith)
+
+module _ (file : List ℕ) (m at : ℕ) (out : List ℕ) (o : ℕ) (room : o + 510 ≤ length out) where
+  abbrev info : ℕ → List ℕ
+  info i = infoFrom file m i
+
+  -- the information of both rows
+  abbrev both-informed : List ℕ
+  both-informed = sets (sets out o (info at)) (o + 255) (info (at + 1))
+
+  first-part : part both-informed o 239 ≡ info at
+  first-part =
+      let n : length (info at) ≡ 239 = length-info file m at in
+      let s : length (sets out (o + 255) (info (at + 1))) ≡ length out = length-sets out (o + 255) (info (at + 1)) in
+      ap (λ (l : List ℕ). part l o 239) (sym (sets-apart out o (info at) (o + 255) (info (at + 1)) (omega arith)))
+      ∙ part-sets (sets out (o + 255) (info (at + 1))) (info at) o 239 n (omega arith)
+
+  second-part : part both-informed (o + 255) 239 ≡ info (at + 1)
+  second-part =
+      let s : length (sets out o (info at)) ≡ length out = length-sets out o (info at) in
+      part-sets (sets out o (info at)) (info (at + 1)) (o + 255) 239 (length-info file m (at + 1)) (omega arith)
+
+  rows-two : rowsFrom file m at 2 ≡ codedRow (info at) ++ codedRow (info (at + 1))
+  rows-two = rows-append file m at 1 1 ∙ ap₂ _++_ (rows-one file m at) (rows-one file m (at + 1))
+
+  placed : sets (sets both-informed (o + 239) (checksOf (info at))) (o + 255 + 239) (checksOf (info (at + 1))) ≡ sets out o (rowsFrom file m at 2)
+  placed =
+      let n : length (info at) ≡ 239 = length-info file m at in
+      let k : length (checksOf (info at)) ≡ 16 = length-checks (info at) n in
+      ap (λ (l : List ℕ). sets l (o + 255 + 239) (checksOf (info (at + 1))))
+      (sets-apart (sets out o (info at)) (o + 239) (checksOf (info at)) (o + 255) (info (at + 1)) (omega arith)
+      ∙ ap (λ (l : List ℕ). sets l (o + 255) (info (at + 1))) (row-written out o (info at) n))
+      ∙ row-written (sets out o (codedRow (info at))) (o + 255) (info (at + 1)) (length-info file m (at + 1))
+      ∙ ap (λ (j : ℕ). sets (sets out o (codedRow (info at))) (o + j) (codedRow (info (at + 1)))) (sym (length-row file m at))
+      ∙ sym (sets-append out o (codedRow (info at)) (codedRow (info (at + 1)))) ∙ ap (sets out o) (sym rows-two)
+
+  pub rows-put : (u x y z c d : List ℕ) → u ≡ sets out o (info at) → x ≡ sets u (o + 255) (info (at + 1)) → c ≡ checksOf (part x o 239)
+      → d ≡ checksOf (part x (o + 255) 239) → y ≡ sets x (o + 239) c → z ≡ sets y (o + 255 + 239) d → z ≡ sets out o (rowsFrom file m at 2)
+  rows-put u x y z c d e f p q g h =
+      let i : x ≡ both-informed = f ∙ ap (λ (l : List ℕ). sets l (o + 255) (info (at + 1))) e in
+      let j : c ≡ checksOf (info at) = p ∙ ap checksOf (ap (λ (l : List ℕ). part l o 239) i ∙ first-part) in
+      let k : d ≡ checksOf (info (at + 1)) = q ∙ ap checksOf (ap (λ (l : List ℕ). part l (o + 255) 239) i ∙ second-part) in
+      h ∙ ap₂ (λ (l b : List ℕ). sets l (o + 255 + 239) b) (g ∙ ap₂ (λ (l a : List ℕ). sets l (o + 239) a) i j) k ∙ placed
 
 -- ---- rows written one behind the other: r rows are; what is left makes what the whole makes
 pub record Putting (file : List ℕ) (m at n : ℕ) (out₀ out : List ℕ) (r : ℕ) : Type 0 where

@@ -1,11 +1,11 @@
 -- What `put_rows` serves: the tests of `encode::serves`, one after the other, and what is known where all of them passed.
 -- Assumes nothing.
 use mathlib.Core.Path.{_≡_, refl, sym, ap, _∙_}
-use mathlib.Core.Bool.{Bool, true, false, cond, _&&_}
+use mathlib.Core.Bool.{Bool, true, false, not, _&&_}
 use mathlib.Core.List.{List, _++_}
 use Prim.Native.Nat.{ℕ, _*_, _<_, _≤_}
 use native.Mathlib.Omega.{arith}
-use borrow.Author.Tests.{lt-ltb, le-ltb, le-leb, lt-leb, leb-true}
+use borrow.Author.Tests.{lt-ltb, le-ltb, le-leb, lt-leb, leb-true, not-true, not-false}
 use lib.Dec.{leb, ltb}
 use lib.ListN.{length, drop}
 use lib.Seq.{sets}
@@ -56,7 +56,7 @@ and-true : (a b : Bool) → a && b ≡ true → (a ≡ true) × (b ≡ true)
 and-true true b e = (refl, e)
 and-true false b e = (e, cc)
 
-pub served : (len m at n room : ℕ) → putServes len m at n room ≡ true → Served m at n room
+served : (len m at n room : ℕ) → putServes len m at n room ≡ true → Served m at n room
 unfolding putServes
 served len m at n room e =
     let a : Bool = ltb 0 m && leb m 255 in
@@ -70,15 +70,28 @@ served len m at n room e =
     let t = and-true (ltb 0 m) (leb m 255) (s .0) in
     record { rows = leb-true m 255 (t .1); count = leb-true n 15 (s .1); start = leb-true at 16777216 (r .1); room = leb-true (n * 255) room (p .1) }
 
--- ---- the output
-
-pub put-kept : (file : List ℕ) (m at n : ℕ) (out : List ℕ) → putServes (length file) m at n (length out) ≡ false → out ≡ putRows file m at n out
-unfolding putRows
-put-kept file m at n out e = rw e
-
+-- what is written where it serves
 pub put-done : (file : List ℕ) (m at n : ℕ) (out : List ℕ) → putServes (length file) m at n (length out) ≡ true → sets out 0 (rowsFrom file m at n) ≡ putRows file m at n out
 unfolding putRows
 put-done file m at n out e =
     let k : n * 255 ≤ length out = served (length file) m at n (length out) e .room in
     let l : length (rowsFrom file m at n) ≡ n * 255 = length-rows file m at n in
     rw e (sets-front out (rowsFrom file m at n) (omega arith) ∙ ap (λ (i : ℕ). rowsFrom file m at n ++ drop i out) l)
+
+-- ---- the call's two ends, where the tests said r
+
+pub put-served : (len m at n room : ℕ) (r : Bool) → r ≡ putServes len m at n room → not r ≡ false → Served m at n room
+put-served len m at n room r e h = served len m at n room (sym e ∙ not-false r h)
+
+module _ (file : List ℕ) (m at n : ℕ) (out : List ℕ) (r : Bool) (e : r ≡ putServes (length file) m at n (length out)) where
+  pub put-refused : not r ≡ true → (false ≡ putServes (length file) m at n (length out)) × (out ≡ putRows file m at n out)
+  unfolding putRows
+  put-refused h =
+      let f : putServes (length file) m at n (length out) ≡ false = sym e ∙ not-true r h in
+      (sym f, rw f)
+
+  pub put-written : (next : List ℕ) → not r ≡ false → next ≡ sets out 0 (rowsFrom file m at n)
+      → (true ≡ putServes (length file) m at n (length out)) × (next ≡ putRows file m at n out)
+  put-written next h g =
+      let f : putServes (length file) m at n (length out) ≡ true = sym e ∙ not-false r h in
+      (sym f, g ∙ put-done file m at n out f)

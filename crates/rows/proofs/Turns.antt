@@ -13,7 +13,7 @@ use Rattle.ground.proofs.Sums.{sum-zero, zero-sum, swap4}
 use Rattle.code.specs.Code.{add, scale}
 use Rattle.code.specs.Search.{lower, remainder}
 use Rattle.code.specs.Register.{next, run}
-use Rattle.code.proofs.Lists.{zeros, length-zeros, length-add, nil-add, add-comm, add-assoc, add-self, zeros-add, add-zeros, add-front, scale-sum}
+use Rattle.code.proofs.Lists.{zeros, length-zeros, length-add, add-comm, add-assoc, add-self, zeros-add, add-zeros, add-front, scale-sum}
 use Rattle.code.proofs.Division.{length-multiple, length-next, length-run, run-remainder, remainder-add}
 use Rattle.rows.specs.InnerRegister.{unpack, both, through, Halves}
 use Rattle.rows.proofs.Words.{length-unpack, length-both, unpack-zero, unpack-xor, unpack-push, unpack-byte, unpack-top, both-xor, add-beside}

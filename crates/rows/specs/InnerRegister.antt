@@ -2,7 +2,7 @@
 -- private functions, which nobody needs to believe. Assumes nothing.
 use mathlib.Core.Path.{_≡_}
 use mathlib.Core.List.{List, [], _∷_, _++_}
-use Prim.Native.Nat.{ℕ, zero, suc, _+_, _*_, _/_, _%_, _^_, _<_}
+use Prim.Native.Nat.{ℕ, zero, suc, _+_, _-_, _*_, _/_, _%_, _^_, _<_, _≤_}
 use lib.ListN.{length, getD, replicate}
 use Rattle.ground.specs.Lists.{listed}
 use Rattle.code.specs.Register.{run}
@@ -10,6 +10,10 @@ use Rattle.code.specs.Register.{run}
 -- n bytes of d, from byte i on
 abbrev pub part : List ℕ → ℕ → ℕ → List ℕ
 part d i n = listed (λ k. getD d k 0) n i
+
+-- n bytes of d, from byte i on and m apart
+abbrev pub column : List ℕ → ℕ → ℕ → ℕ → List ℕ
+column d m i n = listed (λ c. getD d (i + c * m) 0) n 0
 
 -- the low k bytes of w, the top one first
 unfoldable pub unpack : ℕ → ℕ → List ℕ
@@ -28,3 +32,8 @@ through w = run (replicate 16 0) (unpack 8 w)
 pub record Halves (t : List ℕ) : Type 0 where
   pub room : length t ≡ 512
   pub entry : (k v : ℕ) → k < 16 → v < 16 → both (getD t (32 * k + 2 * v) 0) (getD t (32 * k + 2 * v + 1) 0) ≡ through (v * 2 ^ (k * 4))
+
+-- the register holds r after the first 8 · k + 7 of 239 bytes: what is left gives what the whole gives
+pub record Feeding (d : List ℕ) (at : ℕ) (r : List ℕ) (k : ℕ) : Type 0 where
+  pub within : k ≤ 29
+  pub left : run r (part d (at + 8 * k + 7) (8 * (29 - k))) ≡ run (replicate 16 0) (part d at 239)

@@ -7,13 +7,19 @@ ghost use lib.Seq.{sets};
 ghost use Rattle.code.specs.Register.{run};
 ghost use Rattle.code.specs.Search.{remainder};
 ghost use Rattle.code.specs.Repair.{checksOf};
-ghost use Rattle.rows.specs.InnerRegister.{part, unpack, both, Halves};
+ghost use Rattle.rows.specs.InnerRegister.{part, column, unpack, both, Halves, Feeding};
 use crate::halves;
 
 // Sixteen bytes, the first one at the top of `h`.
 pub(crate) struct Reg {
     pub h: u64,
     pub l: u64,
+}
+
+// The registers of two rows.
+pub(crate) struct Two {
+    pub a: Reg,
+    pub b: Reg,
 }
 
 // The table.
@@ -55,18 +61,34 @@ fn wide(b: u8) -> u64
     b as u64
 }
 
-// Eight bytes as a word, the first one highest.
-fn word(d: &[u8], at: usize) -> u64
-    requires { ⌜ at + 8 ≤ length (now d) ⌝ }
-    ensures { λ w. ⌜ unpack 8 w ≡ part (now (d .entry)) at 8 ⌝ }
+// Eight bytes of `d`, from `at` on and m apart, as a word, the first one highest.
+pub(crate) fn word(d: &[u8], m: usize, at: usize) -> u64
+    requires { ⌜ (m ≤ 255) × (at + 7 * m < length (now d)) ⌝ }
+    ensures { λ w. ⌜ unpack 8 w ≡ column (now (d .entry)) m at 8 ⌝ }
 {
     let mut w: u64 = 0;
     let mut n: usize = 0;
     while n < 8 {
-        w = w * 256 + wide(d[at + n]);
+        w = w * 256 + wide(d[at + n * m]);
         n += 1;
     }
     w
+}
+
+// The register after the first seven of the 239 bytes of `d` from `at` on.
+fn begin(d: &[u8], at: usize, t: &[u64; 512]) -> Reg
+    requires { ⌜ (at + 239 ≤ length (now d)) × Halves (now t) ⌝ }
+    ensures { λ r. ⌜ Feeding (now (d .entry)) at (both (r .h) (r .l)) 0 ⌝ }
+{
+    turn(Reg { h: 0, l: 0 }, word(d, 1, at) / 256, t)
+}
+
+// The register after eight bytes more, of which there were k times eight.
+fn go_on(r: Reg, d: &[u8], at: usize, k: usize, t: &[u64; 512]) -> Reg
+    requires { ⌜ (at + 239 ≤ length (now d)) × (k < 29) × Feeding (now d) at (both (r .h) (r .l)) k × Halves (now t) ⌝ }
+    ensures { λ s. ⌜ Feeding (now (d .entry)) at (both (s .h) (s .l)) (k + 1) ⌝ }
+{
+    turn(r, word(d, 1, at + 8 * k + 7), t)
 }
 
 // The checks of the 239 bytes of `d` from `at` on.
@@ -74,13 +96,31 @@ pub(crate) fn checks(d: &[u8], at: usize, t: &[u64; 512]) -> Reg
     requires { ⌜ (at + 239 ≤ length (now d)) × Halves (now t) ⌝ }
     ensures { λ r. ⌜ both (r .h) (r .l) ≡ checksOf (part (now (d .entry)) at 239) ⌝ }
 {
-    let mut r = turn(Reg { h: 0, l: 0 }, word(d, at) / 256, t);
+    let mut r = begin(d, at, t);
     let mut k: usize = 0;
     while k < 29 {
-        r = turn(r, word(d, at + 8 * k + 7), t);
+        r = go_on(r, d, at, k, t);
         k += 1;
     }
     r
+}
+
+// The checks of two rows that stand one behind the other: of the 239 bytes from `at` on, and of those from `at + 255` on. The two registers take turns, so that
+// neither waits for the other.
+pub(crate) fn checks_two(d: &[u8], at: usize, t: &[u64; 512]) -> Two
+    requires { ⌜ (at + 494 ≤ length (now d)) × Halves (now t) ⌝ }
+    ensures { λ r. ⌜ (both (r .a .h) (r .a .l) ≡ checksOf (part (now (d .entry)) at 239)) × (both (r .b .h) (r .b .l) ≡ checksOf (part (now (d .entry)) (at + 255) 239)) ⌝ }
+{
+    let from = at + 255;
+    let mut a = begin(d, at, t);
+    let mut b = begin(d, from, t);
+    let mut k: usize = 0;
+    while k < 29 {
+        a = go_on(a, d, at, k, t);
+        b = go_on(b, d, from, k, t);
+        k += 1;
+    }
+    Two { a, b }
 }
 
 // The remainder of a row of 255 bytes.
@@ -90,8 +130,8 @@ pub(crate) fn rest(row: &[u8], t: &[u64; 512]) -> Reg
 {
     let q = checks(row, 0, t);
     Reg {
-        h: q.h ^ word(row, 239),
-        l: q.l ^ word(row, 247),
+        h: q.h ^ word(row, 1, 239),
+        l: q.l ^ word(row, 1, 247),
     }
 }
 
@@ -104,7 +144,7 @@ fn low(w: u64, k: u64) -> u8
 }
 
 // Writes the eight bytes of a word.
-fn put_word(out: &mut [u8], at: usize, w: u64)
+pub(crate) fn put_word(out: &mut [u8], at: usize, w: u64)
     requires { ⌜ at + 8 ≤ length (now out) ⌝ }
     ensures { λ r. ⌜ now (out .exit) ≡ sets (now (out .entry)) at (unpack 8 w) ⌝ }
 {

@@ -1,79 +1,61 @@
--- `encode::gather` reads every m-th byte of the file and writes the bytes one behind the other. The invariant: the place in the file, and that what is left to write makes
--- what the whole makes (`Run`). Assumes nothing.
-use mathlib.Core.Path.{_≡_, ap, _∙_}
-use Prim.Native.Nat.{ℕ, _+_, _-_, _*_}
-use native.Mathlib.Omega.{arith}
-use borrow.Author.Needs.{needs}
-use lib.ListN.{getD}
-use Rattle.ground.proofs.Writing.{Run, run-begin, run-step, run-end}
+-- `encode::gather` writes the words that the file has, and the seven bytes behind them; a row that reaches beyond the file byte by byte.
+-- Assumes nothing.
 use Rattle.rows.specs.Put.{infoFrom}
-use Rattle.rows.proofs.Putting.{within, further}
+use Rattle.rows.proofs.Putting.{info-put}
+use borrow.Author.Needs.{needs}
 use Rattle.rows.proofs.encode.gather.Statement.{statement}
 use Rattle.rows.proofs.encode.gather.Tie as tie
 
-abbrev Inv-loop : tie.InvT-loop
-Inv-loop file m at out₀ o i₀ c₀ out i c = (i ≡ at + c * m) × Run (λ j. getD file (at + j * m) 0) 239 o out₀ out c
+mul-if1 : tie.Need-mul-if1
+mul-if1 c = search needs
 
-abbrev μ-loop : tie.MeasureT-loop
-μ-loop file m at out₀ o i₀ c₀ out i c = 239 - c
+add-if1 : tie.Need-add-if1
+add-if1 c = search needs
 
-loop-holds : tie.Need-loop-holds Inv-loop μ-loop
-loop-holds c =
-    let s = c .before .before .args in
-    (omega arith, run-begin (λ j. getD (s .file .now) (s .at + j * s .m) 0) 239 (s .o) (s .out .now))
+words-requires : tie.Need-words-requires
+words-requires c κs = search needs
 
-byte-requires : tie.Need-byte-requires Inv-loop μ-loop
-byte-requires c κs = search needs
+mul-trail : tie.Need-mul-trail
+mul-trail c = search needs
 
-add-out : tie.Need-add-out Inv-loop μ-loop
-add-out c = search needs
+add-trail : tie.Need-add-trail
+add-trail c = search needs
 
-slice-write-out : tie.Need-slice-write-out Inv-loop μ-loop
-slice-write-out c = search needs
+add-trail-2 : tie.Need-add-trail-2
+add-trail-2 c = search needs
 
-add-i : tie.Need-add-i Inv-loop μ-loop
-add-i c =
-    let j : ℕ = c .before .before .loop .c in
-    let m : ℕ = c .before .before .before .before .before .args .m in
-    let e : c .before .before .loop .i ≡ c .before .before .before .before .before .args .at + j * m = c .before .before .loop .inv .0 in
-    omega (arith, within j m (search needs) (search needs))
+trail-requires : tie.Need-trail-requires
+trail-requires c κs = search needs
 
-add-c : tie.Need-add-c Inv-loop μ-loop
-add-c c = search needs
+trail-requires-2 : tie.Need-trail-requires-2
+trail-requires-2 c κs = search needs
 
-loop-less : tie.Need-loop-less Inv-loop μ-loop
-loop-less c = search needs
-
-loop-again : tie.Need-loop-again Inv-loop μ-loop
-loop-again c =
-    let s = c .before .before .before .before .before .args in
-    let j : ℕ = c .before .before .loop .c in
-    let e : c .before .before .loop .i ≡ s .at + j * s .m = c .before .before .loop .inv .0 in (
-      omega (arith, further j (s .m)),
-      run-step _ _ _ _ _ _ (c .before .before .loop .inv .1) (c .byte .result) (c .before .loop-test .taken)
-          (c .byte .ensures ∙ ap (λ (i : ℕ). getD (s .file .now) i 0) e),
-    )
-
-same-length : tie.Need-same-length Inv-loop μ-loop
+same-length : tie.Need-same-length
 same-length c = search needs
 
-returns : tie.Need-returns Inv-loop μ-loop
+returns : tie.Need-returns
+returns c = info-put _ _ _ _ _ _ _ (c .before .before .before .before .before .before .words .ensures) (c .before .before .trail .ensures)
+
+same-length-2 : tie.Need-same-length-2
+same-length-2 c = search needs
+
+returns-2 : tie.Need-returns-2
 unfolding infoFrom
-returns c = run-end _ _ _ _ _ _ (c .before .loop .inv .1) (c .loop-test .left)
+returns-2 c = c .before .before .trail2 .ensures
 
 pub gather-spec : {M : Type 1} → statement M
 gather-spec =
     tie.close
     (tie.spec
-    Inv-loop
-    μ-loop
-    loop-holds
-    byte-requires
-    add-out
-    slice-write-out
-    add-i
-    add-c
-    loop-less
-    loop-again
+    mul-if1
+    add-if1
+    words-requires
+    mul-trail
+    add-trail
+    add-trail-2
+    trail-requires
+    trail-requires-2
     same-length
-    returns)
+    returns
+    same-length-2
+    returns-2)

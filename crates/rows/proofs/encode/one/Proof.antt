@@ -1,12 +1,5 @@
 -- `encode::one` writes the information of a row, and behind it what the register makes of what was written.
 -- Assumes nothing.
-use mathlib.Core.Path.{ap, _∙_}
-use mathlib.Core.List.{List}
-use Prim.Native.Nat.{ℕ, _+_}
-use lib.Seq.{sets}
-use Rattle.code.specs.Repair.{checksOf}
-use Rattle.rows.specs.Put.{infoFrom}
-use Rattle.rows.specs.InnerRegister.{part, both}
 use Rattle.rows.proofs.Putting.{row-put}
 use borrow.Author.Needs.{needs}
 use Rattle.rows.proofs.encode.one.Statement.{statement}
@@ -29,14 +22,7 @@ same-length c = search needs
 
 returns : tie.Need-returns
 returns c =
-    let s = c .before .before .before .before .before .before .before .before .before .before .before .before .args in
-    let info : List ℕ = infoFrom (s .file .now) (s .m) (s .at) in
-    let e = c .before .before .before .before .before .before .before .before .gather .ensures in
-    let q : List ℕ = both (c .before .before .before .before .checks .result .h) (c .before .before .before .before .checks .result .l) in
-    c .before .before .put .ensures
-    ∙ ap (λ (l : List ℕ). sets l (s .o + 239) q) e
-    ∙ row-put (s .file .now) (s .m) (s .at) (s .out .now) (s .o) q (search needs)
-    (c .before .before .before .before .checks .ensures ∙ ap (λ (l : List ℕ). checksOf (part l (s .o) 239)) e)
+    row-put _ _ _ _ _ _ _ _ (search needs) (c .before .before .before .before .before .before .before .before .gather .ensures) (c .before .before .before .before .checks .ensures) (c .before .before .put .ensures)
 
 pub one-spec : {M : Type 1} → statement M
 one-spec =

@@ -1,8 +1,8 @@
--- `encode::rows` writes one row behind the other. The invariant: what is left to write makes what the whole makes (`Putting`).
+-- `encode::rows` writes two rows after two rows, and one where one is left. The invariant: what is left to write makes what the whole makes (`Putting`).
 -- Assumes nothing.
 use Prim.Native.Nat.{_-_}
-use borrow.Author.Needs.{needs}
 use Rattle.rows.proofs.Putting.{Putting, putting-start, putting-more, putting-done}
+use borrow.Author.Needs.{needs}
 use Rattle.rows.proofs.encode.rows.Statement.{statement}
 use Rattle.rows.proofs.encode.rows.Tie as tie
 
@@ -15,6 +15,27 @@ abbrev μ-loop : tie.MeasureT-loop
 loop-holds : tie.Need-loop-holds Inv-loop μ-loop
 loop-holds c = putting-start _ _ _ _ _
 
+add-if1 : tie.Need-add-if1 Inv-loop μ-loop
+add-if1 c = search needs
+
+add-two : tie.Need-add-two Inv-loop μ-loop
+add-two c = search needs
+
+mul-two : tie.Need-mul-two Inv-loop μ-loop
+mul-two c = search needs
+
+two-requires : tie.Need-two-requires Inv-loop μ-loop
+two-requires c κs = search needs
+
+add-r : tie.Need-add-r Inv-loop μ-loop
+add-r c = search needs
+
+loop-less : tie.Need-loop-less Inv-loop μ-loop
+loop-less c = search needs
+
+loop-again : tie.Need-loop-again Inv-loop μ-loop
+loop-again c = putting-more _ _ _ _ _ _ _ _ 2 (search needs) (c .before .before .two .ensures) (c .before .before .before .before .before .before .loop .inv)
+
 add-one : tie.Need-add-one Inv-loop μ-loop
 add-one c = search needs
 
@@ -24,14 +45,14 @@ mul-one c = search needs
 one-requires : tie.Need-one-requires Inv-loop μ-loop
 one-requires c κs = search needs
 
-add-r : tie.Need-add-r Inv-loop μ-loop
-add-r c = search needs
+add-r-2 : tie.Need-add-r-2 Inv-loop μ-loop
+add-r-2 c = search needs
 
-loop-less : tie.Need-loop-less Inv-loop μ-loop
-loop-less c = search needs
+loop-less-2 : tie.Need-loop-less-2 Inv-loop μ-loop
+loop-less-2 c = search needs
 
-loop-again : tie.Need-loop-again Inv-loop μ-loop
-loop-again c = putting-more _ _ _ _ _ _ _ _ 1 (search needs) (c .before .before .one .ensures) (c .before .before .before .before .before .loop .inv)
+loop-again-2 : tie.Need-loop-again-2 Inv-loop μ-loop
+loop-again-2 c = putting-more _ _ _ _ _ _ _ _ 1 (search needs) (c .before .before .one .ensures) (c .before .before .before .before .before .before .loop .inv)
 
 same-length : tie.Need-same-length Inv-loop μ-loop
 same-length c = search needs
@@ -46,11 +67,18 @@ rows-spec =
     Inv-loop
     μ-loop
     loop-holds
-    add-one
-    mul-one
-    one-requires
+    add-if1
+    add-two
+    mul-two
+    two-requires
     add-r
     loop-less
     loop-again
+    add-one
+    mul-one
+    one-requires
+    add-r-2
+    loop-less-2
+    loop-again-2
     same-length
     returns)

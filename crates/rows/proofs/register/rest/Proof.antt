@@ -16,7 +16,8 @@ word-requires-2 c κs = search needs
 
 returns : tie.Need-returns
 returns c =
-    rest-is _ _ _ _ _ (search needs) (c .before .before .before .before .checks .ensures) (c .before .before .before .word .ensures) (c .before .word2 .ensures)
+    rest-is _ _ _ _ _ (search needs) (c .before .before .before .before .checks .ensures) (c .before .before .before .word .ensures)
+    (c .before .word2 .ensures)
 
 pub rest-spec : {M : Type 1} → statement M
 rest-spec = tie.close (tie.spec checks-requires word-requires word-requires-2 returns)

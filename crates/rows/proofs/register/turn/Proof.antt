@@ -1,6 +1,6 @@
 -- `register::turn` moves the register up by eight bytes and adds what the bytes that leave it leave behind, one half byte after the other. The invariant: what is added,
 -- and what the rest of the word still leaves, make the whole (`Turning`). Assumes nothing.
-use mathlib.Core.Path.{_≡_, sym, ap, _∙_}
+use mathlib.Core.Path.{sym, ap, _∙_}
 use Prim.Native.Nat.{ℕ, _+_, _-_, _*_}
 use borrow.Author.Needs.{needs}
 use lib.Bits.{bitXor, xor-lt}
