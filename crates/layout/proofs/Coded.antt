@@ -3,7 +3,7 @@
 use mathlib.Core.Path.{_≡_, sym, ap, ap₂, _∙_}
 use mathlib.Core.List.{List, _++_, flatten}
 use Prim.Native.Nat.{ℕ, _+_, _-_, _*_, _/_, _%_, _<_, _≤_}
-use native.Mathlib.Nat.{mul-assoc, mul-comm, mul-pos, mod-lt, div-add-mod', zero-lt-suc}
+use native.Mathlib.Nat.{mul-assoc, mul-comm, mul-pos, mul-div-cancel-left, mul-mod-right, mod-lt, div-add-mod', zero-lt-suc}
 use native.Mathlib.Omega.{arith}
 use mathlib.Core.Logic.{⊎-elim}
 use lib.Arith.{digits-div, digits-mod}
@@ -65,6 +65,16 @@ info-from m file t r i =
 pub length-coded : (m : ℕ) (file : List ℕ) → length (codedFile m file) ≡ 255 * m * tablesOf m (length file)
 unfolding codedFile
 length-coded m file = length-listed (λ j. codedAt m file (sentSpot m j)) (255 * m * tablesOf m (length file)) 0
+
+-- whole tables, as many as the file needs
+pub coded-shape : (m : ℕ) (file : List ℕ) → 0 < m → length (codedFile m file) / 255 % m ≡ 0
+coded-shape m file h =
+    ap (λ (x : ℕ). x / 255 % m) (length-coded m file ∙ mul-assoc 255 m (tablesOf m (length file)))
+    ∙ ap (λ (x : ℕ). x % m) (mul-div-cancel-left (m * tablesOf m (length file)) {n = 255} (zero-lt-suc 254)) ∙ mul-mod-right m (tablesOf m (length file))
+
+pub coded-tables : (m : ℕ) (file : List ℕ) → 0 < m → length (codedFile m file) / (255 * m) ≡ tablesOf m (length file)
+coded-tables m file h =
+    ap (λ (x : ℕ). x / (255 * m)) (length-coded m file) ∙ mul-div-cancel-left (tablesOf m (length file)) {n = 255 * m} (mul-pos (zero-lt-suc 254) h)
 
 pub coded-bytes : (m : ℕ) (file : List ℕ) → Bytes file → Bytes (codedFile m file)
 unfolding codedFile

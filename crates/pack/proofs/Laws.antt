@@ -220,11 +220,6 @@ module _ (h b : List ℕ) (e : length h ≡ 14) where
   sealed-front =
       take-at (h ++ b) (fourBytes (crc32Of (h ++ b))) (length (sealed (h ++ b)) - 4) (omega (arith, length-sealed, length-append h b))
 
-  pub sealed-end : drop (length (sealed (h ++ b)) - 4) (sealed (h ++ b)) ≡ fourBytes (crc32Of (h ++ b))
-  unfolding sealed
-  sealed-end =
-      drop-at (h ++ b) (fourBytes (crc32Of (h ++ b))) (length (sealed (h ++ b)) - 4) (omega (arith, length-sealed, length-append h b))
-
 -- ---- four bytes behind a list, read as a number, are the number
 digits : (v a b c p q r s : ℕ) → a * 256 + s ≡ v → b * 256 + r ≡ a → c * 256 + q ≡ b → p ≡ c → p * 16777216 + q * 65536 + r * 256 + s ≡ v
 digits v a b c p q r s e f g h = omega arith
@@ -283,6 +278,12 @@ module _ (g : Settings) (file : List ℕ) (n : ℕ) where
   pub packet-payload : take (length (packetOf g file n) - 18) (drop 14 (packetOf g file n)) ≡ payloadOf g file n
   unfolding packetOf
   packet-payload = sealed-body front (payloadOf g file n) length-front
+
+  -- what the CRC covers
+  pub packet-front : take (length (packetOf g file n) - 4) (packetOf g file n) ≡ take 14 (packetOf g file n) ++ payloadOf g file n
+  unfolding packetOf
+  packet-front =
+      sealed-front front (payloadOf g file n) length-front ∙ ap (λ (x : List ℕ). x ++ payloadOf g file n) (sym (sealed-header front (payloadOf g file n) length-front))
 
   -- the last four bytes as a number are the CRC of the rest
   pub packet-crc : getD (packetOf g file n) (length (packetOf g file n) - 4) 0 * 16777216 + getD (packetOf g file n) (length (packetOf g file n) - 3) 0 * 65536

@@ -2,20 +2,20 @@
 -- Assumes nothing.
 use mathlib.Core.Path.{_≡_, refl, sym, ap, subst, _∙_}
 use mathlib.Core.Bool.{Bool, true, false, cond, not, _||_}
-use mathlib.Core.List.{List}
+use mathlib.Core.List.{List, _++_}
 use Prim.Native.Nat.{ℕ, zero, suc, _<_, _≤_}
 use native.Mathlib.Omega.{arith}
-use borrow.Author.Tests.{lt-ltb, le-ltb, le-leb, lt-leb, eq-eqb, ne-eqb, ltb-false, leb-false, eqb-false}
+use borrow.Author.Tests.{lt-ltb, le-ltb, le-leb, lt-leb, eq-eqb, ne-eqb, ltb-false, leb-false, eqb-false, not-false}
 use lib.Dec.{eqb, leb, ltb}
-use lib.ListN.{length}
+use lib.ListN.{length, drop}
 use Rattle.refusals.specs.declared.Refusal.{Refusal}
-use Rattle.refusals.specs.declared.Refusal.the-variants.{Number, Field, Size, Count}
+use Rattle.refusals.specs.declared.Refusal.the-variants.{Number, Field, Size, Count, Output}
 use Rattle.packet.specs.declared.Settings.{Settings}
 use Rattle.packet.specs.Settings.{settingsFit}
 use Rattle.pack.specs.Pack.{Packing, largestFile, countOf, packetOf, refusing, written, packOf, Packs}
 use Rattle.pack.specs.Inner.{payloadLength, planOf, Packable}
 use Rattle.pack.specs.declared.Packed.{Packed}
-use Rattle.pack.specs.declared.Packed.the-variants.{Refused}
+use Rattle.pack.specs.declared.Packed.the-variants.{Written, Refused}
 use Rattle.pack.specs.declared.Plan.{Plan}
 use Rattle.pack.specs.declared.Plan.the-variants.{Stop, Go}
 
@@ -85,10 +85,6 @@ passed : (t : Bool) (r : Refusal) (y : Plan) (c s : ℕ) → cond t (Stop r) y �
 passed true r y c s e = absurd (let z : _≡_ {A = ℕ} 0 1 = cc in omega arith)
 passed false r y c s e = (refl, e)
 
-yes : (b : Bool) → not b ≡ false → b ≡ true
-yes true e = refl
-yes false e = absurd (let z : _≡_ {A = ℕ} 0 1 = cc in omega arith)
-
 neither : (s t : Bool) → s || t ≡ false → (s ≡ false) × (t ≡ false)
 neither true t e = absurd (let z : _≡_ {A = ℕ} 0 1 = cc in omega arith)
 neither false t e = (refl, e)
@@ -109,7 +105,7 @@ planned g len n c s e =
       (
         k .1,
         record {
-          fits = yes (settingsFit g) (a .0);
+          fits = not-false (settingsFit g) (a .0);
           some = positive len (eqb-false len 0 (i .0));
           most = ltb-false largestFile len (i .1);
           few = ltb-false 1048575 (countOf g len) (d .0);
@@ -121,3 +117,33 @@ planned g len n c s e =
     positive : (x : ℕ) → (x ≡ 0 → ⊥) → 0 < x
     positive zero h = absurd (h refl)
     positive (suc x) h = omega arith
+
+-- ---- for the layers above
+
+-- a packet that can be made, and for which there is room, is written
+pub pack-accepts : (file : List ℕ) (g : Settings) (n : ℕ) (out : List ℕ) → Packable g (length file) n → length (packetOf g file n) ≤ length out
+    → packOf file g n out
+    ≡ record { answer = Written (length (packetOf g file n)); output = packetOf g file n ++ drop (length (packetOf g file n)) out }
+unfolding written
+pack-accepts file g n out p h =
+    let q : List ℕ = packetOf g file n in
+    packs-as-planned file g n out
+    ∙ ap (asPlanned file g n out) (sym (plan-go g (length file) n (p .fits) (λ (z : length file ≡ 0). let s : 0 < length file = p .some in omega arith) (p .most) (p .few) (p .below)))
+    ∙ ap (λ (b : Bool). cond b (refusing Output out) (record { answer = Written (length q); output = q ++ drop (length q) out })) (le-ltb (length out) (length q) h)
+
+-- what is refused leaves the output as it was
+refused-kept : (b : Bool) (q out : List ℕ) (r : Refusal)
+    → cond b (refusing Output out) (record { answer = Written (length q); output = q ++ drop (length q) out }) .answer ≡ Refused r
+    → cond b (refusing Output out) (record { answer = Written (length q); output = q ++ drop (length q) out }) .output ≡ out
+refused-kept true q out r e = refl
+refused-kept false q out r e = absurd (let z : _≡_ {A = ℕ} 0 1 = cc in omega arith)
+
+planned-kept : (p : Plan) (file : List ℕ) (g : Settings) (n : ℕ) (out : List ℕ) (r : Refusal) → asPlanned file g n out p .answer ≡ Refused r → asPlanned file g n out p .output ≡ out
+unfolding written
+planned-kept (Stop s) file g n out r e = refl
+planned-kept (Go c s) file g n out r e = refused-kept (ltb (length out) (length (packetOf g file n))) (packetOf g file n) out r e
+
+pub pack-refused : (file : List ℕ) (g : Settings) (n : ℕ) (out : List ℕ) (r : Refusal) → packOf file g n out .answer ≡ Refused r → packOf file g n out .output ≡ out
+pack-refused file g n out r e =
+    let w = packs-as-planned file g n out in
+    ap (λ (p : Packing). p .output) w ∙ planned-kept (planOf g (length file) n) file g n out r (sym (ap (λ (p : Packing). p .answer) w) ∙ e)
