@@ -1,12 +1,12 @@
 -- Status and Hand out, case by case, in the order of their refusals: 9, 10, 15, 21, 22, 23, 24, 26. Assumes nothing.
-use mathlib.Core.Path.{_≡_, refl, sym, ap, ap₂, _∙_}
-use mathlib.Core.Bool.{Bool, true, false, cond, not}
+use mathlib.Core.Path.{_≡_, refl, sym, ap, _∙_}
+use mathlib.Core.Bool.{Bool, true, false}
 use mathlib.Core.List.{List, _++_}
 use Prim.Native.Nat.{ℕ, zero, suc, _+_, _-_, _*_, _/_, _%_, _<_, _≤_}
 use native.Mathlib.Nat.{mul-comm, div-add-mod', div-div-eq-div-mul}
 use native.Mathlib.Omega.{arith}
 use borrow.Author.Tests.{lt-ltb, le-ltb, eq-eqb, ne-eqb, eqb-true}
-use lib.Dec.{eqb, ltb}
+use lib.Dec.{eqb}
 use lib.ListN.{length, getD, drop}
 use Rattle.ground.proofs.Listed.{length-listed}
 use Rattle.refusals.specs.declared.Refusal.{Refusal}
@@ -56,15 +56,15 @@ module _ (p : Place) (sent : List ℕ) (n : ℕ) (out : List ℕ) (z : p .protec
   plain-size d = comes (refusing Size out) (rw (eq-eqb (p .protection) 0 z, ne-eqb n (length sent) d))
 
   module _ (e : n ≡ length sent) where
-    plain-right : handJoined p sent n out ≡ handed sent out
+    pub plain-right : handJoined p sent n out ≡ handed sent out
     unfolding handJoined
     plain-right = rw (eq-eqb (p .protection) 0 z, eq-eqb n (length sent) e)
 
-    pub plain-output : length out < n → Comes (handJoined p sent n out) (Refused Output) out
-    plain-output h = comes (refusing Output out) (plain-right ∙ handed-short sent out (omega arith))
+    pub plain-output : (b : ℕ) → b ≡ length sent → length out < b → Comes (handJoined p sent n out) (Refused Output) out
+    plain-output b d h = comes (refusing Output out) (plain-right ∙ handed-short sent out (omega arith))
 
-    pub plain-file : n ≤ length out → (z : List ℕ) → z ≡ sent ++ drop (length sent) out → Comes (handJoined p sent n out) Accepted z
-    plain-file h z f = comes-from (plain-right ∙ handed-whole sent out (omega arith)) (refl, f)
+    pub plain-file : (b : ℕ) → b ≡ length sent → b ≤ length out → (z : List ℕ) → z ≡ sent ++ drop (length sent) out → Comes (handJoined p sent n out) Accepted z
+    plain-file b d h z f = comes-from (plain-right ∙ handed-whole sent out (omega arith)) (refl, f)
 
 -- ---- with protection
 

@@ -10,6 +10,7 @@ pub mod RowLaws
 pub mod PassLaws
 pub mod PaddingLaws
 pub mod HandCases
+pub mod HandLaws
 pub mod MendSteps
 pub mod MendLaws
 pub mod OfferCases

@@ -12,7 +12,7 @@ use lib.ListN.{length, getD, set}
 use lib.Seq.{getD-set-same, getD-set-other}
 use Rattle.ground.proofs.OneResult.{equation}
 use Rattle.refusals.specs.declared.Refusal.{Refusal}
-use Rattle.refusals.specs.declared.Refusal.the-variants.{Unknown, Other, Wide, Crc}
+use Rattle.refusals.specs.declared.Refusal.the-variants.{Unknown, Other, Wide, Crc, Conflict}
 use Rattle.packet.specs.declared.Packet.{Packet}
 use Rattle.packet.specs.declared.Reading.{Reading}
 use Rattle.packet.specs.declared.Reading.the-variants.{Sent}
@@ -32,7 +32,7 @@ use Rattle.contents.proofs.Places.{reading-slots, storing-sets, storing-leaves,
 use Rattle.record.specs.declared.Offered.{Offered}
 use Rattle.record.specs.declared.Offered.the-variants.{Stored, Repeat, Refused}
 use Rattle.record.specs.Mend.{Mended, whole, broken, payloadIn, mendedIn, agrees}
-use Rattle.record.specs.Offer.{differs, Judged, refuse, put, judgeMended, judge, putInto, Offering, storing, offerJudged, offerOf}
+use Rattle.record.specs.Offer.{differs, Judged, refuse, put, judgeMended, judge, same, putInto, Offering, storing, offerJudged, offerOf}
 use Rattle.record.proofs.OfferCases.{said, payload-length, judge-puts, offer-bad, offer-unread, offer-unknown, offer-placed}
 use Rattle.record.proofs.OfferFacts.{Read, read-known, read-resource, SameFile, same-file, same-serves, slot-below}
 use Rattle.record.proofs.MendLaws.{mended-length, Altered, Intact, agrees-copy, mended-copy}
@@ -183,6 +183,31 @@ held-after c k b h (inl e) = rw e (getD-set-same c k (holding b) wrong h)
 held-after c k [] h (inr e) = rw e (getD-set-same c k (holding []) wrong h)
 held-after c k (x ∷ b) h (inr e) = rw (e, same-self (x ∷ b)) e
 
+-- where the answer is Stored: the slot was empty, and holds the payload that was put; every other is as it was
+pub record Storing (p : Place) (f : Packet) (q : List ℕ) (c c′ : List Content) : Type 0 where
+  pub payload : List ℕ
+  pub judged : judge p f q ≡ put (f .number) payload
+  pub empty : getD c (f .number) wrong ≡ holding []
+  pub after : c′ ≡ set c (f .number) (holding payload)
+
+storing-known : (p : Place) (f : Packet) (q : List ℕ) (c c′ : List Content) (j : Judged) → judge p f q ≡ j → Sound p f j → answered j c ≡ Stored → c′ ≡ heldAfter j c → Storing p f q c c′
+storing-known p f q c c′ (refuse r) e w a h = let z : _≡_ {A = ℕ} 0 1 = cc in absurd (omega arith)
+storing-known p f q c c′ (put k b) e w a h = by (getD c k wrong) refl a h
+  where
+    by : (x : Content) → getD c k wrong ≡ x → putInto x b ≡ Stored → c′ ≡ kept (putInto x b) c k b → Storing p f q c c′
+    by wrong z a h = let o : _≡_ {A = ℕ} 0 1 = cc in absurd (omega arith)
+    by (holding []) z a h = record {
+      payload = b;
+      judged = e ∙ ap (λ (x : ℕ). put x b) (w .number);
+      empty = ap (λ (x : ℕ). getD c x wrong) (sym (w .number)) ∙ z;
+      after = h ∙ ap (λ (x : ℕ). set c x (holding b)) (w .number);
+    }
+    by (holding (x ∷ d)) z a h = other (same (x ∷ d) b) a
+      where
+        other : (t : Bool) → cond t Repeat (Refused Conflict) ≡ Stored → Storing p f q c c′
+        other true a = let o : _≡_ {A = ℕ} 0 1 = cc in absurd (omega arith)
+        other false a = let o : _≡_ {A = ℕ} 0 1 = cc in absurd (omega arith)
+
 -- ---- an offer, whatever comes
 
 -- it is refused, or it comes to what the packet's place says
@@ -243,6 +268,12 @@ module _ (h : Record) (s q : List ℕ) where
         ap (λ (o : Offering). contents (getD (h .places) i unused) (o .store)) (offer-placed h s q g f e i w)
         ∙ holds-at (getD (h .places) i unused) f s (judge (getD (h .places) i unused) f q) offer-sound
         (named-facts (length s) (h .places) g (f .resource) i w .ends-within)
+
+    pub offer-stored : offerOf h s q .answer ≡ Stored
+        → Storing (getD (h .places) i unused) f q (contents (getD (h .places) i unused) s) (contents (getD (h .places) i unused) (offerOf h s q .store))
+    offer-stored a =
+        storing-known (getD (h .places) i unused) f q (contents (getD (h .places) i unused) s) _ (judge (getD (h .places) i unused) f q) refl offer-sound
+        (sym offer-answer ∙ a) offer-holds
 
   -- ---- a place that it does not name
   pub offer-other : (r j : ℕ) → placeNamed (h .places) r ≡ At j → (4 < length q → resourceIn q ≡ r → ⊥)

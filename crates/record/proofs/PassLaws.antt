@@ -4,7 +4,7 @@ use mathlib.Core.Path.{_≡_, refl, sym, ap, ap₂, _∙_}
 use mathlib.Core.Logic.{⊎-elim}
 use mathlib.Core.Bool.{Bool, true, false, true≢false}
 use mathlib.Core.List.{List, _++_}
-use Prim.Native.Nat.{ℕ, zero, suc, _+_, _*_, _-_, _/_, _<_, _≤_}
+use Prim.Native.Nat.{ℕ, _+_, _*_, _-_, _/_, _<_, _≤_}
 use native.Mathlib.Nat.{zero-add}
 use native.Mathlib.Omega.{arith}
 use lib.ListN.{length, getD, take, drop}
@@ -12,12 +12,11 @@ use lib.Seq.{sets}
 use Rattle.ground.specs.Lists.{listed}
 use Rattle.ground.proofs.Listed.{listed-same, listed-whole, listed-ext, le-or-lt}
 use Rattle.ground.proofs.Writing.{sets-front, Run, run-begin, run-jump, run-end}
-use Rattle.layout.specs.Spread.{rowStart, scattered}
+use Rattle.layout.specs.Spread.{scattered}
 use Rattle.layout.proofs.Scatter.{length-scattered}
 use Rattle.places.specs.declared.Place.{Place}
-use Rattle.contents.specs.Contents.{bytesAt}
 use Rattle.contents.proofs.Bytes.{bytes-part}
-use Rattle.record.specs.Passes.{sentIn, infoAt, infoIn, RowsAt, Scatters, Clear, Padding, clear, spoilt, Filled, Rowed}
+use Rattle.record.specs.Passes.{sentIn, infoAt, infoIn, RowsAt, Scatters, Clear, Padding, clear, spoilt, Rowed}
 use Rattle.record.proofs.WalkLaws.{fits-rows, Walk, walk-first, walk-done, Turn}
 
 -- ---- payloads joined: o bytes are written

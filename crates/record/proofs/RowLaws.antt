@@ -8,13 +8,13 @@ use native.Mathlib.Nat.{add-zero}
 use native.Mathlib.Omega.{arith}
 use borrow.Author.Count.{below-more}
 use lib.ListN.{length, getD}
-use Rattle.ground.proofs.Listed.{getD-listed, length-listed, le-or-lt}
+use Rattle.ground.proofs.Listed.{getD-listed, le-or-lt}
 use Rattle.layout.specs.Spread.{spread, rowStart, scattered}
 use Rattle.layout.proofs.Scatter.{length-spread}
 use Rattle.contents.specs.Contents.{bytesAt}
 use Rattle.contents.proofs.Bytes.{length-bytes}
 use Rattle.record.specs.Hand.{allZero}
-use Rattle.record.specs.Passes.{Columns, RowsAt, infoAt, Scatters, Clear, Padding, clear, spoilt}
+use Rattle.record.specs.Passes.{Columns, infoAt, Scatters, Clear, Padding, clear, spoilt}
 use Rattle.record.proofs.TableLaws.{zero-all, Another, not-zero}
 
 -- ---- rows that are written: j of them

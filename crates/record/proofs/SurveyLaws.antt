@@ -1,15 +1,14 @@
 -- The pass over the lengths of a place's slots: what is left of it, from any tally on, and that from the empty tally it says what the contents say.
 -- Assumes nothing.
-use mathlib.Core.Path.{_≡_, refl, sym, ap, ap₂, _∙_}
+use mathlib.Core.Path.{_≡_, refl, sym, ap, _∙_}
 use mathlib.Core.Bool.{Bool, true, false, cond}
-use mathlib.Core.List.{List, [], _∷_, _++_}
+use mathlib.Core.List.{List, [], _∷_}
 use Prim.Native.Nat.{ℕ, zero, suc, _+_, _<_, _≤_}
 use native.Mathlib.Omega.{arith}
 use lib.ListN.{length, length-append}
 use Rattle.places.specs.declared.Place.{Place}
 use Rattle.places.specs.declared.Found.{Found}
 use Rattle.places.specs.declared.Found.the-variants.{At, Nothing}
-use Rattle.places.specs.Places.{endOf}
 use Rattle.contents.specs.Slots.{lengthAt}
 use Rattle.contents.specs.Contents.{Slot as Content, wrong, holding, bytesAt, slotAt, lengthFits, contents, anyWrong, filled, lowestEmpty, joined}
 use Rattle.contents.proofs.Bytes.{length-bytes}
@@ -23,7 +22,7 @@ use Rattle.record.specs.declared.survey.Seen.{Seen}
 use Rattle.record.specs.declared.survey.Seen.the-variants.{Wrong, Sound}
 use Rattle.record.specs.Hand.{standingIn}
 use Rattle.record.specs.Passes.{firstOf, oneMore, counted, seenIn}
-use Rattle.record.proofs.WalkLaws.{Stands, stands-first, stands-next, stands-room}
+use Rattle.record.proofs.WalkLaws.{Stands, stands-first, stands-next}
 
 -- ---- one slot
 

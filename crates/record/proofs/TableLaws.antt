@@ -1,18 +1,18 @@
 -- Rows in the store and where they belong in the file: how many tables a file needs, where a row begins, which of its bytes stand in the file, and the loops
 -- that write a row and that look for a byte that is not 0. Assumes nothing.
-use mathlib.Core.Path.{_≡_, refl, sym, ap, ap₂, _∙_}
+use mathlib.Core.Path.{_≡_, refl, sym, ap, _∙_}
 use mathlib.Core.Bool.{Bool, true, false, true≢false, _&&_}
 use mathlib.Core.List.{List, [], _∷_}
 use Prim.Native.Nat.{ℕ, zero, suc, _+_, _-_, _*_, _/_, _%_, _<_, _≤_}
-use native.Mathlib.Nat.{add-mul, suc-mul, mul-assoc, mul-comm, mul-pos, mul-le-mul-left, mul-le-mul-right, mod-lt, div-add-mod', div-lt-iff-lt-mul, zero-lt-suc}
+use native.Mathlib.Nat.{add-mul, suc-mul, mul-assoc, mul-comm, mul-pos, mul-le-mul-right, mod-lt, div-add-mod', div-lt-iff-lt-mul, zero-lt-suc}
 use native.Mathlib.Omega.{arith}
-use borrow.Author.Tests.{lt-ltb, le-ltb, lt-leb, eq-eqb, ne-eqb, eqb-true, eqb-false, ltb-true, ltb-false}
+use borrow.Author.Tests.{lt-leb, eq-eqb, ne-eqb, eqb-true, eqb-false, ltb-true, ltb-false}
 use lib.Dec.{eqb, ltb, leb}
 use lib.ListN.{length, getD, set, length-set}
-use Rattle.ground.specs.Lists.{listed, ceil}
-use Rattle.ground.proofs.Listed.{getD-listed, length-listed, ceil-upper, ceil-short, ceil-is}
+use Rattle.ground.specs.Lists.{listed}
+use Rattle.ground.proofs.Listed.{length-listed, ceil-upper, ceil-short, ceil-is}
 use Rattle.layout.specs.Layout.{tablesOf}
-use Rattle.layout.specs.Spread.{setBelow, spread, rowStart}
+use Rattle.layout.specs.Spread.{spread, rowStart}
 use Rattle.layout.proofs.Scatter.{set-yes, set-no, spread-step}
 use Rattle.contents.specs.Contents.{bytesAt}
 use Rattle.record.specs.Hand.{allZero}

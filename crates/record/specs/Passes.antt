@@ -2,7 +2,7 @@
 -- Assumes nothing.
 use mathlib.Core.Path.{_≡_}
 use mathlib.Core.Bool.{Bool, true, false, cond}
-use mathlib.Core.List.{List, [], _∷_}
+use mathlib.Core.List.{List}
 use Prim.Native.Nat.{ℕ, zero, suc, _+_, _*_, _<_, _≤_}
 use lib.ListN.{length, getD}
 use Rattle.ground.specs.Lists.{listed}
@@ -11,7 +11,7 @@ use Rattle.places.specs.declared.Place.{Place}
 use Rattle.places.specs.Places.{endOf}
 use Rattle.places.specs.declared.Found.{Found}
 use Rattle.places.specs.declared.Found.the-variants.{At, Nothing}
-use Rattle.contents.specs.Contents.{Slot as Content, wrong, holding, anyWrong, filled, lowestEmpty, joined, contents}
+use Rattle.contents.specs.Contents.{Slot as Content, anyWrong, filled, lowestEmpty, joined, contents}
 use Rattle.record.specs.declared.survey.Tally.{Tally}
 use Rattle.record.specs.declared.survey.Seen.{Seen}
 use Rattle.record.specs.declared.survey.Seen.the-variants.{Wrong, Sound}

@@ -86,7 +86,7 @@ fn hand_plain(p: Place, store: &[u8], bytes: usize, n: usize, out: &mut [u8]) ->
     if n != bytes {
         return Verdict::Refused(Refusal::Size);
     }
-    if out.len() < n {
+    if out.len() < bytes {
         return Verdict::Refused(Refusal::Output);
     }
     write_plain(p, store, out);
