@@ -1,5 +1,6 @@
 -- What each function of the C face answers and leaves: the call it stands for, its answer as number + 256 · value. Number 0 is accepted, else document 01's refusal
 -- number; the value is the refusal's extra value, or what is said below. A record of another length than 128 bytes is refused 9. Assumes nothing.
+use mathlib.Core.Path.{_≡_}
 use mathlib.Core.Bool.{Bool, true, false, cond, not}
 use mathlib.Core.List.{List, [], _∷_, _++_}
 use Prim.Native.Nat.{ℕ, _+_, _*_}
@@ -44,6 +45,11 @@ verdictOf (Refused r) = refused r
 pub record Said : Type 0 where
   pub answer : ℕ
   pub output : List ℕ
+
+-- a call answered r, and left the output, as p says
+pub record Says (p : Said) (r : ℕ) (out : List ℕ) : Type 0 where
+  pub answers : r ≡ p .answer
+  pub leaves : out ≡ p .output
 
 -- bytes or numbers at the start of an output, the rest of it unchanged; 26 where it is too short
 unfoldable pub puts : List ℕ → List ℕ → Said
@@ -91,6 +97,12 @@ pub record Kept : Type 0 where
   pub answer : ℕ
   pub held : List ℕ
   pub store : List ℕ
+
+-- a call answered r, and left record and store, as p says
+pub record Keeps (p : Kept) (r : ℕ) (held store : List ℕ) : Type 0 where
+  pub answers : r ≡ p .answer
+  pub holds : held ≡ p .held
+  pub leaves : store ≡ p .store
 
 abbrev pub badRecord : ℕ
 badRecord = refused Refusal.Record

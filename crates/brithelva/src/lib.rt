@@ -1,1 +1,182 @@
 // The library's C face: each function stands for one call of the crates below, with its answer as one number. include/brithelva.h documents it for C.
+ghost use mathlib.Core.Path.{_≡_};
+ghost use Rattle.crc.specs.Crc.{crc32Of};
+ghost use Rattle.packet.specs.Settings.{house};
+ghost use Rattle.brithelva.specs.Face.{Says, Keeps, encodeSays, readSays, fieldList, packSays, openSays, closeSays};
+use packet::Packet;
+use packet::Reading;
+use packet::Settings;
+use refusals::Refusal;
+
+mod answers;
+mod memory;
+
+// The CRC-32 of the bytes.
+#[no_mangle]
+pub extern "C" fn bh_crc32(bytes: &[u8]) -> u32
+    ensures { λ r. ⌜ r ≡ crc32Of (now (bytes .entry)) ⌝ }
+{
+    crc::crc32(bytes)
+}
+
+// The checks of 239 information bytes, at the start of `checks`.
+#[no_mangle]
+pub extern "C" fn bh_encode_row(info: &[u8], checks: &mut [u8]) -> u64
+    ensures { λ r. ⌜ Says (encodeSays (now (info .entry)) (now (checks .entry))) r (now (checks .exit)) ⌝ }
+{
+    let made = rows::encode_row(info);
+    let verdict = made.verdict;
+    let bytes = made.checks;
+    answers::put_if(verdict, &bytes, checks)
+}
+
+// The nine fields in the header's order.
+fn field_list(f: Packet) -> [u32; 9]
+    ensures { λ r. ⌜ r ≡ fieldList f ⌝ }
+{
+    [
+        f.resource as u32,
+        f.number,
+        f.update as u32,
+        f.length as u32,
+        f.count,
+        f.kind as u32,
+        f.protection as u32,
+        f.rows as u32,
+        f.reserved as u32,
+    ]
+}
+
+// The fields of a packet as nine numbers, at the start of `fields`.
+#[no_mangle]
+pub extern "C" fn bh_read_fields(packet: &[u8], fields: &mut [u32]) -> u64
+    ensures { λ r. ⌜ Says (readSays (now (packet .entry)) (now (fields .entry))) r (now (fields .exit)) ⌝ }
+{
+    match packet::read_fields(packet) {
+        Reading::Sent(f) => {
+            let list = field_list(f);
+            answers::put_numbers(&list, fields)
+        }
+        Reading::Refused(r) => answers::refused(r),
+    }
+}
+
+// Packet `number` of a file, at the start of `out`. The value is its length.
+#[no_mangle]
+pub extern "C" fn bh_pack(
+    file: &[u8],
+    resource: u16,
+    kind: u8,
+    update: u8,
+    protection: u8,
+    rows: u8,
+    size: u16,
+    number: u32,
+    out: &mut [u8],
+) -> u64
+    ensures { λ r. ⌜ Says (packSays (now (file .entry)) (record { resource = resource; kind = kind; update = update; protection = protection; rows = rows; size = size }) number (now (out .entry))) r (now (out .exit)) ⌝ }
+{
+    let settings = Settings {
+        resource,
+        kind,
+        update,
+        protection,
+        rows,
+        size,
+    };
+    let packed = pack::pack(file, settings, number, out);
+    answers::packed_as(packed)
+}
+
+// The same under the house setting.
+#[no_mangle]
+pub extern "C" fn bh_pack_house(
+    file: &[u8],
+    resource: u16,
+    kind: u8,
+    update: u8,
+    number: u32,
+    out: &mut [u8],
+) -> u64
+    ensures { λ r. ⌜ Says (packSays (now (file .entry)) (house resource kind update) number (now (out .entry))) r (now (out .exit)) ⌝ }
+{
+    let packed = pack::pack_house(file, resource, kind, update, number, out);
+    answers::packed_as(packed)
+}
+
+// Opens a place of the record: its 128 bytes and the slots' lengths in the store change, or nothing does.
+#[no_mangle]
+pub extern "C" fn bh_open(
+    held: &mut [u8],
+    store: &mut [u8],
+    resource: u16,
+    kind: u8,
+    update: u8,
+    count: u32,
+    protection: u8,
+    rows: u8,
+    slot: u16,
+) -> u64
+    ensures { λ r. ⌜ Keeps (openSays (now (held .entry)) (now (store .entry)) (record { resource = resource; kind = kind; update = update; protection = protection; rows = rows; size = slot }) count) r (now (held .exit)) (now (store .exit)) ⌝ }
+{
+    if held.len() != 128 {
+        return answers::refused(Refusal::Record);
+    }
+    let settings = Settings {
+        resource,
+        kind,
+        update,
+        protection,
+        rows,
+        size: slot,
+    };
+    let kept = record::open(memory::record_in(held), store, settings, count);
+    let next = kept.record;
+    memory::put_record(held, next);
+    let verdict = kept.verdict;
+    answers::verdict_of(verdict)
+}
+
+// The same under the house setting.
+#[no_mangle]
+pub extern "C" fn bh_open_house(
+    held: &mut [u8],
+    store: &mut [u8],
+    resource: u16,
+    kind: u8,
+    update: u8,
+    count: u32,
+) -> u64
+    ensures { λ r. ⌜ Keeps (openSays (now (held .entry)) (now (store .entry)) (house resource kind update) count) r (now (held .exit)) (now (store .exit)) ⌝ }
+{
+    if held.len() != 128 {
+        return answers::refused(Refusal::Record);
+    }
+    let kept = record::open_house(
+        memory::record_in(held),
+        store,
+        resource,
+        kind,
+        update,
+        count,
+    );
+    let next = kept.record;
+    memory::put_record(held, next);
+    let verdict = kept.verdict;
+    answers::verdict_of(verdict)
+}
+
+// Closes a resource's place of the record. The store is only read.
+#[no_mangle]
+pub extern "C" fn bh_close(held: &mut [u8], store: &[u8], resource: u16) -> u64
+    ensures { λ r. ⌜ Keeps (closeSays (now (held .entry)) (now (store .entry)) resource) r (now (held .exit)) (now (store .entry)) ⌝ }
+{
+    if held.len() != 128 {
+        return answers::refused(Refusal::Record);
+    }
+    let kept = record::close(memory::record_in(held), store, resource);
+    let next = kept.record;
+    memory::put_record(held, next);
+    let verdict = kept.verdict;
+    answers::verdict_of(verdict)
+}

@@ -1,0 +1,91 @@
+-- What the calls on a record say through the face: of bytes that are no record 9; else what the call on the record in them says, its record as bytes again.
+-- Assumes nothing.
+use mathlib.Core.Path.{_≡_, sym, ap, _∙_}
+use mathlib.Core.Bool.{true, false}
+use mathlib.Core.List.{List}
+use Prim.Native.Nat.{ℕ}
+use borrow.Author.Tests.{eq-eqb, ne-eqb}
+use lib.Dec.{eqb}
+use lib.ListN.{length}
+use Rattle.packet.specs.declared.Settings.{Settings}
+use Rattle.places.specs.declared.Record.{Record}
+use Rattle.record.specs.declared.Kept.{Kept}
+use Rattle.refusals.specs.declared.Verdict.{Verdict}
+use Rattle.record.specs.declared.Offered.{Offered}
+use Rattle.record.specs.Open.{openOf, Opens, closeOf}
+use Rattle.record.specs.Offer.{offerOf}
+use Rattle.record.specs.Hand.{handOutOf}
+use Rattle.brithelva.specs.Layout.{recordIn, recordBytes}
+use Rattle.brithelva.specs.Face.{Keeps, verdictOf, badRecord, openSays, closeSays, Says, offeredAs, offerSays, handSays}
+
+module _ (h s : List ℕ) where
+  module _ (g : Settings) (count : ℕ) (r : ℕ) where
+    pub open-bad : (length h ≡ 128 → ⊥) → r ≡ badRecord → Keeps (openSays h s g count) r h s
+    unfolding openSays
+    open-bad d e =
+        let t : eqb (length h) 128 ≡ false = ne-eqb (length h) 128 d in
+        record { answers = rw t e; holds = rw t; leaves = rw t }
+
+    pub open-says : (held : Record) (kept : Kept) (h′ s′ : List ℕ) → length h ≡ 128 → held ≡ recordIn h → Opens held s g count kept s′
+        → h′ ≡ recordBytes (kept .«record») → r ≡ verdictOf (kept .verdict) → Keeps (openSays h s g count) r h′ s′
+    unfolding openSays
+    open-says held kept h′ s′ n e o b a =
+        let t : eqb (length h) 128 ≡ true = eq-eqb (length h) 128 n in
+        let k : kept ≡ openOf (recordIn h) s g count .kept = o .answers ∙ ap (λ (y : Record). openOf y s g count .kept) e in
+        record {
+          answers = rw t (a ∙ ap (λ (y : Kept). verdictOf (y .verdict)) k);
+          holds = rw t (b ∙ ap (λ (y : Kept). recordBytes (y .«record»)) k);
+          leaves = rw t (o .leaves ∙ ap (λ (y : Record). openOf y s g count .store) e);
+        }
+
+  module _ (resource : ℕ) (r : ℕ) where
+    pub close-bad : (length h ≡ 128 → ⊥) → r ≡ badRecord → Keeps (closeSays h s resource) r h s
+    unfolding closeSays
+    close-bad d e =
+        let t : eqb (length h) 128 ≡ false = ne-eqb (length h) 128 d in
+        record { answers = rw t e; holds = rw t; leaves = rw t }
+
+    pub close-says : (held : Record) (kept : Kept) (h′ : List ℕ) → length h ≡ 128 → held ≡ recordIn h → kept ≡ closeOf held s resource
+        → h′ ≡ recordBytes (kept .«record») → r ≡ verdictOf (kept .verdict) → Keeps (closeSays h s resource) r h′ s
+    unfolding closeSays
+    close-says held kept h′ n e o b a =
+        let t : eqb (length h) 128 ≡ true = eq-eqb (length h) 128 n in
+        let k : kept ≡ closeOf (recordIn h) s resource = o ∙ ap (λ (y : Record). closeOf y s resource) e in
+        record {
+          answers = rw t (a ∙ ap (λ (y : Kept). verdictOf (y .verdict)) k);
+          holds = rw t (b ∙ ap (λ (y : Kept). recordBytes (y .«record»)) k);
+          leaves = rw t;
+        }
+
+  module _ (q : List ℕ) (r : ℕ) where
+    pub offer-bad : (length h ≡ 128 → ⊥) → r ≡ badRecord → Keeps (offerSays h s q) r h s
+    unfolding offerSays
+    offer-bad d e =
+        let t : eqb (length h) 128 ≡ false = ne-eqb (length h) 128 d in
+        record { answers = rw t e; holds = rw t; leaves = rw t }
+
+    pub offer-says : (held : Record) (o : Offered) (s′ : List ℕ) → length h ≡ 128 → held ≡ recordIn h → o ≡ offerOf held s q .answer → s′ ≡ offerOf held s q .store
+        → r ≡ offeredAs o → Keeps (offerSays h s q) r h s′
+    unfolding offerSays
+    offer-says held o s′ n e a l d =
+        let t : eqb (length h) 128 ≡ true = eq-eqb (length h) 128 n in
+        record {
+          answers = rw t (d ∙ ap offeredAs (a ∙ ap (λ (y : Record). offerOf y s q .answer) e));
+          holds = rw t;
+          leaves = rw t (l ∙ ap (λ (y : Record). offerOf y s q .store) e);
+        }
+
+  module _ (resource n : ℕ) (out : List ℕ) (r : ℕ) where
+    pub hand-bad : (length h ≡ 128 → ⊥) → r ≡ badRecord → Says (handSays h s resource n out) r out
+    unfolding handSays
+    hand-bad d e = let t : eqb (length h) 128 ≡ false = ne-eqb (length h) 128 d in record { answers = rw t e; leaves = rw t }
+
+    pub hand-says : (held : Record) (v : Verdict) (out′ : List ℕ) → length h ≡ 128 → held ≡ recordIn h → v ≡ handOutOf held s resource n out .answer
+        → out′ ≡ handOutOf held s resource n out .output → r ≡ verdictOf v → Says (handSays h s resource n out) r out′
+    unfolding handSays
+    hand-says held v out′ k e a l d =
+        let t : eqb (length h) 128 ≡ true = eq-eqb (length h) 128 k in
+        record {
+          answers = rw t (d ∙ ap verdictOf (a ∙ ap (λ (y : Record). handOutOf y s resource n out .answer) e));
+          leaves = rw t (l ∙ ap (λ (y : Record). handOutOf y s resource n out .output) e);
+        }

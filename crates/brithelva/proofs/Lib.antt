@@ -1,0 +1,5 @@
+pub mod SayLaws
+pub mod PackLaws
+pub mod RecordLaws
+pub mod HoldLaws
+pub mod OneResult

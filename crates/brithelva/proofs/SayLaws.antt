@@ -1,0 +1,62 @@
+-- What a function of the face says, from what the call that it stands for says: rows and fields.
+-- Assumes nothing.
+use mathlib.Core.Path.{_≡_, refl, sym, ap, _∙_}
+use mathlib.Core.Bool.{true, false}
+use mathlib.Core.List.{List}
+use Prim.Native.Nat.{ℕ, _<_, _≤_}
+use borrow.Author.Tests.{lt-ltb, le-ltb}
+use lib.ListN.{length}
+use lib.Dec.{ltb}
+use lib.Seq.{sets}
+use Rattle.ground.proofs.Writing.{sets-front}
+use Rattle.refusals.specs.declared.Refusal.{Refusal}
+use Rattle.refusals.specs.declared.Refusal.the-variants.{Output}
+use Rattle.refusals.specs.declared.Verdict.{Verdict}
+use Rattle.refusals.specs.declared.Verdict.the-variants.{Accepted, Refused}
+use Rattle.rows.specs.declared.Encoded.{Encoded}
+use Rattle.rows.specs.declared.Mended.{Mended}
+use Rattle.rows.specs.Rows.{encodeOf, repairRowOf}
+use Rattle.packet.specs.declared.Packet.{Packet}
+use Rattle.packet.specs.declared.Reading.{Reading}
+use Rattle.packet.specs.declared.Reading.the-variants.{Sent}
+use Rattle.packet.specs.Packet.{readOf}
+use Rattle.brithelva.specs.Face.{Said, Says, refused, puts, putsIf, encodeSays, repairSays, fieldList, readingSays, readSays}
+
+-- the same said in another way
+says-as : {p q : Said} {r : ℕ} {out : List ℕ} → p ≡ q → Says p r out → Says q r out
+says-as e s = record { answers = s .answers ∙ ap (λ (x : Said). x .answer) e; leaves = s .leaves ∙ ap (λ (x : Said). x .output) e }
+
+module _ (b out : List ℕ) where
+  pub puts-short : (r : ℕ) → length out < length b → r ≡ refused Output → Says (puts b out) r out
+  unfolding puts
+  puts-short r h e = let t : ltb (length out) (length b) ≡ true = lt-ltb (length out) (length b) h in record { answers = rw t e; leaves = rw t }
+
+  pub puts-fits : (x : List ℕ) → length b ≤ length out → x ≡ sets out 0 b → Says (puts b out) 0 x
+  unfolding puts
+  puts-fits x h e =
+      let t : ltb (length out) (length b) ≡ false = le-ltb (length out) (length b) h in
+      record { answers = rw t; leaves = rw t (e ∙ sets-front out b h) }
+
+module _ (v : Verdict) (b out : List ℕ) (r : ℕ) where
+  pub puts-accepted : (x : List ℕ) → v ≡ Accepted → Says (puts b out) r x → Says (putsIf v b out) r x
+  puts-accepted x e s = says-as (ap (λ (w : Verdict). putsIf w b out) (sym e)) s
+
+  pub puts-refused : (z : Refusal) → v ≡ Refused z → r ≡ refused z → Says (putsIf v b out) r out
+  puts-refused z e s = says-as (ap (λ (w : Verdict). putsIf w b out) (sym e)) (record { answers = s; leaves = refl })
+
+pub encode-says : (info out : List ℕ) (r : ℕ) (x : List ℕ) (made : Encoded) → made ≡ encodeOf info → Says (putsIf (made .verdict) (made .checks) out) r x → Says (encodeSays info out) r x
+unfolding encodeSays
+encode-says info out r x made e s = says-as (ap (λ (m : Encoded). putsIf (m .verdict) (m .checks) out) e) s
+
+pub repair-says : (row out : List ℕ) (r : ℕ) (x : List ℕ) (made : Mended) → made ≡ repairRowOf row → Says (putsIf (made .verdict) (made .row) out) r x → Says (repairSays row out) r x
+unfolding repairSays
+repair-says row out r x made e s = says-as (ap (λ (m : Mended). putsIf (m .verdict) (m .row) out) e) s
+
+module _ (q out : List ℕ) (r : ℕ) where
+  pub read-sent : (x : List ℕ) (f : Packet) (l : List ℕ) → readOf q ≡ Sent f → l ≡ fieldList f → Says (puts l out) r x → Says (readSays q out) r x
+  unfolding readSays
+  read-sent x f l e d s = says-as (ap (λ (y : List ℕ). puts y out) d ∙ ap (λ (y : Reading). readingSays y out) (sym e)) s
+
+  pub read-refused : (z : Refusal) → readOf q ≡ Reading.Refused z → r ≡ refused z → Says (readSays q out) r out
+  unfolding readSays
+  read-refused z e s = says-as (ap (λ (y : Reading). readingSays y out) (sym e)) (record { answers = s; leaves = refl })

@@ -1,0 +1,69 @@
+-- The numbers are written one after the other. Invariant: the output is a run of the first i numbers, `Run`. The measure is what is left of them.
+use mathlib.Core.Path.{refl, ap, _∙_}
+use Prim.Native.Nat.{_-_}
+use native.Mathlib.Omega.{arith}
+use lib.ListN.{length, getD}
+use lib.Seq.{sets}
+use Rattle.ground.proofs.Listed.{listed-whole}
+use Rattle.ground.proofs.Writing.{Run, run-begin, run-step, run-end}
+use Rattle.brithelva.proofs.answers.copy_numbers.Statement.{statement}
+use Rattle.brithelva.proofs.answers.copy_numbers.Tie as tie
+
+abbrev Inv-loop : tie.InvT-loop
+Inv-loop numbers out₀ at i₀ out i = Run (λ k. getD numbers k 0) (length numbers) at out₀ out i
+
+abbrev μ-loop : tie.MeasureT-loop
+μ-loop numbers out₀ at i₀ out i = length numbers - i
+
+loop-holds : tie.Need-loop-holds Inv-loop μ-loop
+loop-holds c = run-begin _ _ _ _
+
+mul-out : tie.Need-mul-out Inv-loop μ-loop
+mul-out c = omega arith
+
+shared-slice-read-out : tie.Need-shared-slice-read-out Inv-loop μ-loop
+shared-slice-read-out c = omega arith
+
+add-out : tie.Need-add-out Inv-loop μ-loop
+add-out c = omega arith
+
+mul-out-2 : tie.Need-mul-out-2 Inv-loop μ-loop
+mul-out-2 c = omega arith
+
+slice-write-out : tie.Need-slice-write-out Inv-loop μ-loop
+slice-write-out c = omega arith
+
+add-i : tie.Need-add-i Inv-loop μ-loop
+add-i c = omega arith
+
+loop-less : tie.Need-loop-less Inv-loop μ-loop
+loop-less c = omega arith
+
+loop-again : tie.Need-loop-again Inv-loop μ-loop
+loop-again c = run-step _ _ _ _ _ _ (c .before .before .loop .inv) _ (c .before .loop-test .taken) refl
+
+same-length : tie.Need-same-length Inv-loop μ-loop
+same-length c = c .before .loop .inv .long
+
+returns : tie.Need-returns Inv-loop μ-loop
+returns c =
+    let a = c .before .before .args in
+    run-end _ _ _ _ _ _ (c .before .loop .inv) (c .loop-test .left) ∙ ap (sets (a .out .now) (a .at)) (listed-whole (a .numbers .now) 0)
+
+pub copy-numbers-spec : {M : Type 1} → statement M
+copy-numbers-spec =
+    tie.close
+    (tie.spec
+    Inv-loop
+    μ-loop
+    loop-holds
+    mul-out
+    shared-slice-read-out
+    add-out
+    mul-out-2
+    slice-write-out
+    add-i
+    loop-less
+    loop-again
+    same-length
+    returns)

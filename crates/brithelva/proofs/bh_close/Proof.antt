@@ -1,0 +1,44 @@
+-- Bytes that are no record are refused; else the record in them is closed and put back.
+use borrow.Author.Needs.{needs}
+use Rattle.brithelva.proofs.HoldLaws.{close-bad, close-says}
+use Rattle.brithelva.proofs.bh_close.Statement.{statement}
+use Rattle.brithelva.proofs.bh_close.Tie as tie
+
+refused-requires : tie.Need-refused-requires
+refused-requires c κs = search needs
+
+returns : tie.Need-returns
+returns c = close-bad _ _ _ _ (c .before .if1 .taken) (c .refused .ensures)
+
+record-in-requires : tie.Need-record-in-requires
+record-in-requires c κs = search needs
+
+close-requires : tie.Need-close-requires
+close-requires c κs = search needs
+
+put-record-requires : tie.Need-put-record-requires
+put-record-requires c κs = search needs
+
+verdict-of-requires : tie.Need-verdict-of-requires
+verdict-of-requires c κs = search needs
+
+same-length : tie.Need-same-length
+same-length c = search needs
+
+returns-2 : tie.Need-returns-2
+returns-2 c =
+    close-says _ _ _ _ _ _ _ (search needs) (c .before .before .before .before .before .before .before .record-in .ensures) (c .before .before .before .before .before .before .close .ensures)
+    (c .before .before .before .put-record .ensures) (c .verdict-of .ensures)
+
+pub bh-close-spec : {M : Type 1} → statement M
+bh-close-spec =
+    tie.close
+    (tie.spec
+    refused-requires
+    returns
+    record-in-requires
+    close-requires
+    put-record-requires
+    verdict-of-requires
+    same-length
+    returns-2)

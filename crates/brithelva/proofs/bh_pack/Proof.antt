@@ -1,0 +1,20 @@
+-- What packing answers and leaves, its answer as a number, which fits since no packet has more than 4095 bytes.
+use Rattle.brithelva.proofs.PackLaws.{packed-fits, pack-says}
+use borrow.Author.Needs.{needs}
+use Rattle.brithelva.proofs.bh_pack.Statement.{statement}
+use Rattle.brithelva.proofs.bh_pack.Tie as tie
+
+pack-requires : tie.Need-pack-requires
+pack-requires c κs = search needs
+
+packed-as-requires : tie.Need-packed-as-requires
+packed-as-requires c κs = packed-fits _ _ _ _ _ _ (c .before .before .pack .ensures)
+
+same-length : tie.Need-same-length
+same-length c = search needs
+
+returns : tie.Need-returns
+returns c = pack-says _ _ _ _ _ _ (c .before .before .before .pack .ensures) _ (c .packed-as .ensures)
+
+pub bh-pack-spec : {M : Type 1} → statement M
+bh-pack-spec = tie.close (tie.spec pack-requires packed-as-requires same-length returns)

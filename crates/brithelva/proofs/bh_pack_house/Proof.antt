@@ -1,0 +1,21 @@
+-- The same under the house setting.
+use Rattle.brithelva.proofs.PackLaws.{packed-fits, pack-says}
+use borrow.Author.Needs.{needs}
+use Rattle.brithelva.proofs.bh_pack_house.Statement.{statement}
+use Rattle.brithelva.proofs.bh_pack_house.Tie as tie
+
+pack-house-requires : tie.Need-pack-house-requires
+pack-house-requires c κs = search needs
+
+packed-as-requires : tie.Need-packed-as-requires
+packed-as-requires c κs = packed-fits _ _ _ _ _ _ (c .before .before .pack-house .ensures)
+
+same-length : tie.Need-same-length
+same-length c = search needs
+
+returns : tie.Need-returns
+returns c = pack-says _ _ _ _ _ _ (c .before .before .before .pack-house .ensures) _ (c .packed-as .ensures)
+
+pub bh-pack-house-spec : {M : Type 1} → statement M
+bh-pack-house-spec =
+    tie.close (tie.spec pack-house-requires packed-as-requires same-length returns)

@@ -1,0 +1,54 @@
+-- The fields that were read are listed and put; a refusal is answered.
+use mathlib.Core.Path.{sym, _∙_}
+use Rattle.brithelva.proofs.SayLaws.{read-sent, read-refused}
+use borrow.Author.Needs.{needs}
+use Rattle.brithelva.proofs.bh_read_fields.Statement.{statement}
+use Rattle.brithelva.proofs.bh_read_fields.Tie as tie
+
+read-fields-requires : tie.Need-read-fields-requires
+read-fields-requires c κs = search needs
+
+enum-known-f : tie.Need-enum-known-f
+enum-known-f c = search needs
+
+field-list-requires : tie.Need-field-list-requires
+field-list-requires c κs = search needs
+
+slice-aggregate-put-numbers : tie.Need-slice-aggregate-put-numbers
+slice-aggregate-put-numbers c = search needs
+
+put-numbers-requires : tie.Need-put-numbers-requires
+put-numbers-requires c κs = search needs
+
+enum-known-r : tie.Need-enum-known-r
+enum-known-r c = search needs
+
+refused-requires : tie.Need-refused-requires
+refused-requires c κs = search needs
+
+same-length : tie.Need-same-length
+same-length c = search needs
+
+returns : tie.Need-returns
+returns c =
+    read-sent _ _ _ _ _ _ (sym (c .before .before .before .before .before .before .before .before .before .read-fields .ensures) ∙ c .before .before .before .before .before .before .before .f .given .1)
+    (c .before .before .before .before .before .field-list .ensures) (c .before .before .put-numbers .ensures)
+
+returns-2 : tie.Need-returns-2
+returns-2 c =
+    read-refused _ _ _ _ (sym (c .before .before .before .before .read-fields .ensures) ∙ c .before .before .r .given .1) (c .refused .ensures)
+
+pub bh-read-fields-spec : {M : Type 1} → statement M
+bh-read-fields-spec =
+    tie.close
+    (tie.spec
+    read-fields-requires
+    enum-known-f
+    field-list-requires
+    slice-aggregate-put-numbers
+    put-numbers-requires
+    enum-known-r
+    refused-requires
+    same-length
+    returns
+    returns-2)

@@ -1,0 +1,75 @@
+-- Each field is taken from the bytes of the definition.
+use Rattle.brithelva.specs.Layout.{placeIn}
+use borrow.Author.Needs.{needs}
+use Rattle.brithelva.proofs.memory.place_in.Statement.{statement}
+use Rattle.brithelva.proofs.memory.place_in.Tie as tie
+
+two-in-requires : tie.Need-two-in-requires
+two-in-requires c κs = search needs
+
+add-t4 : tie.Need-add-t4
+add-t4 c = search needs
+
+shared-slice-read-t6 : tie.Need-shared-slice-read-t6
+shared-slice-read-t6 c = search needs
+
+add-t7 : tie.Need-add-t7
+add-t7 c = search needs
+
+shared-slice-read-t9 : tie.Need-shared-slice-read-t9
+shared-slice-read-t9 c = search needs
+
+add-four-in : tie.Need-add-four-in
+add-four-in c = search needs
+
+four-in-requires : tie.Need-four-in-requires
+four-in-requires c κs = search needs
+
+add-t12 : tie.Need-add-t12
+add-t12 c = search needs
+
+shared-slice-read-t14 : tie.Need-shared-slice-read-t14
+shared-slice-read-t14 c = search needs
+
+add-t15 : tie.Need-add-t15
+add-t15 c = search needs
+
+shared-slice-read-t17 : tie.Need-shared-slice-read-t17
+shared-slice-read-t17 c = search needs
+
+add-two-in : tie.Need-add-two-in
+add-two-in c = search needs
+
+two-in-requires-2 : tie.Need-two-in-requires-2
+two-in-requires-2 c κs = search needs
+
+add-four-in-2 : tie.Need-add-four-in-2
+add-four-in-2 c = search needs
+
+four-in-requires-2 : tie.Need-four-in-requires-2
+four-in-requires-2 c κs = search needs
+
+returns : tie.Need-returns
+unfolding placeIn
+returns c = rw (c .before .before .before .before .before .before .before .two-in .ensures, c .before .before .before .before .four-in .ensures, c .before .two-in2 .ensures, c .four-in2 .ensures)
+
+pub place-in-spec : {M : Type 1} → statement M
+place-in-spec =
+    tie.close
+    (tie.spec
+    two-in-requires
+    add-t4
+    shared-slice-read-t6
+    add-t7
+    shared-slice-read-t9
+    add-four-in
+    four-in-requires
+    add-t12
+    shared-slice-read-t14
+    add-t15
+    shared-slice-read-t17
+    add-two-in
+    two-in-requires-2
+    add-four-in-2
+    four-in-requires-2
+    returns)

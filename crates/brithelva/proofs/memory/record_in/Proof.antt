@@ -1,0 +1,47 @@
+-- The eight places stand sixteen bytes apart.
+use Rattle.brithelva.specs.Layout.{recordIn}
+use borrow.Author.Needs.{needs}
+use Rattle.brithelva.proofs.memory.record_in.Statement.{statement}
+use Rattle.brithelva.proofs.memory.record_in.Tie as tie
+
+place-in-requires : tie.Need-place-in-requires
+place-in-requires c κs = search needs
+
+place-in-requires-2 : tie.Need-place-in-requires-2
+place-in-requires-2 c κs = search needs
+
+place-in-requires-3 : tie.Need-place-in-requires-3
+place-in-requires-3 c κs = search needs
+
+place-in-requires-4 : tie.Need-place-in-requires-4
+place-in-requires-4 c κs = search needs
+
+place-in-requires-5 : tie.Need-place-in-requires-5
+place-in-requires-5 c κs = search needs
+
+place-in-requires-6 : tie.Need-place-in-requires-6
+place-in-requires-6 c κs = search needs
+
+place-in-requires-7 : tie.Need-place-in-requires-7
+place-in-requires-7 c κs = search needs
+
+place-in-requires-8 : tie.Need-place-in-requires-8
+place-in-requires-8 c κs = search needs
+
+returns : tie.Need-returns
+unfolding recordIn
+returns c = rw (c .before .before .before .before .before .before .before .place-in .ensures, c .before .before .before .before .before .before .place-in2 .ensures, c .before .before .before .before .before .place-in3 .ensures, c .before .before .before .before .place-in4 .ensures, c .before .before .before .place-in5 .ensures, c .before .before .place-in6 .ensures, c .before .place-in7 .ensures, c .place-in8 .ensures)
+
+pub record-in-spec : {M : Type 1} → statement M
+record-in-spec =
+    tie.close
+    (tie.spec
+    place-in-requires
+    place-in-requires-2
+    place-in-requires-3
+    place-in-requires-4
+    place-in-requires-5
+    place-in-requires-6
+    place-in-requires-7
+    place-in-requires-8
+    returns)

@@ -1,0 +1,93 @@
+// Answers as one number, and bytes or numbers put at the start of an output: the header include/brithelva.h says how.
+ghost use mathlib.Core.Path.{_≡_};
+ghost use Prim.Native.Nat.{_+_, _<_, _≤_};
+ghost use lib.ListN.{length};
+ghost use lib.Seq.{sets};
+ghost use Rattle.brithelva.specs.Face.{Says, refused, verdictOf, puts, putsIf, packedAs};
+use pack::Packed;
+use refusals::Refusal;
+use refusals::Verdict;
+
+// A refusal's number and value.
+pub(crate) fn refused(r: Refusal) -> u64
+    ensures { λ n. ⌜ n ≡ refused r ⌝ }
+{
+    refusals::number(r) as u64 + 256 * refusals::value(r) as u64
+}
+
+// What is answered where nothing is handed over.
+pub(crate) fn verdict_of(verdict: Verdict) -> u64
+    ensures { λ n. ⌜ n ≡ verdictOf verdict ⌝ }
+{
+    match verdict {
+        Verdict::Accepted => 0,
+        Verdict::Refused(r) => refused(r),
+    }
+}
+
+// What packing answers: a packet's length as the value.
+pub(crate) fn packed_as(packed: Packed) -> u64
+    requires { ⌜ packedAs packed < 18446744073709551616 ⌝ }
+    ensures { λ n. ⌜ n ≡ packedAs packed ⌝ }
+{
+    match packed {
+        Packed::Written(n) => 256 * n as u64,
+        Packed::Refused(r) => refused(r),
+    }
+}
+
+// The bytes, from byte `at` of the output on.
+pub(crate) fn copy_in(bytes: &[u8], out: &mut [u8], at: usize)
+    requires { ⌜ at + length (now bytes) ≤ length (now out) ⌝ }
+    ensures { λ r. ⌜ now (out .exit) ≡ sets (now (out .entry)) at (now (bytes .entry)) ⌝ }
+{
+    let mut i: usize = 0;
+    while i < bytes.len() {
+        out[at + i] = bytes[i];
+        i += 1;
+    }
+}
+
+// The bytes at the start of the output, if it has room.
+pub(crate) fn put(bytes: &[u8], out: &mut [u8]) -> u64
+    ensures { λ r. ⌜ Says (puts (now (bytes .entry)) (now (out .entry))) r (now (out .exit)) ⌝ }
+{
+    if out.len() < bytes.len() {
+        return refused(Refusal::Output);
+    }
+    copy_in(bytes, out, 0);
+    0
+}
+
+// The bytes that go with a verdict.
+pub(crate) fn put_if(verdict: Verdict, bytes: &[u8], out: &mut [u8]) -> u64
+    ensures { λ r. ⌜ Says (putsIf verdict (now (bytes .entry)) (now (out .entry))) r (now (out .exit)) ⌝ }
+{
+    match verdict {
+        Verdict::Accepted => put(bytes, out),
+        Verdict::Refused(r) => refused(r),
+    }
+}
+
+// Numbers, from number `at` of the output on.
+fn copy_numbers(numbers: &[u32], out: &mut [u32], at: usize)
+    requires { ⌜ at + length (now numbers) ≤ length (now out) ⌝ }
+    ensures { λ r. ⌜ now (out .exit) ≡ sets (now (out .entry)) at (now (numbers .entry)) ⌝ }
+{
+    let mut i: usize = 0;
+    while i < numbers.len() {
+        out[at + i] = numbers[i];
+        i += 1;
+    }
+}
+
+// Numbers at the start of the output, if it has room.
+pub(crate) fn put_numbers(numbers: &[u32], out: &mut [u32]) -> u64
+    ensures { λ r. ⌜ Says (puts (now (numbers .entry)) (now (out .entry))) r (now (out .exit)) ⌝ }
+{
+    if out.len() < numbers.len() {
+        return refused(Refusal::Output);
+    }
+    copy_numbers(numbers, out, 0);
+    0
+}
