@@ -1,6 +1,7 @@
 // Rows of RS(255,239): encoding and repair (document 01, section 3).
 ghost use mathlib.Core.Path.{_≡_};
 ghost use lib.ListN.{length};
+ghost use Rattle.code.specs.Code.{generator as generatorOf};
 ghost use Rattle.rows.specs.Rows.{encodeOf, mendOf, repairRowOf};
 ghost use Rattle.rows.specs.Put.{putServes, putRows};
 
@@ -26,6 +27,34 @@ pub struct Encoded {
 pub struct Mended {
     pub verdict: Verdict,
     pub row: [u8; 255],
+}
+
+// The generator's coefficients, the highest power first.
+const GENERATOR: [u8; 17] = [
+    1,
+    59,
+    13,
+    104,
+    189,
+    68,
+    209,
+    30,
+    8,
+    163,
+    65,
+    41,
+    229,
+    98,
+    50,
+    36,
+    59,
+];
+
+// The generator, for those who want to see it. The register's table holds its multiples.
+pub fn generator() -> [u8; 17]
+    ensures { λ r. ⌜ r ≡ generatorOf ⌝ }
+{
+    GENERATOR
 }
 
 // The checks of 239 information bytes; another length is refused.
