@@ -121,7 +121,7 @@ module _ (g : Settings) (file : List ℕ) (p : Protected g file) (n : ℕ) (belo
       (last-crc q (packetOf g file n) (c .sized) (omega (arith, c .sized, sent .least)) (c .crc) ∙ packet-crc g file n ∙ ap crc32Of parts)
 
   module _ (start : ℕ) where
-    not-different : differs (placeOf g (countOf g (length file)) start) (fieldsOf g file n) ≡ false
+    pub not-different : differs (placeOf g (countOf g (length file)) start) (fieldsOf g file n) ≡ false
     unfolding differs
     not-different =
         rw (

@@ -11,3 +11,4 @@ pub mod Fresh
 pub mod Cases
 pub mod Turned
 pub mod Misread
+pub mod FirstRow
