@@ -2,7 +2,7 @@
 ghost use mathlib.Core.Path.{_≡_};
 ghost use Rattle.crc.specs.Crc.{crc32Of};
 ghost use Rattle.packet.specs.Settings.{house};
-ghost use Rattle.brithelva.specs.Face.{Says, Keeps, encodeSays, readSays, fieldList, packSays, openSays, closeSays};
+ghost use Rattle.brithelva.specs.Face.{Says, Keeps, encodeSays, repairSays, readSays, fieldList, packSays, openSays, closeSays};
 use packet::Packet;
 use packet::Reading;
 use packet::Settings;
@@ -28,6 +28,17 @@ pub extern "C" fn bh_encode_row(info: &[u8], checks: &mut [u8]) -> u64
     let verdict = made.verdict;
     let bytes = made.checks;
     answers::put_if(verdict, &bytes, checks)
+}
+
+// The row of 255 bytes as repaired, at the start of `fixed`.
+#[no_mangle]
+pub extern "C" fn bh_repair_row(row: &[u8], fixed: &mut [u8]) -> u64
+    ensures { λ r. ⌜ Says (repairSays (now (row .entry)) (now (fixed .entry))) r (now (fixed .exit)) ⌝ }
+{
+    let mended = rows::repair_row(row);
+    let verdict = mended.verdict;
+    let bytes = mended.row;
+    answers::put_if(verdict, &bytes, fixed)
 }
 
 // The nine fields in the header's order.
