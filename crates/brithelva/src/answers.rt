@@ -3,8 +3,9 @@ ghost use mathlib.Core.Path.{_≡_};
 ghost use Prim.Native.Nat.{_+_, _<_, _≤_};
 ghost use lib.ListN.{length};
 ghost use lib.Seq.{sets};
-ghost use Rattle.brithelva.specs.Face.{Says, refused, verdictOf, puts, putsIf, packedAs};
+ghost use Rattle.brithelva.specs.Face.{Says, refused, verdictOf, puts, putsIf, packedAs, offeredAs};
 use pack::Packed;
+use record::Offered;
 use refusals::Refusal;
 use refusals::Verdict;
 
@@ -33,6 +34,17 @@ pub(crate) fn packed_as(packed: Packed) -> u64
     match packed {
         Packed::Written(n) => 256 * n as u64,
         Packed::Refused(r) => refused(r),
+    }
+}
+
+// What offering answers: 1 as the value where the slot held the payload already.
+pub(crate) fn offered_as(offered: Offered) -> u64
+    ensures { λ n. ⌜ n ≡ offeredAs offered ⌝ }
+{
+    match offered {
+        Offered::Stored => 0,
+        Offered::Repeat => 256,
+        Offered::Refused(r) => refused(r),
     }
 }
 

@@ -2,7 +2,7 @@
 ghost use mathlib.Core.Path.{_≡_};
 ghost use Rattle.crc.specs.Crc.{crc32Of};
 ghost use Rattle.packet.specs.Settings.{house};
-ghost use Rattle.brithelva.specs.Face.{Says, Keeps, encodeSays, repairSays, readSays, fieldList, packSays, openSays, closeSays};
+ghost use Rattle.brithelva.specs.Face.{Says, Keeps, encodeSays, repairSays, readSays, fieldList, packSays, openSays, offerSays, closeSays};
 use packet::Packet;
 use packet::Reading;
 use packet::Settings;
@@ -175,6 +175,18 @@ pub extern "C" fn bh_open_house(
     memory::put_record(held, next);
     let verdict = kept.verdict;
     answers::verdict_of(verdict)
+}
+
+// Offers a packet to the record, which is only read. The value is 0 for stored, 1 for a repeat.
+#[no_mangle]
+pub extern "C" fn bh_offer(held: &[u8], store: &mut [u8], packet: &[u8]) -> u64
+    ensures { λ r. ⌜ Keeps (offerSays (now (held .entry)) (now (store .entry)) (now (packet .entry))) r (now (held .entry)) (now (store .exit)) ⌝ }
+{
+    if held.len() != 128 {
+        return answers::refused(Refusal::Record);
+    }
+    let offered = record::offer(memory::record_in(held), store, packet);
+    answers::offered_as(offered)
 }
 
 // Closes a resource's place of the record. The store is only read.

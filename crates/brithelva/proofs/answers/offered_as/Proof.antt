@@ -1,0 +1,39 @@
+-- Each answer of an offer has its number by definition.
+use mathlib.Core.Path.{sym, ap, _∙_}
+use Rattle.brithelva.specs.Face.{offeredAs}
+use borrow.Author.Needs.{needs}
+use Rattle.brithelva.proofs.answers.offered_as.Statement.{statement}
+use Rattle.brithelva.proofs.answers.offered_as.Tie as tie
+
+enum-told : tie.Need-enum-told
+enum-told c = search needs
+
+enum-told-2 : tie.Need-enum-told-2
+enum-told-2 c = search needs
+
+enum-known-offered : tie.Need-enum-known-offered
+enum-known-offered c = search needs
+
+refused-requires : tie.Need-refused-requires
+refused-requires c κs = search needs
+
+returns : tie.Need-returns
+returns c = search needs
+
+returns-2 : tie.Need-returns-2
+returns-2 c = search needs
+
+returns-3 : tie.Need-returns-3
+returns-3 c = c .refused .ensures ∙ ap offeredAs (sym (c .before .before .offered .given .1))
+
+pub offered-as-spec : {M : Type 1} → statement M
+offered-as-spec =
+    tie.close
+    (tie.spec
+    enum-told
+    enum-told-2
+    enum-known-offered
+    refused-requires
+    returns
+    returns-2
+    returns-3)
