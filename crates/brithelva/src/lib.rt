@@ -2,7 +2,7 @@
 ghost use mathlib.Core.Path.{_≡_};
 ghost use Rattle.crc.specs.Crc.{crc32Of};
 ghost use Rattle.packet.specs.Settings.{house};
-ghost use Rattle.brithelva.specs.Face.{Says, Keeps, encodeSays, repairSays, readSays, fieldList, packSays, openSays, offerSays, closeSays};
+ghost use Rattle.brithelva.specs.Face.{Says, Keeps, encodeSays, repairSays, readSays, fieldList, packSays, openSays, offerSays, handSays, closeSays};
 use packet::Packet;
 use packet::Reading;
 use packet::Settings;
@@ -187,6 +187,30 @@ pub extern "C" fn bh_offer(held: &[u8], store: &mut [u8], packet: &[u8]) -> u64
     }
     let offered = record::offer(memory::record_in(held), store, packet);
     answers::offered_as(offered)
+}
+
+// A collected file of `length` bytes, at the start of `out`. Record and store are only read.
+#[no_mangle]
+pub extern "C" fn bh_hand_out(
+    held: &[u8],
+    store: &[u8],
+    resource: u16,
+    length: u64,
+    out: &mut [u8],
+) -> u64
+    ensures { λ r. ⌜ Says (handSays (now (held .entry)) (now (store .entry)) resource length (now (out .entry))) r (now (out .exit)) ⌝ }
+{
+    if held.len() != 128 {
+        return answers::refused(Refusal::Record);
+    }
+    let verdict = record::hand_out(
+        memory::record_in(held),
+        store,
+        resource,
+        length as usize,
+        out,
+    );
+    answers::verdict_of(verdict)
 }
 
 // Closes a resource's place of the record. The store is only read.
