@@ -3,9 +3,11 @@ ghost use mathlib.Core.Path.{_≡_};
 ghost use Prim.Native.Nat.{_+_, _<_, _≤_};
 ghost use lib.ListN.{length};
 ghost use lib.Seq.{sets};
-ghost use Rattle.brithelva.specs.Face.{Says, refused, verdictOf, puts, putsIf, packedAs, offeredAs};
+ghost use Rattle.brithelva.specs.Face.{Says, refused, verdictOf, puts, putsIf, packedAs, offeredAs, lowestAs, standingAs};
 use pack::Packed;
+use places::Found;
 use record::Offered;
+use record::Standing;
 use refusals::Refusal;
 use refusals::Verdict;
 
@@ -45,6 +47,28 @@ pub(crate) fn offered_as(offered: Offered) -> u64
         Offered::Stored => 0,
         Offered::Repeat => 256,
         Offered::Refused(r) => refused(r),
+    }
+}
+
+// A slot's number plus one, or 0 for none.
+fn lowest_as(lowest: Found) -> u64
+    requires { ⌜ lowestAs lowest < 18446744073709551616 ⌝ }
+    ensures { λ n. ⌜ n ≡ lowestAs lowest ⌝ }
+{
+    match lowest {
+        Found::At(i) => i as u64 + 1,
+        Found::Nothing => 0,
+    }
+}
+
+// What status answers: the filled slots and the lowest empty one.
+pub(crate) fn standing_as(standing: Standing) -> u64
+    requires { ⌜ standingAs standing < 18446744073709551616 ⌝ }
+    ensures { λ n. ⌜ n ≡ standingAs standing ⌝ }
+{
+    match standing {
+        Standing::Filled(n, lowest) => 256 * (n as u64 + 16777216 * lowest_as(lowest)),
+        Standing::Refused(r) => refused(r),
     }
 }
 

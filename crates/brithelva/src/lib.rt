@@ -2,7 +2,7 @@
 ghost use mathlib.Core.Path.{_≡_};
 ghost use Rattle.crc.specs.Crc.{crc32Of};
 ghost use Rattle.packet.specs.Settings.{house};
-ghost use Rattle.brithelva.specs.Face.{Says, Keeps, encodeSays, repairSays, readSays, fieldList, packSays, openSays, offerSays, handSays, closeSays};
+ghost use Rattle.brithelva.specs.Face.{Says, Keeps, encodeSays, repairSays, readSays, fieldList, packSays, openSays, offerSays, statusSays, handSays, closeSays};
 use packet::Packet;
 use packet::Reading;
 use packet::Settings;
@@ -187,6 +187,18 @@ pub extern "C" fn bh_offer(held: &[u8], store: &mut [u8], packet: &[u8]) -> u64
     }
     let offered = record::offer(memory::record_in(held), store, packet);
     answers::offered_as(offered)
+}
+
+// How a resource stands: the value is the filled slots + 2^24 · (the lowest empty one + 1), with 0 for the latter where none is empty.
+#[no_mangle]
+pub extern "C" fn bh_status(held: &[u8], store: &[u8], resource: u16) -> u64
+    ensures { λ r. ⌜ r ≡ statusSays (now (held .entry)) (now (store .entry)) resource ⌝ }
+{
+    if held.len() != 128 {
+        return answers::refused(Refusal::Record);
+    }
+    let standing = record::status(memory::record_in(held), store, resource);
+    answers::standing_as(standing)
 }
 
 // A collected file of `length` bytes, at the start of `out`. Record and store are only read.

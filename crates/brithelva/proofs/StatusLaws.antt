@@ -1,0 +1,67 @@
+-- Status through the face: a place of a good record has at most 1048575 slots, so that both numbers fit an answer; and the answer is status's own.
+-- Assumes nothing.
+use mathlib.Core.Path.{_≡_, refl, sym, ap, subst, _∙_}
+use mathlib.Core.Bool.{Bool, true, false, cond}
+use mathlib.Core.List.{List}
+use Prim.Native.Nat.{ℕ, _<_, _≤_}
+use native.Mathlib.Omega.{arith}
+use borrow.Author.Tests.{eq-eqb, ne-eqb}
+use lib.Dec.{eqb}
+use lib.ListN.{length, getD}
+use Rattle.refusals.specs.declared.Refusal.{Refusal}
+use Rattle.refusals.specs.declared.Refusal.the-variants.{Slot}
+use Rattle.places.specs.declared.Record.{Record}
+use Rattle.places.specs.declared.Found.{Found}
+use Rattle.places.specs.declared.Found.the-variants.{At, Nothing}
+use Rattle.places.specs.Places.{unused, good, placeNamed}
+use Rattle.places.proofs.Facts.{named-facts}
+use Rattle.contents.specs.Contents.{Slot as Content, contents, anyWrong, filled, lowestEmpty}
+use Rattle.contents.proofs.Places.{length-contents}
+use Rattle.contents.proofs.Filled.{filled-most, lowest-found}
+use Rattle.record.specs.declared.Standing.{Standing}
+use Rattle.record.specs.declared.Standing.the-variants.{Filled}
+use Rattle.record.specs.Hand.{standingIn, statusFound, statusOf}
+use Rattle.brithelva.specs.Layout.{recordIn}
+use Rattle.brithelva.specs.Face.{badRecord, lowestAs, standingAs, statusSays}
+
+lowest-short : (c : List Content) → lowestAs (lowestEmpty c 0) ≤ length c
+lowest-short c = by (lowestEmpty c 0) refl
+  where
+    by : (f : Found) → lowestEmpty c 0 ≡ f → lowestAs f ≤ length c
+    by (At k) e = omega (arith, lowest-found c k e .below)
+    by Nothing e = omega arith
+
+standing-short : (c : List Content) → length c ≤ 1048575 → standingAs (standingIn c) < 18446744073709551616
+unfolding standingIn
+standing-short c h = by (anyWrong c)
+  where
+    by : (b : Bool) → standingAs (cond b (Standing.Refused Slot) (Filled (filled c) (lowestEmpty c 0))) < 18446744073709551616
+    by true = omega arith
+    by false = omega (arith, filled-most c, lowest-short c)
+
+status-short : (h : Record) (s : List ℕ) (resource : ℕ) → standingAs (statusOf h s resource) < 18446744073709551616
+unfolding statusOf
+status-short h s resource = by (good (length s) (h .places)) refl (placeNamed (h .places) resource) refl
+  where
+    by : (b : Bool) → good (length s) (h .places) ≡ b → (f : Found) → placeNamed (h .places) resource ≡ f
+        → standingAs (cond b (statusFound h s f) (Standing.Refused Refusal.Record)) < 18446744073709551616
+    by false g f e = omega arith
+    by true g Nothing e = omega arith
+    by true g (At i) e =
+        let p = getD (h .places) i unused in
+        let most : p .count ≤ 1048575 = named-facts (length s) (h .places) g resource i e .count-most in
+        standing-short (contents p s) (omega (arith, length-contents p s))
+
+module _ (h s : List ℕ) (resource : ℕ) (r : ℕ) where
+  pub status-bad : (length h ≡ 128 → ⊥) → r ≡ badRecord → r ≡ statusSays h s resource
+  unfolding statusSays
+  status-bad d e = let t : eqb (length h) 128 ≡ false = ne-eqb (length h) 128 d in rw t e
+
+  pub status-says : (held : Record) (o : Standing) → length h ≡ 128 → held ≡ recordIn h → o ≡ statusOf held s resource → r ≡ standingAs o → r ≡ statusSays h s resource
+  unfolding statusSays
+  status-says held o n e a d =
+      let t : eqb (length h) 128 ≡ true = eq-eqb (length h) 128 n in
+      rw t (d ∙ ap standingAs (a ∙ ap (λ (y : Record). statusOf y s resource) e))
+
+pub standing-fits : (held : Record) (s : List ℕ) (resource : ℕ) (o : Standing) → o ≡ statusOf held s resource → standingAs o < 18446744073709551616
+standing-fits held s resource o e = subst (λ (y : Standing). standingAs y < 18446744073709551616) (sym e) (status-short held s resource)
