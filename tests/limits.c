@@ -1,0 +1,78 @@
+/* The cases that need more memory than the program `cases` has: the largest file, and stores longer than their usable part. */
+#include "brithelva.h"
+
+#include <stdio.h>
+#include <stdlib.h>
+#include <string.h>
+
+static int told, wrong;
+
+static void expect(const char *name, uint64_t expected, uint64_t got)
+{
+    told++;
+    wrong += expected != got;
+    if (expected != got)
+        printf("limits: %s: expected %llu got %llu\n", name, (unsigned long long)expected, (unsigned long long)got);
+}
+
+static void packing(uint8_t *file)
+{
+    uint8_t packet[BH_LARGEST_PACKET];
+    expect("the largest file, first packet", 256 * 273, bh_pack(file, BH_LARGEST_FILE, 1, 1, 0, 1, 255, 255, 0, packet, sizeof packet));
+    /* 276 tables of 255 rows */
+    expect("the largest file, last packet", 256 * 273, bh_pack(file, BH_LARGEST_FILE, 1, 1, 0, 1, 255, 255, 276 * 255 - 1, packet, sizeof packet));
+    expect("the largest file, no such packet", BH_NUMBER, bh_pack(file, BH_LARGEST_FILE, 1, 1, 0, 1, 255, 255, 276 * 255, packet, sizeof packet));
+    expect("a byte more", BH_SIZE, bh_pack(file, BH_LARGEST_FILE + 1, 1, 1, 0, 1, 255, 255, 0, packet, sizeof packet));
+    expect("a byte more, at the house setting", BH_SIZE, bh_pack_house(file, BH_LARGEST_FILE + 1, 1, 1, 0, 0, packet, sizeof packet));
+    expect("size before count", BH_SIZE, bh_pack(file, BH_LARGEST_FILE + 1, 1, 1, 0, 0, 0, 1, 0, packet, sizeof packet));
+    expect("field before size", BH_FIELD, bh_pack(file, BH_LARGEST_FILE + 1, 0, 1, 0, 0, 0, 1, 0, packet, sizeof packet));
+    expect("count: 16 bytes a packet are too small", BH_COUNT, bh_pack(file, BH_LARGEST_FILE, 1, 1, 0, 0, 0, 16, 0, packet, sizeof packet));
+    expect("count: 17 bytes a packet", 256 * 35, bh_pack(file, BH_LARGEST_FILE, 1, 1, 0, 0, 0, 17, 0, packet, sizeof packet));
+}
+
+/* only the first 16,777,216 bytes of a longer store are used */
+static void stores(uint8_t *store)
+{
+    uint8_t record[BH_RECORD] = {0};
+    size_t more = BH_USABLE_STORE + 1000;
+    /* 4113 slots of 4079 bytes leave 289 */
+    expect("one slot too many", BH_ROOM, bh_open(record, BH_RECORD, store, more, 1, 1, 0, 4114, 0, 0, 4077));
+    expect("as many as fit", 0, bh_open(record, BH_RECORD, store, more, 1, 1, 0, 4113, 0, 0, 4077));
+    expect("status over the whole part", (uint64_t)256 << 24, bh_status(record, BH_RECORD, store, more, 1));
+    expect("room behind the usable part is none", BH_ROOM, bh_open(record, BH_RECORD, store, more, 2, 1, 0, 100, 0, 0, 8));
+    expect("the rest of the usable part", 0, bh_open(record, BH_RECORD, store, more, 2, 1, 0, 96, 0, 0, 1));
+    record[28] = (uint8_t)(record[28] + 1);
+    expect("to its last byte", (uint64_t)256 << 24, bh_status(record, BH_RECORD, store, more, 1));
+    record[28] = (uint8_t)(record[28] + 1);
+    expect("past the usable part", BH_RECORD_BAD, bh_status(record, BH_RECORD, store, more, 1));
+}
+
+static void largest(uint8_t *file, uint8_t *store, uint8_t *out)
+{
+    uint8_t record[BH_RECORD] = {0}, packet[BH_LARGEST_PACKET];
+    size_t length = 4113 * 4077 - 5;
+    expect("a file as large as a store can hold", 0, bh_open(record, BH_RECORD, store, BH_USABLE_STORE, 1, 1, 0, 4113, 0, 0, 4077));
+    for (uint32_t n = 4113; n-- > 0;) {
+        uint64_t answer = bh_pack(file, length, 1, 1, 0, 0, 0, 4077, n, packet, sizeof packet);
+        expect("its packets", 0, bh_number(answer) + bh_offer(record, BH_RECORD, store, BH_USABLE_STORE, packet, (size_t)bh_value(answer)));
+    }
+    expect("its status", 256 * 4113, bh_status(record, BH_RECORD, store, BH_USABLE_STORE, 1));
+    expect("it comes out", 0, bh_hand_out(record, BH_RECORD, store, BH_USABLE_STORE, 1, length, out, length));
+    expect("byte for byte", 0, (uint64_t)(memcmp(file, out, length) != 0));
+}
+
+int main(void)
+{
+    size_t room = BH_USABLE_STORE + 4096;
+    uint8_t *file = malloc(room), *store = malloc(room), *out = malloc(room);
+    if (file == NULL || store == NULL || out == NULL)
+        return 2;
+    for (size_t i = 0; i < room; i++)
+        file[i] = (uint8_t)(i * 2654435761u >> 24);
+    memset(store, 0xEE, room);
+    packing(file);
+    stores(store);
+    largest(file, store, out);
+    printf("limits: %d cases, %d wrong\n", told, wrong);
+    return wrong != 0;
+}
