@@ -1,11 +1,124 @@
-# Targets of the repository; README.md names the two that a newcomer needs.
-.PHONY: test style
+# Targets of the repository; README.md names the two that a newcomer needs (demo, test).
+# The proved library is compiled for x86-64. On another processor the command is built by Debian's cross compiler and run
+# under the kit's emulator; build/run is the same word on both.
+VERSION = 1.0
+PREFIX = /usr/local
+DESTDIR =
 
-# everything: the layout of the source, its style, and every proof from nothing. The last line counts what passed.
-test: style
-	@rt fmt --check
+machine := $(shell uname -m)
+tools = tests/tools
+ifeq ($(machine),x86_64)
+CC_FOR = cc
+LINK =
+else
+CC_FOR = x86_64-linux-gnu-gcc
+LINK = -static
+endif
+CFLAGS = -std=gnu11 -O2 -Wall -Wextra -Wconversion -Iinclude
+# what the library is made from: a change of any of these makes it anew
+sources = crates.txt $(shell find crates -path '*/must-fail' -prune -o -type f -print)
+command = $(wildcard command/*.c) command/command.h include/brithelva.h
+
+.PHONY: all test quick style reference cases demo command kill steps limits example bench fuzz install uninstall clean
+
+all: build/run
+
+build/libbrithelva.a: $(sources)
+	@mkdir -p build
+	@echo 'proving the library and compiling it: a few minutes'
+	@rt staticlib brithelva >build/library.log 2>&1 || { cat build/library.log; exit 1; }
+	@cp target/staticlib/libbrithelva.a $@
+
+build/brithelva: build/libbrithelva.a $(command) Makefile
+	@$(tools) $(CC_FOR)
+	@$(CC_FOR) $(CFLAGS) $(LINK) -DBRITHELVA_VERSION='"$(VERSION)"' $(filter %.c,$(command)) build/libbrithelva.a -o $@
+
+build/run: build/brithelva
+	@$(tools) run $(CURDIR)/build/brithelva >$@
+	@chmod +x $@
+
+# ---- the main job: a sample packed, damaged, shuffled with noise, collected, handed out and compared
+demo: build/run
+	@tests/demo build/run
+
+# ---- tests. The last line counts what passed: every proof from nothing, every wrong edit, every program
+test: quick
 	@rt ci
+
+# all that is no proof, in a few minutes once the library is there
+quick: style command kill steps limits example
 
 style:
 	@tests/style-test
 	@tests/style
+	@rt fmt --check
+
+# the second program: its own tests, and its output beside that of the program `cases`
+reference:
+	@reference/test.py
+	@reference/compare
+
+# what `cases` prints, from the proved program itself
+cases:
+	@rt check cases
+
+command: build/run
+	@tests/demo build/run
+	@tests/command build/run
+
+kill: build/run
+	@tests/kill build/run
+
+limits: build/limits
+	@$(tools) here build/limits
+
+# one instruction at a time, which the emulator does not offer
+ifeq ($(machine),x86_64)
+steps: build/steps
+	@build/steps
+else
+steps:
+	@echo 'steps: skipped, it needs an x86-64 processor'
+endif
+
+build/limits build/steps: build/%: tests/%.c include/brithelva.h build/libbrithelva.a
+	@$(tools) $(CC_FOR)
+	@$(CC_FOR) $(CFLAGS) $(LINK) $< build/libbrithelva.a -o $@
+
+# the README's example against an installed library, and the header as C99 and as C++
+example: build/run
+	@tests/example $(CC_FOR) "$(LINK)"
+
+# SECONDS and SEED say how long and from where; the same seed makes the same calls
+SECONDS = 30
+SEED = 1
+fuzz: build/run
+	@fuzz/run $(SECONDS) $(SEED)
+
+# ---- times beside other libraries, on this machine's own processor
+bench:
+	@bench/run
+
+install: build/run
+	install -d $(DESTDIR)$(PREFIX)/lib/pkgconfig $(DESTDIR)$(PREFIX)/include $(DESTDIR)$(PREFIX)/bin $(DESTDIR)$(PREFIX)/share/man/man1
+	install -m 644 build/libbrithelva.a $(DESTDIR)$(PREFIX)/lib/
+	install -m 644 include/brithelva.h $(DESTDIR)$(PREFIX)/include/
+	sed -e 's|@PREFIX@|$(PREFIX)|' -e 's|@VERSION@|$(VERSION)|' brithelva.pc.in >build/brithelva.pc
+	install -m 644 build/brithelva.pc $(DESTDIR)$(PREFIX)/lib/pkgconfig/
+	install -m 644 command/brithelva.1 $(DESTDIR)$(PREFIX)/share/man/man1/
+ifeq ($(machine),x86_64)
+	install -m 755 build/brithelva $(DESTDIR)$(PREFIX)/bin/
+else
+	install -d $(DESTDIR)$(PREFIX)/libexec/brithelva
+	install -m 755 build/brithelva $(DESTDIR)$(PREFIX)/libexec/brithelva/
+	$(tools) run $(PREFIX)/libexec/brithelva/brithelva >build/installed
+	install -m 755 build/installed $(DESTDIR)$(PREFIX)/bin/brithelva
+endif
+
+uninstall:
+	rm -f $(DESTDIR)$(PREFIX)/lib/libbrithelva.a $(DESTDIR)$(PREFIX)/include/brithelva.h $(DESTDIR)$(PREFIX)/lib/pkgconfig/brithelva.pc
+	rm -f $(DESTDIR)$(PREFIX)/share/man/man1/brithelva.1 $(DESTDIR)$(PREFIX)/bin/brithelva
+	rm -rf $(DESTDIR)$(PREFIX)/libexec/brithelva
+
+clean:
+	rm -rf build target
