@@ -12,7 +12,7 @@ use Rattle.places.specs.declared.Place.{Place}
 use Rattle.places.specs.Places.{unused}
 use Rattle.brithelva.specs.Layout.{placeBytes, allBytes}
 
-length-place : (p : Place) → length (placeBytes p) ≡ 16
+pub length-place : (p : Place) → length (placeBytes p) ≡ 16
 unfolding placeBytes
 length-place p = refl
 
