@@ -4,4 +4,5 @@ pub mod RecordLaws
 pub mod LayoutLaws
 pub mod HoldLaws
 pub mod StatusLaws
+pub mod RefusedLaws
 pub mod OneResult

@@ -1,0 +1,30 @@
+-- What a user of the face may rely on beside each contract: a refusal changes nothing (document 01, section 6). proofs/RefusedLaws.antt shows it.
+-- Assumes nothing.
+use mathlib.Core.Path.{_≡_}
+use mathlib.Core.List.{List}
+use Prim.Native.Nat.{ℕ, _%_}
+use Rattle.code.specs.Code.{Bytes}
+use Rattle.packet.specs.declared.Settings.{Settings}
+use Rattle.brithelva.specs.Face.{Said, Says, Kept, Keeps, encodeSays, repairSays, readSays, packSays, openSays, offerSays, handSays, closeSays}
+
+-- the number in an answer: 0 is accepted
+abbrev pub numberIn : ℕ → ℕ
+numberIn r = r % 256
+
+-- whatever a call may answer, and leave in its output: beside a refusal it leaves what it was lent
+abbrev pub OutputKept : Said → List ℕ → Type 0
+OutputKept p out = (r : ℕ) (left : List ℕ) → Says p r left → (numberIn r ≡ 0 → ⊥) → left ≡ out
+
+-- the same of a record and a store
+abbrev pub RecordKept : Kept → List ℕ → List ℕ → Type 0
+RecordKept p h s = (r : ℕ) (held store : List ℕ) → Keeps p r held store → (numberIn r ≡ 0 → ⊥) → (held ≡ h) × (store ≡ s)
+
+pub record RefusalsChangeNothing : Type 0 where
+  pub encode : (info out : List ℕ) → OutputKept (encodeSays info out) out
+  pub repair : (row out : List ℕ) → OutputKept (repairSays row out) out
+  pub read : (q out : List ℕ) → OutputKept (readSays q out) out
+  pub pack : (file : List ℕ) (g : Settings) (n : ℕ) (out : List ℕ) → OutputKept (packSays file g n out) out
+  pub «open» : (h s : List ℕ) (g : Settings) (count : ℕ) → Bytes h → RecordKept (openSays h s g count) h s
+  pub offer : (h s q : List ℕ) → RecordKept (offerSays h s q) h s
+  pub handOut : (h s : List ℕ) (resource n : ℕ) (out : List ℕ) → OutputKept (handSays h s resource n out) out
+  pub close : (h s : List ℕ) (resource : ℕ) → Bytes h → RecordKept (closeSays h s resource) h s
