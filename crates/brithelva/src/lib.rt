@@ -163,14 +163,8 @@ pub extern "C" fn bh_open_house(
     if held.len() != 128 {
         return answers::refused(Refusal::Record);
     }
-    let kept = record::open_house(
-        memory::record_in(held),
-        store,
-        resource,
-        kind,
-        update,
-        count,
-    );
+    let before = memory::record_in(held);
+    let kept = record::open_house(before, store, resource, kind, update, count);
     let next = kept.record;
     memory::put_record(held, next);
     let verdict = kept.verdict;
@@ -215,13 +209,8 @@ pub extern "C" fn bh_hand_out(
     if held.len() != 128 {
         return answers::refused(Refusal::Record);
     }
-    let verdict = record::hand_out(
-        memory::record_in(held),
-        store,
-        resource,
-        length as usize,
-        out,
-    );
+    let before = memory::record_in(held);
+    let verdict = record::hand_out(before, store, resource, length as usize, out);
     answers::verdict_of(verdict)
 }
 
