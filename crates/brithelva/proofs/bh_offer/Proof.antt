@@ -5,7 +5,7 @@ use Rattle.brithelva.proofs.bh_offer.Statement.{statement}
 use Rattle.brithelva.proofs.bh_offer.Tie as tie
 
 refused-requires : tie.Need-refused-requires
-refused-requires c κs = search needs
+refused-requires c κs = tt
 
 returns : tie.Need-returns
 returns c = offer-bad _ _ _ _ (c .before .if1 .taken) (c .refused .ensures)
@@ -14,10 +14,10 @@ record-in-requires : tie.Need-record-in-requires
 record-in-requires c κs = search needs
 
 offer-requires : tie.Need-offer-requires
-offer-requires c κs = search needs
+offer-requires c κs = tt
 
 offered-as-requires : tie.Need-offered-as-requires
-offered-as-requires c κs = search needs
+offered-as-requires c κs = tt
 
 same-length : tie.Need-same-length
 same-length c = search needs

@@ -5,7 +5,7 @@ use Rattle.brithelva.proofs.bh_pack.Statement.{statement}
 use Rattle.brithelva.proofs.bh_pack.Tie as tie
 
 pack-requires : tie.Need-pack-requires
-pack-requires c κs = search needs
+pack-requires c κs = tt
 
 packed-as-requires : tie.Need-packed-as-requires
 packed-as-requires c κs = packed-fits _ _ _ _ _ _ (c .before .before .pack .ensures)

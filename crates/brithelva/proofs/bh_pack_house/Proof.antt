@@ -5,7 +5,7 @@ use Rattle.brithelva.proofs.bh_pack_house.Statement.{statement}
 use Rattle.brithelva.proofs.bh_pack_house.Tie as tie
 
 pack-house-requires : tie.Need-pack-house-requires
-pack-house-requires c κs = search needs
+pack-house-requires c κs = tt
 
 packed-as-requires : tie.Need-packed-as-requires
 packed-as-requires c κs = packed-fits _ _ _ _ _ _ (c .before .before .pack-house .ensures)

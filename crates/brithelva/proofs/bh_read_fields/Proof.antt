@@ -6,25 +6,25 @@ use Rattle.brithelva.proofs.bh_read_fields.Statement.{statement}
 use Rattle.brithelva.proofs.bh_read_fields.Tie as tie
 
 read-fields-requires : tie.Need-read-fields-requires
-read-fields-requires c κs = search needs
+read-fields-requires c κs = tt
 
 enum-known-f : tie.Need-enum-known-f
 enum-known-f c = search needs
 
 field-list-requires : tie.Need-field-list-requires
-field-list-requires c κs = search needs
+field-list-requires c κs = tt
 
 slice-aggregate-put-numbers : tie.Need-slice-aggregate-put-numbers
 slice-aggregate-put-numbers c = search needs
 
 put-numbers-requires : tie.Need-put-numbers-requires
-put-numbers-requires c κs = search needs
+put-numbers-requires c κs = tt
 
 enum-known-r : tie.Need-enum-known-r
 enum-known-r c = search needs
 
 refused-requires : tie.Need-refused-requires
-refused-requires c κs = search needs
+refused-requires c κs = tt
 
 same-length : tie.Need-same-length
 same-length c = search needs

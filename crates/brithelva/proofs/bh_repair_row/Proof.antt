@@ -5,13 +5,13 @@ use Rattle.brithelva.proofs.bh_repair_row.Statement.{statement}
 use Rattle.brithelva.proofs.bh_repair_row.Tie as tie
 
 repair-row-requires : tie.Need-repair-row-requires
-repair-row-requires c κs = search needs
+repair-row-requires c κs = tt
 
 slice-aggregate-put-if : tie.Need-slice-aggregate-put-if
 slice-aggregate-put-if c = search needs
 
 put-if-requires : tie.Need-put-if-requires
-put-if-requires c κs = search needs
+put-if-requires c κs = tt
 
 same-length : tie.Need-same-length
 same-length c = search needs

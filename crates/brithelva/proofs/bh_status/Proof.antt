@@ -5,7 +5,7 @@ use Rattle.brithelva.proofs.bh_status.Statement.{statement}
 use Rattle.brithelva.proofs.bh_status.Tie as tie
 
 refused-requires : tie.Need-refused-requires
-refused-requires c κs = search needs
+refused-requires c κs = tt
 
 returns : tie.Need-returns
 returns c = status-bad _ _ _ _ (c .before .if1 .taken) (c .refused .ensures)
@@ -14,7 +14,7 @@ record-in-requires : tie.Need-record-in-requires
 record-in-requires c κs = search needs
 
 status-requires : tie.Need-status-requires
-status-requires c κs = search needs
+status-requires c κs = tt
 
 standing-as-requires : tie.Need-standing-as-requires
 standing-as-requires c κs = standing-fits _ _ _ _ (c .status .ensures)

@@ -15,7 +15,7 @@ enum-known-offered : tie.Need-enum-known-offered
 enum-known-offered c = search needs
 
 refused-requires : tie.Need-refused-requires
-refused-requires c κs = search needs
+refused-requires c κs = tt
 
 returns : tie.Need-returns
 returns c = search needs

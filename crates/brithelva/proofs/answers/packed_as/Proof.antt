@@ -19,7 +19,7 @@ enum-known-packed-2 : tie.Need-enum-known-packed-2
 enum-known-packed-2 c = search needs
 
 refused-requires : tie.Need-refused-requires
-refused-requires c κs = search needs
+refused-requires c κs = tt
 
 returns : tie.Need-returns
 returns c = ap packedAs (sym (c .before .packed .given .1))

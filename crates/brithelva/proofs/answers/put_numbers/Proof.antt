@@ -5,7 +5,7 @@ use Rattle.brithelva.proofs.answers.put_numbers.Statement.{statement}
 use Rattle.brithelva.proofs.answers.put_numbers.Tie as tie
 
 refused-requires : tie.Need-refused-requires
-refused-requires c κs = search needs
+refused-requires c κs = tt
 
 returns : tie.Need-returns
 returns c = puts-short _ _ _ (search needs) (c .refused .ensures)

@@ -35,7 +35,7 @@ enum-known-standing-2 : tie.Need-enum-known-standing-2
 enum-known-standing-2 c = search needs
 
 refused-requires : tie.Need-refused-requires
-refused-requires c κs = search needs
+refused-requires c κs = tt
 
 returns : tie.Need-returns
 returns c =

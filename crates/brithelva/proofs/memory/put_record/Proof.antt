@@ -29,7 +29,7 @@ element-copy-out-p : tie.Need-element-copy-out-p Inv-loop μ-loop
 element-copy-out-p c = search needs
 
 place-bytes-requires : tie.Need-place-bytes-requires Inv-loop μ-loop
-place-bytes-requires c κs = search needs
+place-bytes-requires c κs = tt
 
 slice-aggregate-copy-in : tie.Need-slice-aggregate-copy-in Inv-loop μ-loop
 slice-aggregate-copy-in c = search needs
