@@ -1,6 +1,6 @@
 -- What the calls on a record say through the face: of bytes that are no record 9; else what the call on the record in them says, its record as bytes again.
 -- Assumes nothing.
-use mathlib.Core.Path.{_≡_, sym, ap, _∙_}
+use mathlib.Core.Path.{_≡_, ap, _∙_}
 use mathlib.Core.Bool.{true, false}
 use mathlib.Core.List.{List}
 use Prim.Native.Nat.{ℕ}

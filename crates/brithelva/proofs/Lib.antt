@@ -5,4 +5,5 @@ pub mod LayoutLaws
 pub mod HoldLaws
 pub mod StatusLaws
 pub mod RefusedLaws
+pub mod FollowLaws
 pub mod OneResult

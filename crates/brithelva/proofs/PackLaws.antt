@@ -14,7 +14,7 @@ use Rattle.packet.specs.Settings.{settingsFit}
 use Rattle.packet.proofs.Laws.{settings-facts}
 use Rattle.pack.specs.declared.Packed.{Packed}
 use Rattle.pack.specs.declared.Packed.the-variants.{Written}
-use Rattle.pack.specs.Pack.{largestFile, countOf, payloadOf, packetOf, Packing, refusing, written, packOf, Packs}
+use Rattle.pack.specs.Pack.{largestFile, countOf, packetOf, refusing, written, packOf, Packs}
 use Rattle.pack.proofs.Laws.{length-packet, length-payload}
 use Rattle.brithelva.specs.Face.{Says, packedAs, packSays}
 

@@ -35,7 +35,7 @@ use Rattle.record.proofs.OfferLaws.{offer-refused}
 use Rattle.record.proofs.HandLaws.{hand-refused}
 use Rattle.code.specs.Code.{Bytes}
 use Rattle.brithelva.specs.Layout.{recordIn, recordBytes}
-use Rattle.brithelva.specs.Face.{Said, Says, Kept, Keeps, refused, verdictOf, badRecord, puts, putsIf, encodeSays, repairSays, fieldList, readingSays, readSays, packedAs, packSays, openSays, closeSays, offeredAs, offerSays, handSays}
+use Rattle.brithelva.specs.Face.{Said, Kept, refused, verdictOf, badRecord, puts, putsIf, encodeSays, repairSays, fieldList, readingSays, readSays, packedAs, packSays, openSays, closeSays, offeredAs, offerSays, handSays}
 use Rattle.brithelva.specs.Statements.{numberIn, OutputKept, RecordKept, RefusalsChangeNothing}
 use Rattle.brithelva.proofs.LayoutLaws.{bytes-again}
 

@@ -1,7 +1,7 @@
 -- What each function of the C face answers and leaves: the call it stands for, its answer as number + 256 · value. Number 0 is accepted, else document 01's refusal
 -- number; the value is the refusal's extra value, or what is said below. A record of another length than 128 bytes is refused 9. Assumes nothing.
 use mathlib.Core.Path.{_≡_}
-use mathlib.Core.Bool.{Bool, true, false, cond, not}
+use mathlib.Core.Bool.{cond}
 use mathlib.Core.List.{List, [], _∷_, _++_}
 use Prim.Native.Nat.{ℕ, _+_, _*_}
 use lib.Dec.{eqb, ltb}

@@ -1,10 +1,14 @@
--- What a user of the face may rely on beside each contract: a refusal changes nothing (document 01, section 6). proofs/RefusedLaws.antt shows it.
+-- What a user of the face may rely on beside each contract: a refusal changes nothing (document 01, section 6), and the bytes of a record carry it from call to call.
+-- proofs/RefusedLaws.antt and FollowLaws.antt show it.
 -- Assumes nothing.
 use mathlib.Core.Path.{_≡_}
 use mathlib.Core.List.{List}
 use Prim.Native.Nat.{ℕ, _%_}
+use lib.ListN.{length}
 use Rattle.code.specs.Code.{Bytes}
 use Rattle.packet.specs.declared.Settings.{Settings}
+use Rattle.record.specs.Open.{openOf, closeOf}
+use Rattle.brithelva.specs.Layout.{recordIn}
 use Rattle.brithelva.specs.Face.{Said, Says, Kept, Keeps, encodeSays, repairSays, readSays, packSays, openSays, offerSays, handSays, closeSays}
 
 -- the number in an answer: 0 is accepted
@@ -19,6 +23,7 @@ OutputKept p out = (r : ℕ) (left : List ℕ) → Says p r left → (numberIn r
 abbrev pub RecordKept : Kept → List ℕ → List ℕ → Type 0
 RecordKept p h s = (r : ℕ) (held store : List ℕ) → Keeps p r held store → (numberIn r ≡ 0 → ⊥) → (held ≡ h) × (store ≡ s)
 
+-- every function that is lent bytes to write
 pub record RefusalsChangeNothing : Type 0 where
   pub encode : (info out : List ℕ) → OutputKept (encodeSays info out) out
   pub repair : (row out : List ℕ) → OutputKept (repairSays row out) out
@@ -28,3 +33,8 @@ pub record RefusalsChangeNothing : Type 0 where
   pub offer : (h s q : List ℕ) → RecordKept (offerSays h s q) h s
   pub handOut : (h s : List ℕ) (resource n : ℕ) (out : List ℕ) → OutputKept (handSays h s resource n out) out
   pub close : (h s : List ℕ) (resource : ℕ) → Bytes h → RecordKept (closeSays h s resource) h s
+
+-- after open and close the bytes hold the record that the call on records answers: calls through the face follow one another as those do
+pub record RecordsFollow : Type 0 where
+  pub «open» : (h s : List ℕ) (g : Settings) (count : ℕ) → Bytes h → length h ≡ 128 → recordIn (openSays h s g count .held) ≡ openOf (recordIn h) s g count .kept .«record»
+  pub close : (h s : List ℕ) (resource : ℕ) → Bytes h → length h ≡ 128 → recordIn (closeSays h s resource .held) ≡ closeOf (recordIn h) s resource .«record»
