@@ -92,8 +92,14 @@ example: build/run
 # SECONDS and SEED say how long and from where; the same seed makes the same calls
 SECONDS = 30
 SEED = 1
+ifeq ($(machine),x86_64)
+fuzz: build/watched.a
+endif
 fuzz: build/run
 	@fuzz/run $(SECONDS) $(SEED)
+
+build/watched.a: build/libbrithelva.a fuzz/watched
+	@fuzz/watched $@ >build/watched.log 2>&1 || { echo 'fuzz: the fuzzer does not see into the library here'; cp build/libbrithelva.a $@; }
 
 # ---- times beside other libraries, on this machine's own processor
 bench:

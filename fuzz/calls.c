@@ -1,0 +1,466 @@
+/*
+ * Calls of the library, chosen by bytes. The same bytes make the same calls, whether a fuzzer or the random driver below chose them.
+ *
+ * Every lent part ends at a page that nobody may touch and has known bytes before it. After each call: the answer's number is one that the
+ * call may give; a refusal has changed nothing; and what an accepted call may not touch is as it was. With a transcript open,
+ * each call is written in the language of reference/README.md with what was answered, for the second program to check.
+ */
+#define _GNU_SOURCE
+#include "brithelva.h"
+
+#include <inttypes.h>
+#include <stdio.h>
+#include <stdlib.h>
+#include <string.h>
+#include <sys/mman.h>
+#include <time.h>
+
+enum { STORE_ROOM = 16384, FILE_ROOM = 8192, OUT_ROOM = 16384, PACKET_ROOM = 8192, BEFORE = 64 };
+
+/* ---- lent memory */
+
+struct lent {
+    uint8_t *end, *at, copy[OUT_ROOM];
+    size_t n;
+};
+static struct lent record, store, file, packet, out;
+static FILE *transcript;
+static unsigned long calls, accepted_calls, lines;
+
+static void fail(const char *what)
+{
+    fprintf(stderr, "fuzz: %s (call %lu)\n", what, calls);
+    abort();
+}
+
+/* so many bytes up to the untouchable page, and known bytes before them */
+static void size_of(struct lent *l, size_t n)
+{
+    l->n = n;
+    l->at = l->end - n;
+    memset(l->at - BEFORE, 0xA5, BEFORE);
+}
+
+static void lend(struct lent *l)
+{
+    size_t room = OUT_ROOM + 4096;
+    uint8_t *map = mmap(NULL, room + 4096, PROT_READ | PROT_WRITE, MAP_PRIVATE | MAP_ANONYMOUS, -1, 0);
+    if (map == MAP_FAILED || mprotect(map + room, 4096, PROT_NONE) != 0)
+        fail("no memory");
+    l->end = map + room;
+    size_of(l, 0);
+}
+
+static void keep(struct lent *l)
+{
+    memcpy(l->copy, l->at, l->n);
+}
+
+static void same(const struct lent *l, size_t from, const char *what)
+{
+    if (from < l->n && memcmp(l->copy + from, l->at + from, l->n - from) != 0)
+        fail(what);
+    for (int i = 1; i <= BEFORE; i++)
+        if (l->at[-i] != 0xA5)
+            fail("a byte before a lent part changed");
+}
+
+/* ---- bytes that choose */
+
+static const uint8_t *choice;
+static size_t choices;
+
+static unsigned pick(void)
+{
+    if (choices == 0)
+        return 0;
+    choices--;
+    return *choice++;
+}
+
+static unsigned wide(void)
+{
+    unsigned high = pick();
+    return high << 8 | pick();
+}
+
+static uint32_t number_of(uint32_t usual)
+{
+    unsigned way = pick() % 16;
+    return way == 0 ? (uint32_t)wide() << 16 | wide() : way == 1 ? 1048575 : way == 2 ? wide() : usual;
+}
+
+/* ---- the transcript */
+
+static void say_hex(const uint8_t *p, size_t n)
+{
+    for (size_t i = 0; i < n; i++)
+        fprintf(transcript, " %02x", p[i]);
+    fputc('\n', transcript);
+}
+
+static void say_bytes(const struct lent *l, const char *command)
+{
+    if (transcript == NULL)
+        return;
+    fputs(command, transcript);
+    say_hex(l->at, l->n);
+}
+
+static void say_record(void)
+{
+    if (transcript == NULL)
+        return;
+    fprintf(transcript, "held %zu\n", record.n);
+    for (size_t i = 0; i < record.n / 16; i++) {
+        const uint8_t *p = record.at + 16 * i;
+        fprintf(transcript, "place %zu %u %u %u %lu %u %u %u %lu\n", i, p[0] | p[1] << 8, p[2], p[3],
+                p[4] | (unsigned long)p[5] << 8 | (unsigned long)p[6] << 16 | (unsigned long)p[7] << 24, p[8], p[9], p[10] | p[11] << 8,
+                p[12] | (unsigned long)p[13] << 8 | (unsigned long)p[14] << 16 | (unsigned long)p[15] << 24);
+    }
+}
+
+static uint64_t fnv(const uint8_t *p, size_t n)
+{
+    uint64_t h = 14695981039346656037u;
+    for (size_t i = 0; i < n; i++)
+        h = (h ^ p[i]) * 1099511628211u;
+    return h;
+}
+
+static void say_digest(const struct lent *l, const char *name)
+{
+    fprintf(transcript, "case %lu-%s %s %zu %08" PRIx32 " %016" PRIx64 "\n", ++lines, name, name, l->n, bh_crc32(l->at, l->n), fnv(l->at, l->n));
+}
+
+/* ---- after each call */
+
+/* numbers from `low` to `high` and those in the list may be answered */
+static int may(unsigned number, unsigned low, unsigned high, const char *others)
+{
+    for (; *others != 0; others++)
+        if ((unsigned)(unsigned char)*others == number)
+            return 1;
+    return number == 0 || (low <= number && number <= high);
+}
+
+static void judge(uint64_t answer, int allowed, size_t out_written, int store_may, int record_may)
+{
+    unsigned number = bh_number(answer);
+    calls++;
+    if (!allowed)
+        fail("an answer that this call does not give");
+    int accepted = number == 0;
+    accepted_calls += (unsigned long)accepted;
+    same(&record, accepted && record_may ? record.n : 0, "the record changed");
+    same(&store, accepted && store_may ? store.n : 0, "the store changed");
+    same(&out, accepted ? out_written : 0, "the output changed");
+    same(&file, 0, "the file changed");
+    same(&packet, 0, "the packet changed");
+    if (transcript == NULL)
+        return;
+    fprintf(transcript, accepted ? "case %lu accepted" : "case %lu refused %u", ++lines, number);
+    fprintf(transcript, bh_value(answer) ? " %" PRIu64 "\n" : "\n", bh_value(answer));
+    if (accepted && out_written > 0)
+        say_digest(&out, "out");
+    if (accepted && store_may)
+        say_digest(&store, "store");
+    if (accepted && record_may)
+        say_digest(&record, "held");
+}
+
+static void keep_all(void)
+{
+    keep(&record), keep(&store), keep(&out), keep(&file), keep(&packet);
+}
+
+#define SAY(...) (transcript ? (void)fprintf(transcript, __VA_ARGS__) : (void)0)
+
+/* ---- the calls */
+
+struct settings {
+    uint16_t resource;
+    uint8_t type, update, protection, rows;
+    uint16_t size;
+} now;
+
+static void choose_settings(void)
+{
+    unsigned way = pick();
+    now.resource = (uint16_t)(way % 32 == 31 ? wide() : way % 5);
+    now.type = (uint8_t)(pick() % 16 == 0 ? pick() : 1 + way / 8 % 2);
+    now.update = (uint8_t)(pick() % 16 == 0 ? pick() : way % 3);
+    now.protection = (uint8_t)(pick() % 16 == 0 ? pick() : way / 16 % 2);
+    now.rows = (uint8_t)(pick() % 8 == 0 ? pick() : 1 + way % 3);
+    now.size = (uint16_t)(pick() % 8 == 0 ? wide() : now.protection ? 255 * (1 + pick() % 3) : 1 + pick());
+    SAY("settings %u %u %u %u %u %u\n", now.resource, now.type, now.update, now.protection, now.rows, now.size);
+}
+
+/* one of them another: a packet of another update, size or shape for the same resource */
+static void vary_settings(void)
+{
+    unsigned way = pick() % 6;
+    now.update = (uint8_t)(way == 0 ? pick() % 16 : now.update);
+    now.rows = (uint8_t)(way == 1 ? pick() % 4 : now.rows);
+    now.size = (uint16_t)(way == 2 ? (now.protection ? 255 * (pick() % 16) : pick()) : now.size);
+    now.resource = (uint16_t)(way == 3 ? pick() % 10 : now.resource);
+    now.type = (uint8_t)(way == 4 ? pick() % 4 : now.type);
+    now.protection = (uint8_t)(way == 5 ? pick() % 3 : now.protection);
+    SAY("settings %u %u %u %u %u %u\n", now.resource, now.type, now.update, now.protection, now.rows, now.size);
+}
+
+/* what the settings' file needs */
+static uint32_t packets(void)
+{
+    size_t p = now.size ? now.size : 1, m = now.rows ? now.rows : 1;
+    size_t coded = now.protection ? 255 * m * ((file.n + 239 * m - 1) / (239 * m)) : file.n;
+    return (uint32_t)((coded + p - 1) / p);
+}
+
+static void new_file(void)
+{
+    uint32_t x = pick(), length = pick() % 8 == 0 ? wide() % FILE_ROOM : pick() * 4u;
+    SAY("file %" PRIu32 " %" PRIu32 "\n", x, length);
+    size_of(&file, length);
+    for (size_t i = 0; i < length; i++) {
+        x = x * 1664525 + 1013904223;
+        file.at[i] = (uint8_t)(x >> 24);
+    }
+}
+
+static void new_store(void)
+{
+    unsigned fill = pick(), length = pick() % 4 == 0 ? wide() % STORE_ROOM : STORE_ROOM;
+    SAY("store %u %u\n", fill, length);
+    size_of(&store, length);
+    memset(store.at, (int)fill, length);
+    size_of(&record, 128);
+    memset(record.at, 0, 128);
+    say_record();
+}
+
+static void new_out(void)
+{
+    unsigned fill = pick(), way = pick();
+    size_t length = way % 8 == 0 ? wide() % OUT_ROOM : way % 8 == 1 ? 255 : way % 8 == 2 ? pick() : way % 8 == 3 ? file.n : 4095;
+    SAY("out %u %zu\n", fill, length);
+    size_of(&out, length);
+    memset(out.at, (int)fill, length);
+}
+
+static void open_place(void)
+{
+    uint32_t count = number_of(packets());
+    int house = pick() % 8 == 0;
+    keep_all();
+    SAY(house ? "open-house %" PRIu32 "\n" : "open %" PRIu32 "\n", count);
+    uint64_t a = house ? bh_open_house(record.at, record.n, store.at, store.n, now.resource, now.type, now.update, count)
+                       : bh_open(record.at, record.n, store.at, store.n, now.resource, now.type, now.update, count, now.protection, now.rows, now.size);
+    judge(a, may(bh_number(a), 17, 20, "\x09"), 0, 1, 1);
+}
+
+static void pack_one(void)
+{
+    uint32_t n = number_of(packets() ? wide() % packets() : 0);
+    int house = pick() % 8 == 0;
+    keep_all();
+    SAY(house ? "pack-house %" PRIu32 "\n" : "pack %" PRIu32 "\n", n);
+    uint64_t a = house ? bh_pack_house(file.at, file.n, now.resource, now.type, now.update, n, out.at, out.n)
+                       : bh_pack(file.at, file.n, now.resource, now.type, now.update, now.protection, now.rows, now.size, n, out.at, out.n);
+    judge(a, may(bh_number(a), 25, 26, "\x06\x11\x17"), (size_t)bh_value(a), 0, 0);
+    if (bh_number(a) == 0) {
+        size_of(&packet, (size_t)bh_value(a));
+        memcpy(packet.at, out.at, packet.n);
+    }
+}
+
+/* wrong bytes, cut or longer packets, or arbitrary bytes with a start mark or without */
+static void spoil(void)
+{
+    unsigned way = pick() % 8;
+    if (way == 0) {
+        size_t n = pick() % 4 == 0 ? wide() % PACKET_ROOM : pick();
+        size_of(&packet, n);
+        for (size_t i = 0; i < n; i++)
+            packet.at[i] = (uint8_t)pick();
+        for (size_t i = 0; i < 3 && i < n && pick() % 4; i++)
+            packet.at[i] = (uint8_t)(0x49 + 0x10 * i);
+    } else if (way == 1 && packet.n > 0) {
+        static uint8_t held[PACKET_ROOM];
+        size_t n = packet.n - pick() % packet.n % 3;
+        memcpy(held, packet.at, n);
+        size_of(&packet, n);
+        memcpy(packet.at, held, n);
+    } else if (packet.n > 18) {
+        for (unsigned k = pick() % 12; k > 0; k--)
+            packet.at[14 + wide() % (packet.n - 18)] ^= (uint8_t)pick();
+        if (way == 2)
+            packet.at[pick() % 14] ^= (uint8_t)(1 << pick() % 8);
+        if (way == 3 || way == 2) {
+            uint32_t crc = bh_crc32(packet.at, packet.n - 4);
+            for (int b = 0; b < 4; b++)
+                packet.at[packet.n - 4 + (size_t)b] = (uint8_t)(crc >> (24 - 8 * b));
+        }
+    }
+}
+
+static void offer_one(void)
+{
+    keep_all();
+    say_bytes(&packet, "bytes");
+    SAY("offer\n");
+    uint64_t a = bh_offer(record.at, record.n, store.at, store.n, packet.at, packet.n);
+    judge(a, may(bh_number(a), 1, 16, ""), 0, 1, 0);
+    if (bh_number(a) == 0 && bh_value(a) == 1)
+        same(&store, 0, "a repeat changed the store");
+}
+
+static void read_one(void)
+{
+    uint32_t fields[10], before[10];
+    size_t room = pick() % 8 == 0 ? pick() % 9 : 9;
+    memset(fields, 0x5A, sizeof fields);
+    memcpy(before, fields, sizeof fields);
+    keep_all();
+    say_bytes(&packet, "bytes");
+    SAY("read %zu\n", room);
+    uint64_t a = bh_read_fields(packet.at, packet.n, fields, room);
+    if (bh_number(a) != 0 ? memcmp(fields, before, sizeof fields) != 0 : fields[9] != before[9])
+        fail("a number beyond the fields changed");
+    if (bh_number(a) == 0)
+        for (size_t i = 0; i < 36 && i < out.n; i++)
+            out.at[i] = (uint8_t)(fields[i / 4] >> (24 - 8 * (i % 4)));
+    judge(a, may(bh_number(a), 1, 8, "\x1a"), out.n, 0, 0);
+}
+
+static void status_one(void)
+{
+    uint16_t resource = (uint16_t)(pick() % 8 == 0 ? wide() : now.resource);
+    keep_all();
+    SAY("status %u\n", resource);
+    uint64_t a = bh_status(record.at, record.n, store.at, store.n, resource);
+    judge(a, may(bh_number(a), 9, 10, "\x0f"), 0, 0, 0);
+}
+
+static void hand_one(void)
+{
+    uint64_t length = pick() % 4 == 0 ? number_of(pick()) : file.n + pick() % 8 / 7;
+    keep_all();
+    SAY("hand %u %" PRIu64 "\n", now.resource, length);
+    uint64_t a = bh_hand_out(record.at, record.n, store.at, store.n, now.resource, length, out.at, out.n);
+    judge(a, may(bh_number(a), 21, 24, "\x09\x0a\x0f\x1a"), (size_t)length, 0, 0);
+}
+
+static void close_one(void)
+{
+    keep_all();
+    SAY("close %u\n", now.resource);
+    uint64_t a = bh_close(record.at, record.n, store.at, store.n, now.resource);
+    judge(a, may(bh_number(a), 9, 10, ""), 0, 0, 1);
+}
+
+static void row_one(void)
+{
+    size_t n = pick() % 8 == 0 ? pick() : pick() % 2 ? 255 : 239;
+    size_of(&packet, n);
+    for (size_t i = 0; i < n; i++)
+        packet.at[i] = (uint8_t)(i % 3 ? 0 : pick());
+    keep_all();
+    say_bytes(&packet, "bytes");
+    if (n == 239) {
+        SAY("encode\n");
+        uint64_t a = bh_encode_row(packet.at, n, out.at, out.n);
+        judge(a, may(bh_number(a), 26, 26, "\x01"), 16, 0, 0);
+        return;
+    }
+    if (n == 255 && pick() % 2) {
+        bh_encode_row(packet.at, 239, packet.at + 239, 16);
+        for (unsigned k = pick() % 11; k > 0; k--)
+            packet.at[pick() % 255] ^= (uint8_t)pick();
+        keep(&packet);
+        say_bytes(&packet, "bytes");
+    }
+    SAY("repair\n");
+    uint64_t a = bh_repair_row(packet.at, n, out.at, out.n);
+    judge(a, may(bh_number(a), 26, 26, "\x01\x0d"), 255, 0, 0);
+}
+
+/* arbitrary bytes in the record or in the store */
+static void disturb(void)
+{
+    if (pick() % 2 && store.n > 2) {
+        size_t at = pick() % 2 ? wide() % store.n : pick() % store.n;
+        store.at[at] = (uint8_t)pick();
+        SAY("poke %zu %02x\n", at, store.at[at]);
+        return;
+    }
+    if (pick() % 8 == 0) {
+        size_of(&record, pick() % 8 == 0 ? 16u * (pick() % 17) : 128);
+        for (size_t i = 0; i < record.n; i++)
+            record.at[i] = (uint8_t)(pick() % 4 ? 0 : pick());
+    } else if (record.n > 0) {
+        record.at[pick() % record.n] = (uint8_t)pick();
+    }
+    say_record();
+}
+
+static void several_offers(void)
+{
+    for (uint32_t n = 0, all = packets(); n < all && n < 64; n++) {
+        if (pick() % 16 == 15)
+            continue;
+        keep_all();
+        SAY("pack %" PRIu32 "\n", n);
+        uint64_t a = bh_pack(file.at, file.n, now.resource, now.type, now.update, now.protection, now.rows, now.size, n, out.at, out.n);
+        judge(a, may(bh_number(a), 25, 26, "\x06\x11\x17"), (size_t)bh_value(a), 0, 0);
+        if (bh_number(a) != 0)
+            return;
+        size_of(&packet, (size_t)bh_value(a));
+        memcpy(packet.at, out.at, packet.n);
+        if (pick() % 4 == 0)
+            spoil();
+        offer_one();
+    }
+}
+
+int LLVMFuzzerTestOneInput(const uint8_t *data, size_t size)
+{
+    static void (*const steps[32])(void) = {
+        choose_settings, new_file, new_store, new_out, new_out, open_place, open_place, open_place, pack_one, pack_one, pack_one,
+        spoil, spoil, offer_one, offer_one, offer_one, offer_one, read_one, read_one, status_one, status_one, hand_one, hand_one, hand_one,
+        close_one, row_one, disturb, several_offers, several_offers, several_offers, vary_settings, vary_settings};
+    static const uint8_t nothing[1];
+    if (record.end == NULL)
+        lend(&record), lend(&store), lend(&file), lend(&packet), lend(&out);
+    choice = size ? data : nothing;
+    choices = size;
+    new_file(), new_store(), new_out(), choose_settings(), open_place();
+    while (choices > 0)
+        steps[pick() % 32]();
+    return 0;
+}
+
+#ifdef DRIVER
+/* driver SECONDS SEED [TRANSCRIPT CALLS]: random bytes for so many seconds, or a transcript of so many calls */
+int main(int argc, char **argv)
+{
+    static uint8_t data[4096];
+    uint64_t x = argc > 2 ? strtoull(argv[2], NULL, 10) : 1;
+    double seconds = argc > 1 ? atof(argv[1]) : 1;
+    unsigned long most = argc > 4 ? strtoul(argv[4], NULL, 10) : 0;
+    time_t from = time(NULL);
+    if (argc > 3 && (transcript = fopen(argv[3], "w")) == NULL)
+        fail("no transcript");
+    while (most ? calls < most : difftime(time(NULL), from) < seconds) {
+        for (size_t i = 0; i < sizeof data; i++) {
+            x = x * 6364136223846793005u + 1442695040888963407u;
+            data[i] = (uint8_t)(x >> 56);
+        }
+        LLVMFuzzerTestOneInput(data, sizeof data);
+    }
+    if (transcript && fclose(transcript) != 0)
+        fail("no transcript");
+    printf("fuzz: %lu calls, %lu accepted, nothing touched that may not be\n", calls, accepted_calls);
+    return 0;
+}
+#endif
