@@ -19,7 +19,7 @@ CFLAGS = -std=gnu11 -O2 -Wall -Wextra -Wconversion -Iinclude
 sources = crates.txt $(shell find crates -path '*/must-fail' -prune -o -type f -print)
 command = $(wildcard command/*.c) command/command.h include/brithelva.h
 
-.PHONY: all test quick style reference cases demo command kill steps limits example bench fuzz install uninstall clean
+.PHONY: all test quick c-tests style reference cases demo command kill steps limits example bench fuzz install uninstall clean
 
 all: build/run
 
@@ -46,7 +46,10 @@ test: quick
 	@rt ci
 
 # all that is no proof, in a few minutes once the library is there
-quick: style command kill steps limits example
+quick: style reference
+	@if $(tools) $(CC_FOR); then $(MAKE) --no-print-directory c-tests; else echo 'no C compiler for x86-64 can be had here: the tests in C are left out'; fi
+
+c-tests: command kill steps limits example fuzz
 
 style:
 	@tests/style-test
