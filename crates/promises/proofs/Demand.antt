@@ -2,7 +2,7 @@
 -- filled, hand out undoes the tables and gives the file. Assumes nothing.
 use mathlib.Core.Path.{_≡_, refl, sym, ap, ap₂, _∙_, subst}
 use mathlib.Core.Logic.{_⊎_, inl, inr, ⊎-elim}
-use mathlib.Core.Bool.{Bool, true, false, cond, not}
+use mathlib.Core.Bool.{Bool, true, false, cond, not, _&&_}
 use mathlib.Core.List.{List, [], _∷_, _++_, flatten}
 use Prim.Native.Nat.{ℕ, zero, suc, _+_, _-_, _*_, _/_, _%_, _≤_, _<_}
 use native.Mathlib.Omega.{arith}
@@ -15,7 +15,10 @@ use Rattle.refusals.specs.declared.Verdict.{Verdict}
 use Rattle.refusals.specs.declared.Verdict.the-variants.{Accepted, Refused}
 use Rattle.ground.specs.Lists.{listed}
 use Rattle.packet.specs.declared.Packet.{Packet}
+use Rattle.packet.specs.declared.Reading.the-variants.{Sent}
 use Rattle.packet.specs.declared.Settings.{Settings}
+use Rattle.packet.specs.Packet.{readOf, resourceIn}
+use Rattle.packet.proofs.Laws.{resource-in}
 use Rattle.layout.specs.Layout.{tablesOf, codedFile, undone}
 use Rattle.layout.proofs.Coded.{length-coded, undone-file, undone-padding, tables-reach}
 use Rattle.pack.specs.Pack.{countOf, codedLength, sentOf, payloadOf, packetOf}
@@ -33,7 +36,7 @@ use Rattle.contents.proofs.Places.{length-contents, reading-slots, storing-sets
 use Rattle.contents.proofs.Filled.{holding-all, holding-right, holding-lowest, joined-whole}
 use Rattle.record.specs.declared.Offered.the-variants.{Stored, Repeat}
 use Rattle.record.specs.Open.{Plan, refuse, take as taken, planOf, carriedOut, Opening, openOf, closeOf}
-use Rattle.record.specs.Offer.{Offering, put, judge, same, putInto, storing, offerJudged, offerOf}
+use Rattle.record.specs.Offer.{Offering, put, judge, differs, same, putInto, storing, offerJudged, offerOf}
 use Rattle.record.specs.Hand.{Handing, handed, allZero, handRows, handJoined, handFilled, handContents, handFound, handOutOf}
 use Rattle.record.proofs.SlotLaws.{same-self}
 use Rattle.record.proofs.PlanLaws.{Taking, taking, open-by}
@@ -41,11 +44,11 @@ use Rattle.record.proofs.OpenLaws.{open-good, open-named, open-own, open-empty,
 use Rattle.record.proofs.CloseLaws.{close-record, close-unknown, close-found, close-keeps}
 use Rattle.promises.specs.Calls.{Call, Answer, State, step, run, fresh, names, about}
 use Rattle.promises.specs.Calls.Call.{packing, opening, offering, asking, handing, closing}
-use Rattle.promises.specs.Statements.{Protected, Copy, Fair, AllFair, Offers, Carries, HandsOut, Demand3, FreshHandsOut, FromFresh}
+use Rattle.promises.specs.Statements.{Protected, Copy, BringsNoOther, Fair, AllFair, Offers, Carries, HandsOut, Demand3, FreshHandsOut, FromFresh}
 use Rattle.promises.proofs.Copies.{copy-names}
 use Rattle.promises.proofs.Judged.{copy-reads, copy-judged}
 use Rattle.promises.proofs.Whole.{contents-handed}
-use Rattle.promises.proofs.Offers.{offer-at, put-within, put-fits}
+use Rattle.promises.proofs.Offers.{Putting, offer-effect, offer-at, put-within, put-fits}
 use Rattle.promises.proofs.Views.{Kept, open-length-kept, offer-length, step-leaves, step-length}
 
 -- one of two ways
@@ -89,12 +92,25 @@ empty-at zero k l = absurd (omega arith)
 empty-at (suc n) zero l = refl
 empty-at (suc n) (suc k) l = empty-at n k (omega arith)
 
+-- an input whose bytes 3 and 4 are not r does not name r
+unnamed : (q : List ℕ) (r : ℕ) → (resourceIn q ≡ r → ⊥) → names r q ≡ false
+unnamed q r d = rw (ne-eqb (resourceIn q) r d) (by (ltb 4 (length q)))
+  where
+    by : (b : Bool) → b && false ≡ false
+    by true = refl
+    by false = refl
+
 -- ---- while a file is collected
 
 module _ (g : Settings) (file : List ℕ) (p : Protected g file) (i start : ℕ) where
   -- its place
   abbrev own : Place
   own = placeOf g (countOf g (length file)) start
+
+  -- the start of a place does not count in the judgement
+  judge-start : (f : Packet) (q : List ℕ) → judge (placeOf g (countOf g (length file)) 0) f q ≡ judge (placeOf g (countOf g (length file)) start) f q
+  unfolding judge differs
+  judge-start f q = refl
 
   slot-in : ℕ → State → Content
   slot-in k x = getD (contents (placeOf g (countOf g (length file)) start) (x .store)) k wrong
@@ -155,19 +171,30 @@ module _ (g : Settings) (file : List ℕ) (p : Protected g file) (i start : ℕ)
       by true e = refusal (eqb-true _ _ e) (planOf (x .held) (length (x .store)) s count) refl
       by false e = unnamed-go (opening s count) x c e
 
-  -- ---- a copy fills its slot
+  -- an offer that leaves the store
+  unmoved-go : (q : List ℕ) (x : State) → Collecting x → offerOf (x .held) (x .store) q .store ≡ x .store → GoesOn x (step (offering q) x .state)
+  unfolding step
+  unmoved-go q x c z =
+      same-contents-go x (step (offering q) x .state) c (step-good (offering q) x (c .sound))
+      (record { named = refl; same-place = λ j m. refl; same-contents = λ j m. ap (contents (getD (x .held .places) j unused)) z })
 
-  module _ (n : ℕ) (below : n < countOf g (length file)) (q : List ℕ) (cp : Copy g file n q) (x : State) (c : Collecting x) where
+  -- ---- an offer that is judged to bring packet n's payload fills its slot
+
+  module _ (n : ℕ) (below : n < countOf g (length file)) (q : List ℕ) (f : Packet) (read : readOf q ≡ Sent f) (of : f .resource ≡ g .resource)
+      (brings : judge (placeOf g (countOf g (length file)) start) f q ≡ put n (payloadOf g file n)) (x : State) (c : Collecting x) where
+    found-there : placeNamed (x .held .places) (f .resource) ≡ At i
+    found-there = ap (placeNamed (x .held .places)) of ∙ c .named
+
     b : List ℕ
     b = payloadOf g file n
 
-    judged : judge (getD (x .held .places) i unused) (fieldsOf g file n) q ≡ put n (payloadOf g file n)
-    judged = ap (λ (o : Place). judge o (fieldsOf g file n) q) (c .place) ∙ copy-judged g file p n below q cp start
+    judged : judge (getD (x .held .places) i unused) f q ≡ put n (payloadOf g file n)
+    judged = ap (λ (o : Place). judge o f q) (c .place) ∙ brings
 
     offered-at : offerOf (x .held) (x .store) q
         ≡ storing (x .store) (slotAt (getD (x .held .places) i unused) n) (payloadOf g file n) (putInto (slotOf (getD (x .held .places) i unused) (x .store) n) (payloadOf g file n))
     offered-at =
-        offer-at (x .held) (x .store) q (c .sound) (fieldsOf g file n) (copy-reads g file p n below q cp) i (c .named)
+        offer-at (x .held) (x .store) q (c .sound) f read i found-there
         ∙ ap (offerJudged (getD (x .held .places) i unused) (x .store)) judged
 
     here : slotOf (getD (x .held .places) i unused) (x .store) n ≡ getD (contents (placeOf g (countOf g (length file)) start) (x .store)) n wrong
@@ -181,7 +208,7 @@ module _ (g : Settings) (file : List ℕ) (p : Protected g file) (i start : ℕ)
     fills e =
         let done : offerOf (x .held) (x .store) q ≡ record { answer = Stored; store = stored (x .store) (slotAt (getD (x .held .places) i unused) n) (payloadOf g file n) } =
         offered-at ∙ ap (λ (s : Content). storing (x .store) (slotAt (getD (x .held .places) i unused) n) (payloadOf g file n) (putInto s (payloadOf g file n))) (here ∙ e) in
-        let fits = put-fits (x .held) (x .store) q (c .sound) (fieldsOf g file n) (copy-reads g file p n below q cp) i (c .named) n (payloadOf g file n) judged in
+        let fits = put-fits (x .held) (x .store) q (c .sound) f read i found-there n (payloadOf g file n) judged in
         let ends = named-facts (length (x .store)) (x .held .places) (c .sound) (g .resource) i (c .named) .ends-within in
         let after : contents (placeOf g (countOf g (length file)) start) (offerOf (x .held) (x .store) q .store)
         ≡ set (contents (placeOf g (countOf g (length file)) start) (x .store)) n (holding (payloadOf g file n)) =
@@ -216,8 +243,7 @@ module _ (g : Settings) (file : List ℕ) (p : Protected g file) (i start : ℕ)
       where
         unmoved : offerOf (x .held) (x .store) q .store ≡ x .store → GoesOn x (step (offering q) x .state) × Has n (step (offering q) x .state)
         unmoved z = (
-          same-contents-go x (step (offering q) x .state) c (step-good (offering q) x (c .sound))
-              (record { named = refl; same-place = λ j m. refl; same-contents = λ j m. ap (contents (getD (x .held .places) j unused)) z }),
+          unmoved-go q x c z,
           ap (λ (s : List ℕ). getD (contents (placeOf g (countOf g (length file)) start) s) n wrong) z ∙ e,
         )
 
@@ -228,8 +254,30 @@ module _ (g : Settings) (file : List ℕ) (p : Protected g file) (i start : ℕ)
             ∙ ap₂ (λ (s : Content) (w : List ℕ). storing (x .store) (slotAt (getD (x .held .places) i unused) n) w (putInto s w)) (here ∙ e ∙ ap holding z) z
             ∙ ap (λ (t : Bool). storing (x .store) (slotAt (getD (x .held .places) i unused) n) (y ∷ a) (cond t Repeat (Rattle.record.specs.declared.Offered.Offered.Refused Refusal.Conflict))) (same-self (y ∷ a))))
 
-    copy-go : GoesOn x (step (offering q) x .state) × Has n (step (offering q) x .state)
-    copy-go = ⊎-elim fills repeats (c .slots n below)
+    brought-go : GoesOn x (step (offering q) x .state) × Has n (step (offering q) x .state)
+    brought-go = ⊎-elim fills repeats (c .slots n below)
+
+  copy-go : (n : ℕ) (below : n < countOf g (length file)) (q : List ℕ) → Copy g file n q → (x : State) → Collecting x
+      → GoesOn x (step (offering q) x .state) × Has n (step (offering q) x .state)
+  copy-go n below q cp = brought-go n below q (fieldsOf g file n) (copy-reads g file p n below q cp) refl (copy-judged g file p n below q cp start)
+
+  -- ---- any other offer
+
+  noise-go : (q : List ℕ) → BringsNoOther g file q → (x : State) → Collecting x → GoesOn x (step (offering q) x .state)
+  noise-go q none x c = ⊎-elim (unmoved-go q x c) puts (offer-effect (x .held) (x .store) q)
+    where
+      puts : Putting (x .held) (x .store) q → GoesOn x (step (offering q) x .state)
+      puts w = split (w .fields .resource) (g .resource) ours (λ d. unnamed-go (offering q) x c (unnamed q (g .resource) (λ z. d (ap (λ (y : Packet). y .resource) (w .told .fields) ∙ resource-in q ∙ z))))
+        where
+          ours : w .fields .resource ≡ g .resource → GoesOn x (step (offering q) x .state)
+          ours of =
+              let at : At (w .place) ≡ At i = sym (w .named) ∙ ap (placeNamed (x .held .places)) of ∙ c .named in
+              let here : w .place ≡ i = cc in
+              let place : getD (x .held .places) (w .place) unused ≡ placeOf g (countOf g (length file)) start = ap (λ (j : ℕ). getD (x .held .places) j unused) here ∙ c .place in
+              let brings : judge (placeOf g (countOf g (length file)) start) (w .fields) q ≡ put (w .fields .number) (w .payload) = ap (λ (o : Place). judge o (w .fields) q) (sym place) ∙ w .judged-put in
+              let same : w .payload ≡ payloadOf g file (w .fields .number) = none (w .fields) (w .read) (w .fields .number) (w .payload) (judge-start (w .fields) q ∙ brings) in
+              let below : w .fields .number < countOf g (length file) = subst (λ (o : Place). w .fields .number < o .count) place (w .within) in
+              brought-go (w .fields .number) below q (w .fields) (w .read) of (brings ∙ ap (put (w .fields .number)) same) x c .0
 
   -- ---- any fair call
 
@@ -237,6 +285,7 @@ module _ (g : Settings) (file : List ℕ) (p : Protected g file) (i start : ℕ)
   unfolding step
   fair-go c (Fair.copy n q below cp) x k = copy-go n below q cp x k .0
   fair-go c (Fair.other q e) x k = unnamed-go (offering q) x k e
+  fair-go c (Fair.noise q none) x k = noise-go q none x k
   fair-go c (Fair.packs a s n out) x k = stays x k
   fair-go c (Fair.opens s count) x k = open-go s count x k
   fair-go c (Fair.asks r) x k = stays x k

@@ -1,5 +1,6 @@
 pub mod Refusals
 pub mod Copies
+pub mod Noise
 pub mod NoSecond
 pub mod Offers
 pub mod Views

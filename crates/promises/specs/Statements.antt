@@ -8,17 +8,21 @@ use lib.ListN.{length, take, drop}
 use Rattle.refusals.specs.declared.Verdict.{Verdict}
 use Rattle.refusals.specs.declared.Verdict.the-variants.{Accepted, Refused}
 use Rattle.code.specs.Code.{Bytes, distance}
+use Rattle.packet.specs.declared.Packet.{Packet}
+use Rattle.packet.specs.declared.Reading.the-variants.{Sent}
 use Rattle.packet.specs.declared.Settings.{Settings}
+use Rattle.packet.specs.Packet.{readOf}
 use Rattle.packet.specs.Settings.{settingsFit}
 use Rattle.pack.specs.declared.Packed.{Packed}
 use Rattle.pack.specs.declared.Packed.the-variants.{Written}
-use Rattle.pack.specs.Pack.{largestFile, countOf, packetOf}
-use Rattle.places.specs.Places.{coverOf}
+use Rattle.pack.specs.Pack.{largestFile, countOf, payloadOf, packetOf}
+use Rattle.places.specs.Places.{placeOf, coverOf}
 use Rattle.record.specs.declared.Offered.{Offered}
 use Rattle.record.specs.declared.Offered.the-variants.{Stored, Repeat}
 use Rattle.record.specs.declared.Standing.{Standing}
 use Rattle.record.specs.declared.Standing.the-variants.{Filled}
 use Rattle.record.specs.Mend.{payloadIn}
+use Rattle.record.specs.Offer.{judge, put}
 use Rattle.promises.specs.Calls.{Call, Answer, State, Program, run, fresh, names, about}
 use Rattle.promises.specs.Calls.Call.{packing, opening, offering, asking, handing, closing}
 use Rattle.promises.specs.Calls.Answer.{packed, opened, offered, asked, handed, closed}
@@ -46,10 +50,17 @@ pub record Copy (g : Settings) (file : List ℕ) (n : ℕ) (q : List ℕ) : Type
   pub crc : drop (length q - 4) q ≡ drop (length q - 4) (packetOf g file n)
   pub rows : (i : ℕ) → distance (rowIn q i) (rowIn (packetOf g file n) i) ≤ 8
 
--- what may stand in the list: a copy, an offer that does not name the resource, and every other call but one that closes it
+-- q brings the file's own place no payload but the file's: there it is refused, whatever the store holds, or what it puts is what the file has under that number. Noise is
+-- such an offer, with the resource in it or not: its fields are refused or differ from the place's, a row has no coded row within eight bytes, or the CRC differs
+abbrev pub BringsNoOther : Settings → List ℕ → List ℕ → Type 0
+BringsNoOther g file q =
+    (f : Packet) → readOf q ≡ Sent f → (n : ℕ) (b : List ℕ) → judge (placeOf g (countOf g (length file)) 0) f q ≡ put n b → b ≡ payloadOf g file n
+
+-- what may stand in the list: a copy, an offer that does not name the resource, any other that brings no other payload, and every other call but one that closes the resource
 pub data Fair (g : Settings) (file : List ℕ) : Call → Type 0 where
   copy : (n : ℕ) (q : List ℕ) → n < countOf g (length file) → Copy g file n q → Fair g file (offering q)
   other : (q : List ℕ) → names (g .resource) q ≡ false → Fair g file (offering q)
+  noise : (q : List ℕ) → BringsNoOther g file q → Fair g file (offering q)
   packs : (a : List ℕ) (s : Settings) (n : ℕ) (out : List ℕ) → Fair g file (packing a s n out)
   opens : (s : Settings) (count : ℕ) → Fair g file (opening s count)
   asks : (r : ℕ) → Fair g file (asking r)
