@@ -1,7 +1,9 @@
-"""A second receiver and packer, written from documents 01 and 001 alone, to compare with.
+"""A second receiver and packer, written from documents 01, 001 and 000 alone, to compare with.
 
 It shares nothing with the library: no table, no code, and other methods where another is natural. Products and CRC go bit by bit, checks come from
-the matrix of the code, repair is by Euclid's algorithm, fields are cut from one long number, tables are filled by a plain loop. Slow and plain on purpose."""
+the matrix of the code, repair is by Euclid's algorithm, fields are cut from one long number, tables are filled by a plain loop. Plain on purpose."""
+
+import functools, itertools
 
 LIMIT = 16_777_216
 GENERATOR = [1, 59, 13, 104, 189, 68, 209, 30, 8, 163, 65, 41, 229, 98, 50, 36, 59]
@@ -18,32 +20,31 @@ class Refused(Exception):
 # ---- the field, section 3: polynomials over the bits modulo x^8 + x^4 + x^3 + x^2 + 1
 
 
-def mul_bits(a, b):
-    product = 0
+def product(a, b):
+    """Bit by bit: a times each power of x that b holds."""
+    total = 0
     while b:
         if b & 1:
-            product ^= a
+            total ^= a
         a, b = a << 1, b >> 1
         if a & 256:
             a ^= 0b100011101
-    return product
+    return total
 
 
-MUL = [[mul_bits(a, b) for b in range(256)] for a in range(256)]
+# MUL[a] holds the products of a with every byte
+MUL = [bytes(product(a, b) for b in range(256)) for a in range(256)]
+INVERSE = [0] + [MUL[a].index(1) for a in range(1, 256)]
 
 
-def power(a, n):
-    p = 1
-    for _ in range(n):
-        p = MUL[p][a]
-    return p
+def powers_of_alpha():
+    out = [1]
+    while len(out) < 255:
+        out.append(product(out[-1], 2))
+    return out
 
 
-ALPHA = [power(2, i) for i in range(255)]
-
-
-def inverse(a):
-    return power(a, 254)
+ALPHA = powers_of_alpha()
 
 
 # ---- the CRC, 000 Annex C: a shift register, bit by bit
@@ -52,7 +53,7 @@ def inverse(a):
 def crc32(data):
     register = 0xFFFFFFFF
     for byte in data:
-        for k in range(7, -1, -1):
+        for k in (7, 6, 5, 4, 3, 2, 1, 0):
             leaves = register >> 31
             register = register << 1 & 0xFFFFFFFF
             if leaves != byte >> k & 1:
@@ -60,42 +61,13 @@ def crc32(data):
     return register ^ 0xFFFFFFFF
 
 
-# ---- rows, section 3. Byte i of a row is the coefficient of x^(254 - i)
+# ---- polynomials over the field, the highest power first
 
 
-def check_matrix():
-    """Row i: the remainder of x^(254 - i) by the generator, i = 0..238."""
-    rest = [0] * 15 + [1]  # x^0
-    powers = []
-    for _ in range(255):
-        powers.append(rest)
-        top = rest[0]
-        rest = rest[1:] + [0]
-        rest = [r ^ MUL[top][g] for r, g in zip(rest, GENERATOR[1:])]
-    return [powers[254 - i] for i in range(239)]
-
-
-MATRIX = check_matrix()
-
-
-def encode_row(info):
-    if len(info) != 239:
-        raise Refused(1)
-    checks = [0] * 16
-    for byte, column in zip(info, MATRIX):
-        if byte:
-            by = MUL[byte]
-            for k in range(16):
-                checks[k] ^= by[column[k]]
-    return bytes(checks)
-
-
-def value(coefficients, x):
-    """Of a polynomial with the highest power first."""
-    by, v = MUL[x], 0
-    for c in coefficients:
-        v = by[v] ^ c
-    return v
+def trim(a):
+    """Without leading zeros; the zero polynomial is empty."""
+    lead = next((i for i, c in enumerate(a) if c), len(a))
+    return list(a[lead:])
 
 
 def add(a, b):
@@ -105,71 +77,124 @@ def add(a, b):
 
 
 def times(a, b):
-    out = [0] * (len(a) + len(b) - 1)
+    out = [0] * max(len(a) + len(b) - 1, 0)
     for i, x in enumerate(a):
         for j, y in enumerate(b):
             out[i + j] ^= MUL[x][y]
     return out
 
 
-def trim(a):
-    a = list(a)
-    while a and a[0] == 0:
-        a.pop(0)
-    return a
-
-
 def divide(a, b):
+    """Quotient and rest; b is not zero."""
     a, b = trim(a), trim(b)
-    quotient, inv = [], inverse(b[0])
+    quotient, inverse = [], INVERSE[b[0]]
     while len(a) >= len(b):
-        q = MUL[a[0]][inv]
+        q = MUL[a[0]][inverse]
         quotient.append(q)
         a = [x ^ MUL[q][y] for x, y in zip(a, b + [0] * (len(a) - len(b)))][1:]
     return quotient, trim(a)
 
 
-def repair_row(row):
-    """The one coded row within eight bytes, by Euclid's algorithm on the syndromes; judged at the end by the code itself."""
-    if len(row) != 255:
+def value(a, x):
+    by, v = MUL[x], 0
+    for c in a:
+        v = by[v] ^ c
+    return v
+
+
+def derivative(a):
+    """Of x^n it is n·x^(n - 1), and n counts modulo 2."""
+    top = len(a) - 1
+    return [c if (top - k) % 2 else 0 for k, c in enumerate(a[:-1])]
+
+
+# ---- rows, section 3. Byte i of a row is the coefficient of x^(254 - i)
+
+
+def check_matrix():
+    """Line i: the remainder of x^(254 - i) by the generator, i = 0..238."""
+    rest, powers = [0] * 15 + [1], []
+    for _ in range(255):
+        powers.append(bytes(rest))
+        top, rest = rest[0], rest[1:] + [0]
+        rest = [r ^ MUL[top][g] for r, g in zip(rest, GENERATOR[1:])]
+    return [powers[254 - i] for i in range(239)]
+
+
+MATRIX = check_matrix()
+
+
+def encode_row(info):
+    """The sixteen checks: the sum of the matrix's lines, each times its byte."""
+    if len(info) != 239:
         raise Refused(1)
-    syndromes = [value(row, ALPHA[j]) for j in range(16)]
-    if not any(syndromes):
-        return bytes(row)
+    checks = 0
+    for byte, line in zip(info, MATRIX):
+        checks ^= int.from_bytes(line.translate(MUL[byte]), "big")
+    return checks.to_bytes(16, "big")
+
+
+def rest_of(row):
+    """What the row leaves when it is divided by the generator; all zero for a coded row."""
+    return [a ^ b for a, b in zip(encode_row(row[:239]), row[239:])]
+
+
+def key_equation(syndromes):
+    """Euclid's algorithm on x^16 and the syndromes, up to the first rest of degree below 8: locator and evaluator."""
     before, now = [1] + [0] * 16, trim(syndromes[::-1])
     u, v = [], [1]
     while len(now) > 8:
         quotient, rest = divide(before, now)
-        u, v = v, add(u, times(quotient or [0], v))
+        u, v = v, add(u, times(quotient, v))
         before, now = now, rest
-    locator = trim(v)
-    evaluator = now
-    wrong = [i for i in range(255) if value(locator, inverse(ALPHA[254 - i])) == 0]
-    fixed = list(row)
-    derivative = [c if (len(locator) - 1 - k) % 2 else 0 for k, c in enumerate(locator)][:-1] or [0]
-    for i in wrong:
-        x = ALPHA[254 - i]
-        below = value(derivative, inverse(x))
-        if below == 0:
-            raise Refused(13)
-        fixed[i] ^= MUL[x][MUL[value(evaluator or [0], inverse(x))][inverse(below)]]
-    differ = sum(a != b for a, b in zip(fixed, row))
-    if differ > 8 or any(value(fixed, ALPHA[j]) for j in range(16)):
+    return trim(v), now
+
+
+# where the locator is zero if byte i is wrong
+POINTS = [INVERSE[ALPHA[254 - i]] for i in range(255)]
+
+
+def repair_row(row):
+    """The coded row within eight bytes. What the algorithm proposes is judged by the code itself."""
+    if len(row) != 255:
+        raise Refused(1)
+    rest = rest_of(row)
+    if not any(rest):
+        return bytes(row)
+    locator, evaluator = key_equation([value(rest, ALPHA[j]) for j in range(16)])
+    slope, fixed = derivative(locator), bytearray(row)
+    for i in range(255):
+        if value(locator, POINTS[i]) == 0:
+            quotient = MUL[value(evaluator, POINTS[i])][INVERSE[value(slope, POINTS[i])]]
+            fixed[i] ^= MUL[ALPHA[254 - i]][quotient]
+    if sum(a != b for a, b in zip(fixed, row)) > 8 or any(rest_of(fixed)):
         raise Refused(13)
     return bytes(fixed)
+
+
+def repair_rows(payload):
+    """All rows of a payload; the refusal names the first that cannot be repaired."""
+    mended = bytearray()
+    for k in range(len(payload) // 255):
+        try:
+            mended += repair_row(payload[255 * k : 255 * k + 255])
+        except Refused:
+            raise Refused(13, k) from None
+    return bytes(mended)
 
 
 # ---- fields, section 2: one long number, cut into its fields
 
 WIDTHS = [("mark", 24), ("resource", 16), ("number", 20), ("update", 4), ("length", 12), ("count", 20), ("type", 2), ("protection", 2), ("rows", 8), ("reserved", 4)]
 NINE = ["resource", "number", "update", "length", "count", "type", "protection", "rows", "reserved"]
+MARK = 0x495969
 
 
 def fields_of(packet):
-    rest, left, out = int.from_bytes(packet[:14], "big"), 112, {}
+    whole, left, out = int.from_bytes(packet[:14], "big"), 112, {}
     for name, width in WIDTHS:
         left -= width
-        out[name] = rest >> left & (1 << width) - 1
+        out[name] = whole >> left & (1 << width) - 1
     return out
 
 
@@ -180,11 +205,18 @@ def header_of(fields):
     return bits.to_bytes(14, "big")
 
 
+def number_fits(f):
+    if f["type"] == 0:
+        return f["count"] == 0 and f["number"] != 1048575
+    return f["number"] < f["count"]
+
+
 def read_fields(packet):
+    """The fields as sent, or the first refusal of 1 to 8."""
     if len(packet) < 19:
         raise Refused(1)
     f = fields_of(packet)
-    if f["mark"] != 0x495969:
+    if f["mark"] != MARK:
         raise Refused(2)
     if f["length"] != len(packet):
         raise Refused(3)
@@ -192,10 +224,7 @@ def read_fields(packet):
         raise Refused(4)
     if f["protection"] > 1 or (f["protection"] == 1 and f["rows"] == 0):
         raise Refused(5)
-    if f["type"] == 0:
-        if f["count"] != 0 or f["number"] == 1048575:
-            raise Refused(6)
-    elif f["count"] == 0 or f["number"] >= f["count"]:
+    if not number_fits(f):
         raise Refused(6)
     if f["protection"] == 1 and (len(packet) - 18) % 255:
         raise Refused(7)
@@ -207,10 +236,15 @@ def read_fields(packet):
 # ---- packing, sections 3 and 4
 
 
+def size_fits(protection, size):
+    """The range of P, which is that of S too."""
+    return 1 <= size <= 4077 if protection == 0 else 255 <= size <= 3825 and size % 255 == 0
+
+
 def settings_fit(s):
-    sizes = range(1, 4078) if s["protection"] == 0 else range(255, 3826, 255)
+    """M is not judged without protection."""
     return (1 <= s["resource"] <= 65535 and s["type"] in (1, 2) and 0 <= s["update"] <= 15 and s["protection"] in (0, 1)
-            and (s["protection"] == 0 or 1 <= s["rows"] <= 255) and s["size"] in sizes)
+            and (s["protection"] == 0 or 1 <= s["rows"] <= 255) and size_fits(s["protection"], s["size"]))
 
 
 def house(resource, kind, update):
@@ -221,202 +255,213 @@ def up(a, b):
     return -(-a // b)
 
 
-def coded_file(file, s):
-    """All bytes that are sent. The tables are filled position by position, down each column, as the text says it."""
-    if s["protection"] == 0:
-        return bytes(file)
-    m = s["rows"]
+def coded_file(file, m):
+    """All bytes that are sent under protection. The tables are filled position by position, down each column, as the text says it."""
     out = bytearray()
     for t in range(up(len(file), 239 * m)):
         table = [bytearray(239) for _ in range(m)]
-        at = t * 239 * m
-        for column in range(239):
-            for row in range(m):
-                if at < len(file):
-                    table[row][column] = file[at]
-                at += 1
+        part = file[t * 239 * m : (t + 1) * 239 * m]
+        for place, byte in enumerate(part):
+            table[place % m][place // m] = byte
         for row in table:
             out += row + encode_row(row)
     return bytes(out)
 
 
 class Packer:
-    """Keeps the coded file, so that its packets can be asked for one after the other."""
+    """Packs one file, and keeps its coded bytes for each M, so that its packets can be asked for one after the other."""
 
-    def __init__(self, file, s):
-        self.file, self.s, self.coded = file, s, None
+    def __init__(self, file):
+        self.file, self.kept = bytes(file), {0: bytes(file)}
 
-    def packet(self, n, room=4095):
-        s = self.s
+    def coded(self, m):
+        if m not in self.kept:
+            self.kept[m] = coded_file(self.file, m)
+        return self.kept[m]
+
+    def packet(self, s, n, room):
+        """Packet n under the settings, for an output of that room; refusals 17, 23, 25, 6, 26."""
         if not settings_fit(s):
             raise Refused(17)
         if not 1 <= len(self.file) <= LIMIT:
             raise Refused(23)
-        m = s["rows"]
-        length = len(self.file) if s["protection"] == 0 else 255 * m * up(len(self.file), 239 * m)
-        count = up(length, s["size"])
+        m, size = s["rows"] if s["protection"] else 0, s["size"]
+        length = 255 * m * up(len(self.file), 239 * m) if m else len(self.file)
+        count = up(length, size)
         if count > 1048575:
             raise Refused(25)
         if n >= count:
             raise Refused(6)
-        if self.coded is None:
-            self.coded = coded_file(self.file, s)
-        payload = self.coded[n * s["size"] : (n + 1) * s["size"]]
-        head = header_of({"mark": 0x495969, "resource": s["resource"], "number": n, "update": s["update"], "length": 18 + len(payload), "count": count,
-                          "type": s["type"], "protection": s["protection"], "rows": m if s["protection"] else 0, "reserved": 0})
-        packet = head + payload
-        packet += crc32(packet).to_bytes(4, "big")
-        if len(packet) > room:
+        if 18 + min(size, length - n * size) > room:
             raise Refused(26)
-        return packet
+        payload = self.coded(m)[n * size : (n + 1) * size]
+        packet = header_of({**s, "mark": MARK, "number": n, "length": 18 + len(payload), "count": count, "rows": m, "reserved": 0}) + payload
+        return packet + crc32(packet).to_bytes(4, "big")
 
 
-# ---- the record, section 5. A place is a dict, an unused one None
+# ---- the record, section 5: 128 bytes, a place in sixteen of them, numbers little-endian. A place is in use if its resource is not 0
+
+PLACE = [("resource", 2), ("type", 1), ("update", 1), ("count", 4), ("protection", 1), ("rows", 1), ("slot", 2), ("start", 4)]
 
 
-PLACE = ["resource", "type", "update", "count", "protection", "rows", "slot", "start"]
+def place_of(sixteen):
+    at, p = 0, {}
+    for name, width in PLACE:
+        p[name] = int.from_bytes(sixteen[at : at + width], "little")
+        at += width
+    return p
+
+
+def bytes_of(place):
+    return b"".join(place[name].to_bytes(width, "little") for name, width in PLACE)
+
+
+def end_of(p):
+    return p["start"] + p["count"] * (p["slot"] + 2)
+
+
+def meet(p, q):
+    return max(p["start"], q["start"]) < min(end_of(p), end_of(q))
+
+
+def place_fits(p, usable):
+    """A place in use by itself: its ranges, and the end of the usable store."""
+    return (settings_fit({**p, "size": p["slot"]}) and 1 <= p["count"] <= 1048575 and (p["protection"] == 1 or p["rows"] == 0)
+            and end_of(p) <= usable)
+
+
+@functools.lru_cache(maxsize=64)
+def places_in_use(held, usable):
+    """The places in use by their index, or None for a record that is refused. The caller changes nothing in them."""
+    if len(held) != 128:
+        return None
+    places = {i: place_of(held[16 * i : 16 * i + 16]) for i in range(8)}
+    used = {i: p for i, p in places.items() if p["resource"]}
+    if not all(place_fits(p, usable) for p in used.values()):
+        return None
+    if any(p["resource"] == q["resource"] or meet(p, q) for p, q in itertools.combinations(used.values(), 2)):
+        return None
+    return used
 
 
 class Receiver:
-    """A record of eight places over a store. Each call raises Refused or answers."""
+    """A record and a store, both lent as bytearrays and changed in place. Each call raises Refused, with nothing changed, or answers."""
 
-    def __init__(self, store, places=None):
-        self.store, self.places = store, places or [None] * 8
-
-    # the record as 128 bytes, each place sixteen, numbers little-endian
-    @classmethod
-    def of_bytes(cls, record, store):
-        places = []
-        for i in range(8):
-            p = record[16 * i : 16 * i + 16]
-            n = lambda a, b: int.from_bytes(p[a:b], "little")
-            place = dict(zip(PLACE, [n(0, 2), p[2], p[3], n(4, 8), p[8], p[9], n(10, 12), n(12, 16)]))
-            places.append(place if place["resource"] else None)
-        return cls(store, places)
+    def __init__(self, held, store):
+        self.held, self.store = held, store
 
     def usable(self):
         return min(len(self.store), LIMIT)
 
-    def covers(self, p):
-        return range(p["start"], p["start"] + p["count"] * (p["slot"] + 2))
+    def used(self):
+        used = places_in_use(bytes(self.held), self.usable())
+        if used is None:
+            raise Refused(9)
+        return used
 
-    def judge_record(self):
-        used = [p for p in self.places if p]
-        for p in used:
-            s = {**p, "size": p["slot"]}
-            if not settings_fit(s) or not 1 <= p["count"] <= 1048575 or (p["protection"] == 0 and p["rows"] != 0):
-                raise Refused(9)
-            if self.covers(p).stop > self.usable():
-                raise Refused(9)
-        for i, p in enumerate(used):
-            for q in used[:i]:
-                a, b = self.covers(p), self.covers(q)
-                if p["resource"] == q["resource"] or max(a.start, b.start) < min(a.stop, b.stop):
-                    raise Refused(9)
-
-    def place(self, resource):
-        for p in self.places:
-            if p and p["resource"] == resource:
-                return p
+    def find(self, resource):
+        """Index and place of the resource, in a record that is not refused."""
+        for i, p in self.used().items():
+            if p["resource"] == resource:
+                return i, p
         raise Refused(10)
 
     def open(self, s, count):
-        self.judge_record()
+        used = self.used()
         if not settings_fit(s) or not 1 <= count <= 1048575:
             raise Refused(17)
-        if any(p and p["resource"] == s["resource"] for p in self.places):
+        if any(p["resource"] == s["resource"] for p in used.values()):
             raise Refused(18)
-        if None not in self.places:
+        if len(used) == 8:
             raise Refused(19)
-        size = count * (s["size"] + 2)
-        start = 0
-        # the lowest start: past whatever place it meets
-        while True:
-            met = [p for p in self.places if p and max(start, p["start"]) < min(start + size, self.covers(p).stop)]
-            if not met:
-                break
-            start = max(self.covers(p).stop for p in met)
-        if start + size > self.usable():
-            raise Refused(20)
-        for k in range(count):
-            self.store[start + k * (s["size"] + 2)] = 0
-            self.store[start + k * (s["size"] + 2) + 1] = 0
-        self.places[self.places.index(None)] = {
-            "resource": s["resource"], "type": s["type"], "update": s["update"], "count": count, "protection": s["protection"],
-            "rows": s["rows"] if s["protection"] else 0, "slot": s["size"], "start": start}
+        place = {**s, "count": count, "rows": s["rows"] if s["protection"] else 0, "slot": s["size"]}
+        place["start"] = self.lowest_start(place, used.values())
+        for at in range(place["start"], end_of(place), place["slot"] + 2):
+            self.store[at : at + 2] = b"\0\0"
+        i = min(set(range(8)) - set(used))
+        self.held[16 * i : 16 * i + 16] = bytes_of(place)
+
+    def lowest_start(self, place, others):
+        """0 or the end of another place: below the lowest free start something is in the way, and it ends there."""
+        for start in sorted([0] + [end_of(p) for p in others]):
+            moved = {**place, "start": start}
+            if end_of(moved) <= self.usable() and not any(meet(moved, p) for p in others):
+                return start
+        raise Refused(20)
 
     def slot(self, p, k):
+        """The payload in slot k, empty for an empty slot."""
         at = p["start"] + k * (p["slot"] + 2)
         length = self.store[at] + 256 * self.store[at + 1]
         if length > p["slot"] or (p["protection"] == 1 and length % 255):
             raise Refused(15)
         return bytes(self.store[at + 2 : at + 2 + length])
 
+    def slots(self, p):
+        return [self.slot(p, k) for k in range(p["count"])]
+
     def offer(self, packet):
-        self.judge_record()
+        self.used()
         f = read_fields(packet)
-        p = self.place(f["resource"])
+        _, p = self.find(f["resource"])
         if any(f[k] != p[k] for k in ("type", "update", "count", "protection")) or (f["protection"] == 1 and f["rows"] != p["rows"]):
             raise Refused(11)
-        payload = packet[14:-4]
+        payload = bytes(packet[14:-4])
         if len(payload) > p["slot"]:
             raise Refused(12)
         if f["protection"] == 1:
-            mended = b""
-            for k in range(len(payload) // 255):
-                try:
-                    mended += repair_row(payload[255 * k : 255 * k + 255])
-                except Refused:
-                    raise Refused(13, k) from None
-            payload = mended
+            payload = repair_rows(payload)
         if crc32(packet[:14] + payload) != int.from_bytes(packet[-4:], "big"):
             raise Refused(14)
-        held = self.slot(p, f["number"])
-        if held == payload:
+        return self.keep(p, f["number"], payload)
+
+    def keep(self, p, k, payload):
+        there = self.slot(p, k)
+        if there == payload:
             return "Repeat"
-        if held:
+        if there:
             raise Refused(16)
-        at = p["start"] + f["number"] * (p["slot"] + 2)
+        at = p["start"] + k * (p["slot"] + 2)
         self.store[at : at + 2 + len(payload)] = len(payload).to_bytes(2, "little") + payload
         return "Stored"
 
     def status(self, resource):
-        self.judge_record()
-        p = self.place(resource)
-        held = [self.slot(p, k) for k in range(p["count"])]
-        return sum(1 for b in held if b), next((k for k, b in enumerate(held) if not b), None)
+        """The number of filled slots and the lowest empty one, or None."""
+        _, p = self.find(resource)
+        slots = self.slots(p)
+        return sum(1 for b in slots if b), next((k for k, b in enumerate(slots) if not b), None)
 
     def hand_out(self, resource, length, room):
-        self.judge_record()
-        p = self.place(resource)
-        held = [self.slot(p, k) for k in range(p["count"])]
-        for k, b in enumerate(held):
-            if not b:
-                raise Refused(21, k)
-        sent = b"".join(held)
-        if p["protection"] == 0:
-            if length != len(sent):
-                raise Refused(23)
-            file = sent
-        else:
-            m, rows = p["rows"], len(sent) // 255
-            if rows % m:
-                raise Refused(22)
-            if up(length, 239 * m) != rows // m:
-                raise Refused(23)
-            whole = bytearray()
-            for t in range(rows // m):
-                for column in range(239):
-                    for row in range(m):
-                        whole.append(sent[(t * m + row) * 255 + column])
-            if any(whole[length:]):
-                raise Refused(24)
-            file = bytes(whole[:length])
+        """The file of that length, for an output of that room."""
+        _, p = self.find(resource)
+        slots = self.slots(p)
+        if b"" in slots:
+            raise Refused(21, slots.index(b""))
+        sent = b"".join(slots)
+        file = undo_tables(sent, p["rows"], length) if p["protection"] else sent
+        if length != len(file):
+            raise Refused(23)
         if room < length:
             raise Refused(26)
         return file
 
     def close(self, resource):
-        self.judge_record()
-        p = self.place(resource)
-        self.places[self.places.index(p)] = None
+        i, _ = self.find(resource)
+        self.held[16 * i : 16 * i + 16] = bytes(16)
+
+
+def undo_tables(sent, m, length):
+    """The file of that length out of the joined rows; refusals 22, 23, 24."""
+    rows = len(sent) // 255
+    if rows % m:
+        raise Refused(22)
+    if up(length, 239 * m) != rows // m:
+        raise Refused(23)
+    whole = bytearray()
+    for t in range(rows // m):
+        for column in range(239):
+            for row in range(m):
+                whole.append(sent[(t * m + row) * 255 + column])
+    if any(whole[length:]):
+        raise Refused(24)
+    return bytes(whole[:length])
