@@ -6,7 +6,7 @@ cases.py --check [FILE]     the file's own expectations as expected, and what is
 cases.py --answers [FILE]   the file itself, each expectation replaced by what is computed here
 Without FILE it reads standard input. The exit status is 1 if a line says wrong."""
 
-import functools, sys
+import functools, itertools, sys
 
 from receiver import NINE, Packer, Receiver, Refused, crc32, encode_row, house, read_fields, repair_row
 
@@ -18,14 +18,15 @@ WORD, HALF, BYTE = 1 << 32, 1 << 16, 1 << 8
 
 
 def steps(x):
-    """The states of the generator after steps 1, 2, 3 .."""
+    """The bytes of the generator's steps 1, 2, 3 .."""
     while True:
         x = (x * 1664525 + 1013904223) % WORD
-        yield x
+        yield x >> 24
 
 
+@functools.lru_cache(maxsize=32)
 def generated(seed, length):
-    return bytearray(x >> 24 for x, _ in zip(steps(seed), range(length)))
+    return bytes(itertools.islice(steps(seed), length))
 
 
 def fnv(data):
@@ -47,8 +48,8 @@ def damaged(packet, family, seed):
     rows = max(len(packet) - 18, 0) // 255 if family in (1, 2, 3, 4) else 0
     for k in range(rows):
         for j in range(8):
-            p = (next(x) >> 24) % 255 if family == 4 else {1: j, 2: 247 + j, 3: 239 + 2 * j}[family]
-            packet[14 + 255 * k + p] ^= next(x) >> 24 | 1
+            p = next(x) % 255 if family == 4 else {1: j, 2: 247 + j, 3: 239 + 2 * j}[family]
+            packet[14 + 255 * k + p] ^= next(x) | 1
     return packet
 
 
@@ -108,7 +109,8 @@ class Run:
     # file
     def do_file(self, words):
         seed, length = numbers(words)[:2]
-        self.file, self.packer = generated(seed, min(length, LIMITS["file"])), None
+        self.set("file", generated(seed, min(length, LIMITS["file"])))
+        self.packer = None
 
     def do_file_put(self, words):
         overwrite(self.file, numbers(words[:1])[0], pairs(words[1:]))
@@ -283,7 +285,7 @@ class Run:
     def offer_noise(self, packet, seed):
         renumbered = bytearray(packet)
         renumbered[7] ^= 16
-        some = bytes(generated(seed, 40))
+        some = generated(seed, 40)
         for noise in (packet[:-1], renumbered, some, b"\x49\x59\x69" + some):
             self.stores(noise)
 
@@ -379,16 +381,17 @@ def answered(lines):
     return [case.answered() if case else line for line, case in run_lines(lines)]
 
 
-def lines_of(text):
+def lines_of(data):
+    """A byte is a letter, so that no byte is lost or joined with another."""
+    text = data.decode("latin-1")
     return text.split("\n")[:-1] if text.endswith("\n") else text.split("\n")
 
 
 def main(arguments):
     ways = {"--check": checked, "--answers": answered}
     way = ways[arguments.pop(0)] if arguments and arguments[0] in ways else computed
-    text = open(arguments[0]).read() if arguments else sys.stdin.read()
-    out = way(lines_of(text))
-    sys.stdout.write("".join(line + "\n" for line in out))
+    out = way(lines_of(open(arguments[0], "rb").read() if arguments else sys.stdin.buffer.read()))
+    sys.stdout.buffer.write("".join(line + "\n" for line in out).encode("latin-1"))
     return 1 if way is not answered and not out[-1].endswith(" 0 wrong") else 0
 
 

@@ -1,0 +1,401 @@
+#!/usr/bin/env python3
+"""random_cases.py SEED COUNT: writes a file of cases with COUNT random steps, for comparing two programs call by call.
+
+Each step sets something up and calls; each call is followed by a case, its expectation computed by the second receiver.
+Steps know what is open, so that most packets belong to something and every refusal comes up; the same seed gives the same file."""
+
+import random, sys
+
+from cases import Case, Run
+from receiver import MARK, PLACE, header_of, place_of, up
+
+FIELDS = ["resource", "type", "update", "protection", "rows", "size"]
+RESOURCES = list(range(1, 12)) + [256, 65535]
+
+
+def hexes(data):
+    return " ".join(f"{b:02x}" for b in data)
+
+
+def count_of(s):
+    """The number of packets of a sender's file."""
+    m = s["rows"]
+    return up(255 * m * up(s["length"], 239 * m) if s["protection"] else s["length"], s["size"])
+
+
+class Writer:
+    """The lines so far, what they left at hand, and the senders whose files are being collected, by resource."""
+
+    def __init__(self, seed):
+        self.random, self.run, self.lines, self.senders = random.Random(seed), Run(), [], {}
+        self.step, self.named = 0, 0
+
+    def say(self, line):
+        self.run.do(line)
+        self.lines.append(line)
+
+    def case(self, expectation):
+        """A case line; its expectation is replaced by what came out."""
+        self.named += 1
+        self.lines.append(Case(f"case step-{self.step}-{self.named} {expectation}", self.run).answered())
+
+    def call(self, line):
+        """True if it was accepted."""
+        self.say(line)
+        self.case("accepted")
+        return self.run.answer.number == 0
+
+    # ---- choices
+
+    def below(self, n):
+        return self.random.randrange(n)
+
+    def often(self, share):
+        return self.random.random() < share
+
+    def pick(self, *choices):
+        return self.random.choice(choices)
+
+    def wrapped(self, n, modulus):
+        """Now and then the same number modulo the range of its argument."""
+        return n + modulus * self.pick(1, 2, 3) if self.often(0.01) else n
+
+    def resource(self):
+        if self.senders and self.often(0.85):
+            return self.random.choice(sorted(self.senders))
+        return self.wrapped(self.pick(0, *RESOURCES), 65536)
+
+    def sender(self):
+        """A file and good settings for it, small as a rule."""
+        s = {"resource": self.pick(*RESOURCES), "type": self.pick(1, 2), "update": self.below(16), "protection": self.pick(0, 1), "seed": self.below(1 << 32)}
+        if s["protection"]:
+            s["rows"], s["size"] = self.pick(1, 2, 2, 3, 4, 5, 9), 255 * self.pick(1, 1, 1, 2, 2, 3, 15)
+            s["length"] = 1 + self.below(239 * s["rows"] * self.pick(1, 1, 1, 2, 3))
+        else:
+            s["rows"], s["size"] = self.pick(0, 0, 0, 7), self.pick(1, 2, 7, 8, 30, 30, 100, 100, 255, 1000, 4077)
+            s["length"] = 1 + self.below(s["size"] * self.pick(1, 3, 8, 12))
+        return s
+
+    def any_sender(self):
+        if self.senders and self.often(0.9):
+            return self.senders[self.random.choice(sorted(self.senders))]
+        return self.sender()
+
+    def broken(self, s):
+        """The same with one setting out of its range or at its edge."""
+        name = self.pick(*FIELDS)
+        wrong = {"resource": [0], "type": [0, 3, 4, 255], "update": [16, 255], "protection": [2, 3, 255], "rows": [0, 255],
+                 "size": [0, 1, 254, 256, 3825, 3826, 4077, 4078, 4080, 65535]}
+        return {**s, name: self.pick(*wrong[name])}
+
+    # ---- lines that several steps share
+
+    def say_settings(self, s):
+        ranges = [65536, 256, 256, 256, 256, 65536]
+        self.say("settings " + " ".join(str(self.wrapped(s[name], r)) for name, r in zip(FIELDS, ranges)))
+
+    def say_file(self, s):
+        self.say(f"file {s['seed']} {s['length']}")
+
+    def say_packet(self, s, n):
+        """Bytes: packet n of the sender's file, as long as the settings are good."""
+        self.say_file(s)
+        self.say_settings(s)
+        self.say("out 0 4095")
+        if self.call(f"pack {n}"):
+            self.say(f"take {self.run.answer.value}")
+
+    def say_header(self, **fields):
+        """The header at the start of bytes, each field cut to its width."""
+        widths = {"mark": 24, "resource": 16, "number": 20, "update": 4, "length": 12, "count": 20, "type": 2, "protection": 2, "rows": 8, "reserved": 4}
+        full = {"mark": MARK, "reserved": 0, "length": len(self.run.bytes), **fields}
+        self.say("put 0 " + hexes(header_of({k: full[k] % (1 << w) for k, w in widths.items()})))
+
+    def header_fields(self, s):
+        return {"resource": s["resource"], "number": self.below(count_of(s)), "update": s["update"], "count": count_of(s), "type": s["type"],
+                "protection": s["protection"], "rows": s["rows"]}
+
+    def payload_length(self, s):
+        """Mostly such as may stand in a packet of this sender."""
+        if self.often(0.15):
+            return self.pick(0, 1, 2, 254, 256, 4077, 4078)
+        return 255 * self.pick(1, 1, 2, 3, 15) if s["protection"] else self.pick(1, s["size"], min(s["size"] + 1, 4077))
+
+    # ---- steps: a new record and store, opening and closing
+
+    def step_fresh(self):
+        self.senders = {}
+        if self.often(0.3):
+            self.say(f"held {self.pick(0, 1, 127, 129, 256)}")
+            self.any_call()
+        self.say(f"store {self.below(256)} {self.pick(self.below(100), 1500, 6000, 6000, 20000, 20000, 60000, 60000)}")
+        self.say("held 128")
+        for _ in range(self.pick(1, 5, 5, 16)):
+            self.open_well(self.sender())
+
+    def step_open(self):
+        s = self.sender()
+        self.random.choices([self.open_well, self.open_house, self.open_badly], [70, 5, 25])[0](s)
+
+    def open_well(self, s):
+        self.say_settings(s)
+        if self.call(f"open {self.wrapped(count_of(s), 1 << 32)}"):
+            self.senders[s["resource"]] = s
+
+    def open_badly(self, s):
+        self.say_settings(self.broken(s) if self.often(0.6) else s)
+        self.call(f"open {self.pick(count_of(s), 0, 1, 1048575, 1048576, 4294967295)}")
+
+    def open_house(self, s):
+        s = {**s, "protection": 1, "rows": 32, "size": 255, "length": 1 + self.below(7648)}
+        self.say_settings({**s, "rows": self.below(256), "size": self.below(5000)})
+        if self.call(f"open-house {count_of(s)}"):
+            self.senders[s["resource"]] = s
+
+    def step_close(self):
+        resource = self.resource()
+        if self.call(f"close {resource}"):
+            self.senders.pop(resource % 65536, None)
+
+    # ---- steps: offers
+
+    def step_offer(self):
+        s = self.any_sender()
+        s = self.pick(s, s, s, s, s, {**s, "seed": s["seed"] + 1}, {**s, "update": (s["update"] + 1) % 16}, {**s, "type": 3 - s["type"]})
+        self.say_packet(s, self.below(count_of(s)))
+        self.pick(self.spoil_nothing, self.spoil_nothing, self.spoil_nothing, self.spoil_rows, self.spoil_rows, self.spoil_row, self.spoil_bits,
+                  self.spoil_header, self.spoil_length)()
+        self.call("offer")
+        if self.often(0.2):
+            self.call("offer")
+
+    def spoil_nothing(self):
+        pass
+
+    def spoil_rows(self):
+        self.say(f"damage {self.pick(0, 1, 2, 3, 4, 4, 5)} {self.below(1 << 32)}")
+
+    def spoil_row(self):
+        """One row anywhere in the payload, by up to twelve flips."""
+        rows = max(len(self.run.bytes) - 18, 1)
+        base = 14 + 255 * self.below(up(rows, 255))
+        for _ in range(self.pick(1, 5, 7, 8, 8, 9, 10, 12)):
+            self.say(f"flip {base + self.below(255)} {1 + self.below(255)}")
+
+    def spoil_bits(self):
+        for _ in range(self.pick(1, 1, 2)):
+            self.say(f"flip {self.below(len(self.run.bytes) + 1)} {1 << self.below(8)}")
+
+    def spoil_header(self):
+        self.say(f"flip {self.below(14)} {1 << self.below(8)}")
+        if self.often(0.8):
+            self.say("seal")
+
+    def spoil_length(self):
+        length = len(self.run.bytes)
+        self.say(self.pick(f"cut {max(length - 1, 0)}", f"cut {self.below(30)}", f"grow {length + 1}", f"grow {length + 255}", "grow 4096"))
+
+    def step_offer_made(self):
+        """A packet made by hand: the fields of a place, zeros or random bytes as payload."""
+        s = self.any_sender()
+        length = self.payload_length(s)
+        self.say(self.pick(f"fill 0 {18 + length}", f"random {self.below(1000)} {18 + length}"))
+        self.say_header(**self.header_fields(s))
+        self.say("seal")
+        self.call("offer")
+
+    def step_offer_noise(self):
+        self.say(f"random {self.below(1 << 32)} {self.pick(0, 18, 19, 40, 273, 4095, 8192)}")
+        if self.often(0.7):
+            self.say("put 0 49 59 69")
+        self.call("offer")
+
+    # ---- steps: looking and handing out
+
+    def step_status(self):
+        self.call(f"status {self.resource()}")
+
+    def step_hand(self):
+        s = self.any_sender()
+        table = 239 * s["rows"]
+        length = self.pick(s["length"], s["length"], s["length"] - 1, s["length"] + 1, 0, s["length"] + table, table, 1, 1 << 40)
+        self.say(f"out {self.below(256)} {self.pick(length, length, length + 5, max(length - 1, 0), 0)}")
+        self.call(f"hand {self.pick(s['resource'], s['resource'], s['resource'], self.resource())} {length}")
+
+    def step_complete(self):
+        """A whole transmission, and the file handed out."""
+        s = self.any_sender()
+        count = count_of(s)
+        self.say_file(s)
+        self.say_settings(s)
+        step, turns = self.pick(1, 1, 7, 11, 13), self.pick(count, count, count + 2, count // 2)
+        self.call(f"send {self.pick(count, count, count, count, 0, count + 1)} {step} {turns} {self.below(6)} {self.pick(0, 0, 1)} {self.below(1 << 32)}")
+        self.call(f"status {s['resource']}")
+        self.say(f"out 85 {s['length'] + self.pick(0, 0, 0, 3)}")
+        if self.call(f"hand {s['resource']} {s['length'] - self.pick(0, 0, 0, 1)}"):
+            self.case("file" if self.run.out[: s["length"]] == self.run.file else "out")
+
+    # ---- steps: a store and a record that somebody else has written in
+
+    def slot_at(self, s, k):
+        """Where slot k of the resource's place begins, or 0 where nothing holds it."""
+        for i in range(8):
+            p = place_of(self.run.held[16 * i : 16 * i + 16].ljust(16, b"\0"))
+            if p["resource"] == s["resource"]:
+                return p["start"] + k * (p["slot"] + 2)
+        return 0
+
+    def step_poke(self):
+        """One slot's length or a byte of its payload, put back as a rule."""
+        s = self.any_sender()
+        k = self.below(count_of(s))
+        at = self.slot_at(s, k) + self.pick(0, 0, 0, 2)
+        before = self.run.store[at : at + 2]
+        length = self.pick(0, 1, 254, 255, 256, 510, s["size"], s["size"] + 1, 65535)
+        self.say(f"poke {at} {length % 256:02x} {length // 256:02x}")
+        self.pick(self.step_status, self.step_hand, self.step_offer)()
+        self.call(self.pick(f"status {s['resource']}", f"hand {s['resource']} {s['length']}"))
+        if before and self.often(0.8):
+            self.say(f"poke {at} {hexes(before)}")
+
+    def step_fill_slots(self):
+        """Every slot of a place gets a length of its own; under protection most of them whole rows."""
+        s = self.any_sender()
+        size, total = s["size"], 0
+        for k in range(min(count_of(s), 20)):
+            length = 255 * (1 + self.below(max(size // 255, 1))) if s["protection"] else 1 + self.below(size)
+            self.say(f"poke {self.slot_at(s, k)} {length % 256:02x} {length // 256:02x}")
+            total += length
+        self.say(f"out 0 {total + 10}")
+        for length in (total, s["length"], total * 239 // 255):
+            self.call(f"hand {s['resource']} {length}")
+
+    def step_place(self):
+        """A place altered, some calls, and the place as it was."""
+        i = self.below(8)
+        before = place_of(self.run.held[16 * i : 16 * i + 16].ljust(16, b"\0"))
+        edges = [0, 1, 2, 3, 15, 16, 253, 254, 255, 256, 510, 3825, 4077, 4080, 65535, 1048575, 1048576, 16777216, 4294967295]
+        altered = {**before, self.pick(*before): self.pick(*edges)}
+        if self.often(0.3):
+            altered = place_of(bytes(self.below(256) for _ in range(16))) if self.often(0.5) else place_of(self.run.held[:16].ljust(16, b"\0"))
+        self.say_place(i, altered)
+        for _ in range(self.pick(1, 2)):
+            self.any_call()
+        if altered["resource"] or self.often(0.5):
+            self.say_place(i, before)
+
+    def say_place(self, i, p):
+        self.say(f"place {i} " + " ".join(str(p[name]) for name, _ in PLACE))
+
+    def any_call(self):
+        """A call that takes the record, with whatever is at hand."""
+        r = self.resource()
+        if self.call(self.pick("offer", f"status {r}", f"hand {r} 5", f"close {r}", "open 1", "open-house 1")):
+            self.refresh_senders()
+
+    def refresh_senders(self):
+        """After a call that may have opened or closed: only resources that are still held count."""
+        held = {place_of(self.run.held[16 * i : 16 * i + 16].ljust(16, b"\0"))["resource"] for i in range(8)}
+        self.senders = {r: s for r, s in self.senders.items() if r in held}
+
+    # ---- steps: packing, fields, rows and the CRC
+
+    def step_pack(self):
+        s = self.sender()
+        if self.often(0.1):
+            s["length"] = 0
+        self.say_file(s)
+        if self.often(0.2):
+            self.say(f"file-put {self.below(s['length'] + 2)} {hexes(bytes(self.below(256) for _ in range(5)))}")
+        self.say_settings(self.broken(s) if self.often(0.3) else s)
+        self.say(f"out {self.below(256)} {self.pick(0, 18, 19, 272, 273, 4094, 4095, 4095, 4095, 5000)}")
+        n = self.pick(0, self.below(count_of(s) + 1), self.below(count_of(s) + 1), count_of(s), 4294967295)
+        self.call(f"{self.pick('pack', 'pack', 'pack', 'pack-house')} {n}")
+        self.some_bytes_of_out()
+
+    def step_pack_many(self):
+        """More packets than a count can say, or just as many."""
+        self.say(f"file {self.below(100)} {self.pick(1048575, 1048576, 1048577)}")
+        self.say("settings 5 1 3 0 0 1")
+        self.say("out 0 19")
+        self.call(f"pack {self.pick(0, 1048574, 1048575)}")
+        self.say("file 0 0")
+
+    def step_read(self):
+        s = self.sender()
+        length = 18 + self.payload_length(s)
+        self.say(f"random {self.below(1000)} {length}")
+        fields = self.header_fields(s)
+        if self.often(0.8):
+            name, edges = self.pick(("resource", [0, 0, 65535]), ("type", [0, 0, 3, 3]), ("protection", [0, 1, 2, 3]), ("rows", [0, 1, 255]), ("count", [0, 1, 1048575]),
+                                    ("number", [0, 1, 1048574, 1048575]), ("reserved", [0, 15]), ("length", [0, length + 1, length - 1]), ("mark", [0, MARK ^ 1]))
+            fields[name] = self.pick(*edges)
+        if fields["type"] == 0 and self.often(0.7):
+            fields["count"] = 0
+        self.say_header(**fields)
+        self.say(f"out {self.below(256)} {self.pick(0, 35, 36, 36, 40)}")
+        self.call(f"read {self.pick(9, 9, 9, 10, 8, 0)}")
+        self.some_bytes_of_out()
+
+    def step_encode(self):
+        self.say(f"random {self.below(1 << 32)} {self.pick(239, 239, 239, 238, 240, 0)}")
+        self.say(f"out {self.below(256)} {self.pick(16, 16, 15, 20)}")
+        self.call("encode")
+        self.some_bytes_of_out()
+
+    def step_repair(self):
+        """A coded row with some bytes altered, or none."""
+        self.say(f"random {self.below(1 << 32)} 239")
+        self.say("out 0 16")
+        self.call("encode")
+        self.say("append 16")
+        for _ in range(self.below(14)):
+            self.say(f"flip {self.below(255)} {1 + self.below(255)}")
+        if self.often(0.1):
+            self.say(self.pick("cut 254", "grow 256", "cut 0"))
+        self.say(f"out {self.below(256)} {self.pick(255, 255, 254, 300)}")
+        self.call("repair")
+        self.case("out")
+
+    def step_crc(self):
+        self.say(f"random {self.below(1 << 32)} {self.below(300)}")
+        self.say(f"out 0 {self.pick(4, 4, 3, 9)}")
+        self.call("crc")
+        self.some_bytes_of_out()
+
+    def some_bytes_of_out(self):
+        if len(self.run.out):
+            at = self.below(min(len(self.run.out), 40))
+            self.case(f"bytes {at} " + " ".join(["00"] * min(12, len(self.run.out) - at)))
+
+    # ---- all together
+
+    WEIGHTS = {"fresh": 3, "open": 16, "close": 3, "offer": 26, "offer_made": 7, "offer_noise": 3, "status": 5, "hand": 7, "complete": 6, "poke": 5,
+               "fill_slots": 3, "place": 6, "pack": 8, "pack_many": 0.5, "read": 9, "encode": 2, "repair": 4, "crc": 2}
+
+    def look(self):
+        """Now and then all that is at hand, or a part of it."""
+        if self.often(0.1):
+            self.case(self.pick("store", "held", "out", "packet"))
+        if self.often(0.03):
+            self.say(self.pick("show-held 0 128", f"show-store {self.below(3000)} 100"))
+            self.case("out")
+
+    def write(self, count):
+        self.step_fresh()
+        for self.step in range(1, count + 1):
+            self.named = 0
+            name = self.random.choices(list(self.WEIGHTS), list(self.WEIGHTS.values()))[0]
+            getattr(self, "step_" + name)()
+            self.look()
+        for kind in ("store", "held", "out", "packet"):
+            self.case(kind)
+        return self.lines
+
+
+def written(seed, count):
+    return [f"# random steps: seed {seed}, {count} of them"] + Writer(seed).write(count)
+
+
+if __name__ == "__main__":
+    print("\n".join(written(int(sys.argv[1]), int(sys.argv[2]))))

@@ -1,0 +1,662 @@
+#!/usr/bin/env python3
+"""The second program's own tests: published values of the CRC and of RS(255,239), the values of document 01, section 8, a second decoder
+beside the first, files sent and handed out, every refusal by a case written by hand, and that compare sees a changed byte.
+The last line says how many checks passed."""
+
+import pathlib, random, subprocess, sys, tempfile, zlib
+
+import cases, random_cases
+import receiver as r
+
+HERE = pathlib.Path(__file__).resolve().parent
+CHECKS = 0
+RANDOM = random.Random(20)
+
+
+def same(got, wanted):
+    global CHECKS
+    assert got == wanted, f"got {got!r}, wanted {wanted!r}"
+    CHECKS += 1
+
+
+def refused(number, value, call, *arguments):
+    try:
+        got = call(*arguments)
+    except r.Refused as no:
+        same((no.number, no.value), (number, value))
+    else:
+        assert False, f"got {got!r}, wanted refusal {number}"
+
+
+def some(n):
+    return bytes(RANDOM.randrange(256) for _ in range(n))
+
+
+# ---- the CRC
+
+
+def mirrored(n, bits):
+    return int(f"{n:0{bits}b}"[::-1], 2)
+
+
+def crc_by_mirror(data):
+    """The standard library has the same CRC with every byte and the result mirrored."""
+    return mirrored(zlib.crc32(bytes(mirrored(b, 8) for b in data)), 32)
+
+
+def test_crc():
+    same(r.crc32(b"123456789"), 0xFC891918)
+    same(r.crc32(b""), 0)
+    same(r.crc32(b"\xff"), 0x000000FF)
+    same(r.crc32(b"\xff" * 4), 0xFFFFFFFF)
+    for n in list(range(1, 40)) + [255, 4091]:
+        data = some(n)
+        same(r.crc32(data), crc_by_mirror(data))
+    # a packet with its CRC behind it leaves the same rest whatever it was
+    same({r.crc32(d + r.crc32(d).to_bytes(4, "big")) for d in map(some, range(20))}, {0x38FB2284})
+
+
+# ---- the field and the generator
+
+
+def product_of_numbers(a, b):
+    """First the product without carries, then the rest by 100011101, from the top down."""
+    total = 0
+    for k in range(8):
+        total ^= (a << k) * (b >> k & 1)
+    for k in range(14, 7, -1):
+        total ^= (0b100011101 << k - 8) * (total >> k & 1)
+    return total
+
+
+def test_field():
+    same(all(r.MUL[a][b] == product_of_numbers(a, b) for a in range(256) for b in range(256)), True)
+    same((r.ALPHA[8], r.ALPHA[16], r.MUL[3][59]), (29, 76, 77))
+    same(sorted(r.ALPHA), list(range(1, 256)))
+    same(r.product(r.ALPHA[254], 2), 1)
+    same(all(r.MUL[a][r.INVERSE[a]] == 1 for a in range(1, 256)), True)
+
+
+def test_generator():
+    by_roots = [1]
+    for root in r.ALPHA[:16]:
+        by_roots = r.times(by_roots, [1, root])
+    same(by_roots, r.GENERATOR)
+
+
+# ---- rows
+
+CASE_5 = bytes(238) + bytes([1]) + bytes([59, 13, 104, 189, 68, 209, 30, 8, 163, 65, 41, 229, 98, 50, 36, 59])
+
+
+def test_checks():
+    same(r.encode_row(bytes(239)), bytes(16))
+    same(r.encode_row(CASE_5[:239]), CASE_5[239:])
+    same(r.encode_row(bytes(238) + b"\2"), bytes([118, 26, 208, 103, 136, 191, 60, 16, 91, 130, 82, 215, 196, 100, 72, 118]))
+    for _ in range(20):
+        info = some(239)
+        row = info + r.encode_row(info)
+        same([r.value(row, root) for root in r.ALPHA[:16]], [0] * 16)
+        same(r.divide(list(row), r.GENERATOR)[1], [])
+    for n in (0, 238, 240, 255):
+        refused(1, 0, r.encode_row, bytes(n))
+
+
+def test_seventeen():
+    """Case 5's row with eight and with nine of its seventeen nonzero bytes set to 0."""
+    for _ in range(20):
+        places = RANDOM.sample(range(238, 255), 9)
+        row = bytearray(CASE_5)
+        for i in places[:8]:
+            row[i] = 0
+        same(r.repair_row(row), CASE_5)
+        row[places[8]] = 0
+        same(r.repair_row(row), bytes(255))
+
+
+# ---- a second decoder: Peterson, Gorenstein and Zierler's, by elimination
+
+
+def solve(matrix, right):
+    """The one solution of a square system, or None."""
+    n, m = len(matrix), [list(line) + [b] for line, b in zip(matrix, right)]
+    for k in range(n):
+        pivot = next((i for i in range(k, n) if m[i][k]), None)
+        if pivot is None:
+            return None
+        m[k], m[pivot] = m[pivot], m[k]
+        m[k] = [r.MUL[r.INVERSE[m[k][k]]][x] for x in m[k]]
+        for i in range(n):
+            if i != k and m[i][k]:
+                m[i] = [x ^ r.MUL[m[i][k]][y] for x, y in zip(m[i], m[k])]
+    return [line[-1] for line in m]
+
+
+def sums(row):
+    """The row's value at each root, term by term."""
+    out = []
+    for j in range(16):
+        total = 0
+        for i, c in enumerate(row):
+            total ^= r.MUL[c][r.ALPHA[j * (254 - i) % 255]]
+        out.append(total)
+    return out
+
+
+def second_repair(row):
+    """The coded row within eight bytes, or None."""
+    s = sums(row)
+    if not any(s):
+        return bytes(row)
+    for v in range(8, 0, -1):
+        backward = solve([s[i : i + v] for i in range(v)], s[v : 2 * v])
+        if backward is not None:
+            return place_and_mend(row, s, v, backward)
+    return None
+
+
+def place_and_mend(row, s, v, backward):
+    """The locator's coefficients give v wrong places, these the wrong values; judged by all sixteen sums."""
+    places = [i for i in range(255) if r.value(backward + [1], r.INVERSE[r.ALPHA[254 - i]]) == 0]
+    if len(places) != v:
+        return None
+    wrong = solve([[r.ALPHA[j * (254 - i) % 255] for i in places] for j in range(v)], s[:v])
+    fixed = bytearray(row)
+    for i, e in zip(places, wrong):
+        fixed[i] ^= e
+    return bytes(fixed) if not any(sums(fixed)) else None
+
+
+def both_repair(row, wanted="either"):
+    """Both decoders say the same, and what was to come."""
+    second = second_repair(row)
+    if second is None:
+        refused(13, 0, r.repair_row, row)
+    else:
+        same(r.repair_row(row), second)
+    if wanted != "either":
+        same(second, wanted)
+    return second
+
+
+def altered(row, places):
+    row = bytearray(row)
+    for i in places:
+        row[i] ^= 1 + RANDOM.randrange(255)
+    return bytes(row)
+
+
+def coded_row():
+    info = some(239)
+    return info + r.encode_row(info)
+
+
+def test_repair_up_to_eight():
+    for wrong in range(9):
+        for places in [RANDOM.sample(range(255), wrong) for _ in range(6)] + [range(wrong), range(255 - wrong, 255), range(235, 235 + wrong)]:
+            row = coded_row()
+            both_repair(altered(row, places), row)
+
+
+def test_repair_beyond():
+    """Rows with more wrong bytes, random rows, rows between two coded rows."""
+    for wrong in (9, 9, 9, 10, 11, 12, 16, 17, 40):
+        for _ in range(5):
+            both_repair(altered(coded_row(), RANDOM.sample(range(255), wrong)))
+    for _ in range(20):
+        both_repair(some(255))
+    for _ in range(20):
+        between_two()
+
+
+def between_two():
+    """Two coded rows that differ in seventeen bytes, and rows eight from the one, eight from the other, and nine from both."""
+    row, by = coded_row(), 1 + RANDOM.randrange(255)
+    shift = RANDOM.randrange(239)
+    other = bytes(a ^ r.MUL[by][b] for a, b in zip(row, CASE_5[shift:] + CASE_5[:shift]))
+    apart = [i for i in range(255) if row[i] != other[i]]
+    same(len(apart), 17)
+    RANDOM.shuffle(apart)
+    mixed = bytearray(row)
+    for i in apart[:8]:
+        mixed[i] = other[i]
+    both_repair(mixed, row)
+    mixed[apart[8]] = other[apart[8]]
+    both_repair(mixed, other)
+    mixed[apart[8]] = next(b for b in range(256) if b not in (row[apart[8]], other[apart[8]]))
+    both_repair(mixed)
+    for n in (0, 254, 256):
+        refused(1, 0, r.repair_row, bytes(n))
+
+
+# ---- headers and packing
+
+
+def settings(resource, kind, update, protection, rows, size):
+    return {"resource": resource, "type": kind, "update": update, "protection": protection, "rows": rows, "size": size}
+
+
+def test_headers():
+    nine = r.Packer(b"\7").packet(settings(5, 1, 3, 0, 0, 1), 0, 19)
+    same(nine[:14].hex(" "), "49 59 69 00 05 00 00 03 01 30 00 01 40 00")
+    ten = r.Packer(some(239 * 3)).packet(settings(0x1234, 2, 15, 1, 32, 255), 2, 4095)
+    same(ten[:14].hex(" "), "49 59 69 12 34 00 00 2f 11 10 00 20 92 00")
+    fields = {"resource": 0x1234, "number": 2, "update": 15, "length": 273, "count": 3, "type": 2, "protection": 1, "rows": 32, "reserved": 0}
+    head = r.header_of({**fields, "mark": r.MARK})
+    same(head.hex(" "), "49 59 69 12 34 00 00 2f 11 10 00 03 92 00")
+    read = r.read_fields(head + bytes(259))
+    same({k: read[k] for k in r.NINE}, fields)
+    refused(6, 0, r.read_fields, r.header_of({**fields, "mark": r.MARK, "number": 3}) + bytes(259))
+
+
+def test_tables():
+    coded = r.coded_file(bytes([10, 11, 12, 13, 14]), 2)
+    same((list(coded[:4]), list(coded[255:259])), ([10, 12, 14, 0], [11, 13, 0, 0]))
+    for length, m in ((1, 1), (239, 1), (240, 1), (1000, 3), (2000, 4)):
+        file = some(length)
+        coded = r.coded_file(file, m)
+        same(len(coded), 255 * m * -(-length // (239 * m)))
+        for i in range(length):
+            t, c, row = i // (239 * m), i // m % 239, i % m
+            assert coded[(t * m + row) * 255 + c] == file[i]
+
+
+def count_sent(length, m, size):
+    return r.fields_of(r.Packer(bytes(length)).packet(settings(1, 1, 0, 1, m, size), 0, 4095))["count"]
+
+
+def test_counts():
+    same([count_sent(7648, 32, 255), count_sent(7649, 32, 255), count_sent(7648, 32, 3825)], [32, 64, 3])
+
+
+def test_packets_joined():
+    """Packets carry the coded file in order, each but the last full, under a CRC of their own."""
+    for s in (settings(7, 1, 0, 0, 0, 100), settings(7, 1, 0, 0, 9, 4077), settings(7, 2, 1, 1, 3, 510), r.house(7, 1, 2)):
+        file = some(5000)
+        packer = r.Packer(file)
+        first = r.read_fields(packer.packet(s, 0, 4095))
+        packets = [packer.packet(s, n, 4095) for n in range(first["count"])]
+        same(b"".join(p[14:-4] for p in packets), r.coded_file(file, s["rows"]) if s["protection"] else file)
+        same({len(p) for p in packets[:-1]} <= {18 + s["size"]}, True)
+        same([r.read_fields(p)["number"] for p in packets], list(range(first["count"])))
+        same(all(crc_by_mirror(p[:-4]) == int.from_bytes(p[-4:], "big") for p in packets), True)
+        same(first["rows"], s["rows"] if s["protection"] else 0)
+        refused(6, 0, packer.packet, s, first["count"], 4095)
+        refused(26, 0, packer.packet, s, 0, len(packets[0]) - 1)
+
+
+# ---- the record
+
+
+def test_places():
+    """Section 8: a store of 100 bytes."""
+    held, store = bytearray(128), bytearray(b"\xee" * 100)
+    record = r.Receiver(held, store)
+    for resource in (1, 2):
+        record.open(settings(resource, 1, 0, 0, 5, 8), 5)
+    same([r.place_of(held[i : i + 16])["start"] for i in (0, 16)], [0, 50])
+    same(r.place_of(held[:16])["rows"], 0)
+    same(store, (b"\0\0" + b"\xee" * 8) * 10)
+    before = bytes(held)
+    refused(20, 0, record.open, settings(3, 1, 0, 0, 0, 8), 5)
+    same(held, before)
+    record.close(1)
+    record.open(settings(3, 1, 0, 0, 0, 8), 5)
+    same((r.place_of(held[:16])["resource"], r.place_of(held[:16])["start"]), (3, 0))
+
+
+def test_unused_places():
+    """What an unused place holds is not judged and stays; opening writes all of it, closing makes it zero."""
+    held = bytearray(b"\0\0" + b"\xff" * 14) * 8
+    record = r.Receiver(held, bytearray(100))
+    refused(10, 0, record.status, 0)
+    refused(10, 0, record.close, 0)
+    record.open(settings(3, 2, 1, 0, 0, 8), 1)
+    same(held[:16].hex(), "0300020101000000000008000000" + "0000")
+    same(held[16:], bytearray(b"\0\0" + b"\xff" * 14) * 7)
+    record.close(3)
+    same(held, bytes(16) + bytes(b"\0\0" + b"\xff" * 14) * 7)
+
+
+def test_usable_store():
+    """Only the first 16,777,216 bytes."""
+    held, store = bytearray(128), bytearray(r.LIMIT + 100)
+    record = r.Receiver(held, store)
+    record.open(settings(1, 1, 0, 0, 0, 14), 1048575)
+    record.open(settings(2, 1, 0, 0, 0, 14), 1)
+    refused(20, 0, record.open, settings(3, 1, 0, 0, 0, 1), 1)
+    held[16 * 1 + 12] += 1
+    refused(9, 0, record.status, 2)
+
+
+def send(s, file, spoil):
+    """Packed, each packet spoilt and offered twice in any order, handed out."""
+    packer, held, store = r.Packer(file), bytearray(128), bytearray(200_000)
+    record = r.Receiver(held, store)
+    count = r.read_fields(packer.packet(s, 0, 4095))["count"]
+    record.open(s, count)
+    order = list(range(count))
+    RANDOM.shuffle(order)
+    for k, n in enumerate(order):
+        same(record.status(s["resource"]), (k, min(order[k:])))
+        packet = spoil(packer.packet(s, n, 4095))
+        same([record.offer(packet), record.offer(packet)], ["Stored", "Repeat"])
+    same(record.status(s["resource"]), (count, None))
+    same(record.hand_out(s["resource"], len(file), len(file)), file)
+    refused(26, 0, record.hand_out, s["resource"], len(file), len(file) - 1)
+
+
+def test_files():
+    for length, m, size in ((1, 1, 255), (239, 1, 255), (240, 1, 510), (2000, 4, 765), (3000, 255, 3825), (7648, 32, 255)):
+        send(settings(9, 1, 1, 1, m, size), some(length), lambda p: bytes(cases.damaged(p, RANDOM.randrange(6), RANDOM.randrange(1000))))
+    for length, size in ((1, 1), (100, 1), (100, 7), (4077, 4077), (10_000, 4077)):
+        send(settings(9, 2, 1, 0, 0, size), some(length), lambda p: p)
+
+
+# ---- the language of cases
+
+# every refusal in turn, what is expected written by hand
+EVERY = """
+# fields: 1 to 8, and 26 for too little room
+out 170 4095
+bytes 49 59 69
+read 9
+case short refused 1
+file 1 20
+settings 5 1 3 0 0 8
+pack 0
+case packed accepted 26
+take 26
+read 9
+case fields-taken accepted
+case fields bytes 0 00 00 00 05 00 00 00 00 00 00 00 03 00 00 00 1a 00 00 00 03 00 00 00 01 00 00 00 00 00 00 00 00 00 00 00 00
+read 8
+case room refused 26
+put 0 48
+read 9
+case mark refused 2
+put 0 49
+cut 25
+read 9
+case length refused 3
+grow 26
+put 12 c0
+read 9
+case type-3 refused 4
+put 12 60
+read 9
+case protection-2 refused 5
+put 12 50 00
+read 9
+case protection-without-rows refused 5
+put 12 40 00
+put 7 33
+read 9
+case number-3-of-3 refused 6
+put 7 23
+read 9
+case number-2-of-3 accepted
+put 12 50 10
+read 9
+case rows refused 7
+put 12 40
+put 3 00 00
+read 9
+case resource-0 refused 8
+# the record: 9 to 21
+held 127
+store 0 400
+status 5
+case held-127 refused 9
+held 128
+status 5
+case unknown refused 10
+open 3
+case opened accepted
+settings 5 1 4 0 0 8
+pack 0
+take 26
+offer
+case other-update refused 11
+file 1 30
+settings 5 1 3 0 0 10
+pack 0
+take 28
+offer
+case wide refused 12
+settings 6 1 3 1 1 510
+file 1 300
+open 1
+case opened-with-protection refused 20
+store 0 600
+open 1
+case opened-with-rows accepted
+pack 0
+case packed-with-rows accepted 528
+take 528
+flip 269 1
+flip 271 1
+flip 273 1
+flip 275 1
+flip 277 1
+flip 279 1
+flip 281 1
+flip 283 1
+flip 285 1
+offer
+case second-row-spoilt refused 13 1
+flip 285 1
+flip 527 1
+offer
+case crc-altered refused 14
+flip 527 1
+offer
+case repaired-and-stored accepted
+offer
+case repeated accepted 1
+poke 0 09 00
+status 5
+case slot-too-long refused 15
+poke 0 00 00
+settings 5 1 3 0 0 8
+file 1 20
+pack 0
+take 26
+offer
+case stored accepted
+file 2 20
+pack 0
+take 26
+offer
+case conflict refused 16
+settings 0 1 3 0 0 8
+open 1
+case no-resource refused 17
+settings 5 1 3 0 0 8
+open 1
+case held-already refused 18
+settings 7 1 0 0 0 1
+open 1
+settings 8 1 0 0 0 1
+open 1
+settings 9 1 0 0 0 1
+open 1
+settings 10 1 0 0 0 1
+open 1
+settings 11 1 0 0 0 1
+open 1
+settings 12 1 0 0 0 1
+open 1
+case eighth accepted
+settings 13 1 0 0 0 1
+open 1
+case ninth refused 19
+close 12
+case closed accepted
+open 1000
+case no-room refused 20
+out 170 20
+hand 5 20
+case slot-1-empty refused 21 1
+status 5
+case one-filled accepted 33554433
+# handing out: 22 to 24
+store 0 300
+held 128
+place 0 9 1 1 1 1 2 255 0
+poke 0 ff 00
+hand 9 10
+case one-row-of-two refused 22
+place 0 9 1 1 1 1 1 255 0
+hand 9 240
+case two-tables refused 23
+poke 3 01
+hand 9 1
+case padding refused 24
+hand 9 21
+case output-before-nothing refused 26
+hand 9 2
+case two-bytes accepted
+case two-bytes-out bytes 0 00 01 aa aa
+# packing: 17, 23, 25, 6, 26
+settings 5 1 3 0 0 1
+file 1 1048576
+pack 0
+case too-many refused 25
+file-put 1048570 09
+file 1 7
+pack 7
+case behind-the-last refused 6
+pack 6
+case last accepted 19
+file 1 0
+pack 0
+case nothing-to-pack refused 23
+"""
+
+
+def test_every_refusal():
+    lines = EVERY.split("\n")
+    out = cases.checked(lines)
+    same([line for line in out[:-1] if line.endswith(" wrong")], [])
+    same({n for n in range(1, 27) if any(f" got refused {n} " in line for line in out)}, set(range(1, 27)))
+    same(cases.computed(lines), out)
+    spoilt = [line.replace("refused", "accepted") for line in lines]
+    same(cases.computed(spoilt), out)
+    same(cases.answered(spoilt), lines)
+    same(cases.checked(spoilt)[-1] != out[-1], True)
+
+
+def at_hand(name, *lines):
+    run = cases.Run()
+    for line in lines:
+        run.do(line)
+    return bytes(getattr(run, name))
+
+
+def test_commands():
+    same(list(at_hand("bytes", "random 1 3")), [(1015568748 >> 24), (1586005467 >> 24), (2165703038 >> 24)])
+    same(at_hand("bytes", "bytes 01 02 03", "put 2 09 09", "flip 0 255", "flip 3 1"), b"\xfe\2\x09")
+    same(at_hand("bytes", "fill 7 3", "cut 2", "cut 5", "grow 4", "grow 1"), b"\7\7\0\0")
+    same(at_hand("bytes", "out 5 3", "bytes 01", "append 2", "append 9"), b"\1\5\5\5\5\5")
+    same(at_hand("bytes", "out 5 3", "take 9"), b"\5\5\5")
+    same(at_hand("bytes", "bytes ff 00 00 00 00", "seal"), b"\xff\0\0\0\xff")
+    same(at_hand("bytes", "bytes ff 00 00", "seal"), b"\xff\0\0")
+    same([len(at_hand(name, line)) for name, line in (("bytes", "fill 1 9999"), ("out", "out 1 999999"), ("store", "store 1 999999"), ("held", "held 257"))],
+         [8192, 131072, 262144, 256])
+    same(len(at_hand("bytes", "out 1 8000", "take 8000", "append 8000")), 8192)
+    same(at_hand("file", "file 1 3", "file-put 2 aa bb")[2:], b"\xaa")
+    same(at_hand("store", "store 1 3", "poke 1 02 03 04", "poke 9 01"), b"\1\2\3")
+    same(at_hand("held", "held 20", "place 1 258 1 2 3 1 5 255 9"), bytes(16) + b"\2\1\1\2")
+    same(at_hand("out", "held 128", "place 0 65541 257 2 3 1 5 255 9", "show-held 0 16").hex(), "05000102030000000105ff0009000000")
+    same(at_hand("out", "store 3 5", "show-store 3 9"), b"\3\3")
+    same(at_hand("out", "out 3 2", "nonsense 5", "file_put 1 00"), b"\3\3")
+
+
+def test_damage():
+    row = bytes(14 + 2 * 255 + 4)
+    same([i - 14 for i, b in enumerate(cases.damaged(row, 1, 5)) if b], [*range(8), *range(255, 263)])
+    same([i - 14 for i, b in enumerate(cases.damaged(row, 2, 5)) if b][:8], list(range(247, 255)))
+    same([i - 14 for i, b in enumerate(cases.damaged(row, 3, 5)) if b][:8], list(range(239, 255, 2)))
+    same(sum(1 for b in cases.damaged(row, 4, 5)[:269] if b) in range(1, 9), True)
+    same([bytes(cases.damaged(row, f, 5)) for f in (0, 5)] + [bytes(cases.damaged(row[:272], 1, 5))], [row, row, row[:272]])
+
+
+def test_send():
+    start = ["file 3 2000", "held 128", "store 0 20000", "settings 9 1 1 1 4 255", "open 12"]
+    for line, answer in (("send 12 1 12 4 1 5", "accepted 12"), ("send 12 5 7 3 0 5", "accepted 7"), ("send 12 1 30 0 0 5", "accepted 12"),
+                         ("send 0 1 30 0 0 5", "accepted"), ("send 13 1 13 0 0 5", "refused 6"), ("send 13 1 12 2 1 4294967295", "accepted 12")):
+        run = cases.Run()
+        for each in start + [line]:
+            run.do(each)
+        same(run.answer.text(), answer)
+
+
+# ---- random files, and comparing
+
+
+def test_random_files():
+    lines = random_cases.written(3, 2000)
+    same([n for n in range(1, 27) if not any(f" refused {n} " in line + " " for line in lines)], [])
+    lines = random_cases.written(4, 200)
+    same(random_cases.written(4, 200), lines)
+    same(cases.checked(lines)[-1].endswith(" cases, 0 wrong"), True)
+    same(cases.checked(lines), cases.computed(lines))
+
+
+def compare(stdin, stdout, listed):
+    """The exit status and what was said."""
+    with tempfile.TemporaryDirectory() as folder:
+        folder = pathlib.Path(folder)
+        (folder / "stdin").write_bytes(stdin)
+        (folder / "stdout").write_bytes(stdout)
+        (folder / "CASES.md").write_bytes(listed)
+        done = subprocess.run([sys.executable, HERE / "compare", folder, folder / "CASES.md"], capture_output=True, text=True)
+        return done.returncode, done.stdout
+
+
+def changed(data, at):
+    return data[:at] + bytes([data[at] ^ 1]) + data[at + 1 :]
+
+
+def test_compare():
+    stdin = EVERY.encode()
+    stdout = "".join(line + "\n" for line in cases.computed(EVERY.split("\n"))).encode()
+    names = [line.split()[1] for line in EVERY.split("\n") if line.startswith("case ")]
+    listed = " ".join(f"`{n}`" for n in names).encode()
+    same(compare(stdin, stdout, listed), (0, f"ok, {len(names)} cases\n"))
+    for at in RANDOM.sample(range(len(stdout)), 6) + [0, len(stdout) - 1]:
+        same(compare(stdin, changed(stdout, at), listed)[0], 1)
+    for part in (b"case packed accepted 26", b"poke 0 ff", b"refused 9", b"case ninth", b"fields bytes 0 00"):
+        at = stdin.index(part) + len(part) - 1
+        same(compare(changed(stdin, at), stdout, listed)[0], 1)
+    code, said = compare(stdin, stdout.replace(b"refused 24", b"refused 22"), listed)
+    same((code, said.startswith("padding differs\n")), (1, True))
+    same(compare(stdin, stdout[: stdout.rindex(b"case")], listed)[0], 1)
+    same(compare(stdin, stdout + b"\n", listed)[0], 1)
+    same(compare(stdin, stdout[:-1], listed)[0], 1)
+    same(compare(stdin, stdout, listed.replace(b"`padding`", b"`padded`"))[0], 1)
+    twice = stdin.replace(b"case unknown", b"case held-127")
+    same(compare(twice, stdout.replace(b"case unknown", b"case held-127"), listed)[0], 1)
+    less = b"# unknown: left out"
+    same(compare(stdin.replace(b"case unknown refused 10", less), b"", listed)[0], 1)
+
+
+def test_compare_the_cases():
+    """The same with the files of the repository, where they are there."""
+    folder = HERE.parent / "crates/cases"
+    if not (folder / "stdout").exists():
+        print("crates/cases has no stdout yet: not looked at")
+        return
+    stdin, stdout = (folder / "stdin").read_bytes(), (folder / "stdout").read_bytes()
+    listed = (HERE.parent / "docs/CASES.md").read_bytes()
+    same(compare(stdin, stdout, listed)[0], 0)
+    same(compare(stdin, changed(stdout, RANDOM.randrange(len(stdout))), listed)[0], 1)
+    expectation = stdin.rindex(b"\ncase ")
+    same(compare(changed(stdin, stdin.index(b"\n", expectation + 1) - 1), stdout, listed)[0], 1)
+
+
+for name, test in list(globals().items()):
+    if name.startswith("test_"):
+        test()
+print(f"{CHECKS} checks passed")
