@@ -83,9 +83,9 @@ class Writer:
 
     def broken(self, s):
         """The same with one setting out of its range or at its edge."""
-        name = self.pick(*FIELDS)
         wrong = {"resource": [0], "type": [0, 3, 4, 255], "update": [16, 255], "protection": [2, 3, 255], "rows": [0, 255],
                  "size": [0, 1, 254, 256, 3825, 3826, 4077, 4078, 4080, 65535]}
+        name = self.pick(*wrong)
         return {**s, name: self.pick(*wrong[name])}
 
     # ---- lines that several steps share
@@ -114,6 +114,17 @@ class Writer:
     def header_fields(self, s):
         return {"resource": s["resource"], "number": self.below(count_of(s)), "update": s["update"], "count": count_of(s), "type": s["type"],
                 "protection": s["protection"], "rows": s["rows"]}
+
+    def edged(self, fields, length, times):
+        """So many fields at the edge of their range, or beyond it."""
+        edges = {"resource": [0, 0, 65535], "type": [0, 0, 3, 3], "protection": [0, 1, 2, 3], "rows": [0, 1, 255], "count": [0, 1, 1048575],
+                 "number": [0, 1, 1048574, 1048575], "reserved": [0, 15], "length": [0, length + 1, length - 1], "mark": [0, MARK ^ 1]}
+        for _ in range(times):
+            name = self.pick(*edges)
+            fields[name] = self.pick(*edges[name])
+        if fields["type"] == 0 and self.often(0.7):
+            fields["count"] = 0
+        return fields
 
     def payload_length(self, s):
         """Mostly such as may stand in a packet of this sender."""
@@ -163,14 +174,11 @@ class Writer:
         s = self.any_sender()
         s = self.pick(s, s, s, s, s, {**s, "seed": s["seed"] + 1}, {**s, "update": (s["update"] + 1) % 16}, {**s, "type": 3 - s["type"]})
         self.say_packet(s, self.below(count_of(s)))
-        self.pick(self.spoil_nothing, self.spoil_nothing, self.spoil_nothing, self.spoil_rows, self.spoil_rows, self.spoil_row, self.spoil_bits,
-                  self.spoil_header, self.spoil_length)()
+        for _ in range(self.pick(0, 0, 0, 1, 1, 1, 2)):
+            self.pick(self.spoil_rows, self.spoil_rows, self.spoil_row, self.spoil_bits, self.spoil_header, self.spoil_header, self.spoil_length)()
         self.call("offer")
         if self.often(0.2):
             self.call("offer")
-
-    def spoil_nothing(self):
-        pass
 
     def spoil_rows(self):
         self.say(f"damage {self.pick(0, 1, 2, 3, 4, 4, 5)} {self.below(1 << 32)}")
@@ -200,7 +208,7 @@ class Writer:
         s = self.any_sender()
         length = self.payload_length(s)
         self.say(self.pick(f"fill 0 {18 + length}", f"random {self.below(1000)} {18 + length}"))
-        self.say_header(**self.header_fields(s))
+        self.say_header(**self.edged(self.header_fields(s), 18 + length, self.pick(0, 0, 0, 0, 1, 2)))
         self.say("seal")
         self.call("offer")
 
@@ -325,14 +333,7 @@ class Writer:
         s = self.sender()
         length = 18 + self.payload_length(s)
         self.say(f"random {self.below(1000)} {length}")
-        fields = self.header_fields(s)
-        if self.often(0.8):
-            name, edges = self.pick(("resource", [0, 0, 65535]), ("type", [0, 0, 3, 3]), ("protection", [0, 1, 2, 3]), ("rows", [0, 1, 255]), ("count", [0, 1, 1048575]),
-                                    ("number", [0, 1, 1048574, 1048575]), ("reserved", [0, 15]), ("length", [0, length + 1, length - 1]), ("mark", [0, MARK ^ 1]))
-            fields[name] = self.pick(*edges)
-        if fields["type"] == 0 and self.often(0.7):
-            fields["count"] = 0
-        self.say_header(**fields)
+        self.say_header(**self.edged(self.header_fields(s), length, self.pick(0, 1, 1, 1, 1, 2, 3)))
         self.say(f"out {self.below(256)} {self.pick(0, 35, 36, 36, 40)}")
         self.call(f"read {self.pick(9, 9, 9, 10, 8, 0)}")
         self.some_bytes_of_out()
