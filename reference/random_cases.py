@@ -123,12 +123,12 @@ class Writer:
             name = self.pick(*edges)
             fields[name] = self.pick(*edges[name])
         if fields["type"] == 0 and self.often(0.7):
-            fields["count"] = 0
+            fields["count"], fields["number"] = 0, self.pick(0, 1048574, 1048575)
         return fields
 
     def payload_length(self, s):
         """Mostly such as may stand in a packet of this sender."""
-        if self.often(0.15):
+        if self.often(0.2):
             return self.pick(0, 1, 2, 254, 256, 4077, 4078)
         return 255 * self.pick(1, 1, 2, 3, 15) if s["protection"] else self.pick(1, s["size"], min(s["size"] + 1, 4077))
 
@@ -283,9 +283,9 @@ class Writer:
         i = self.below(8)
         before = place_of(self.run.held[16 * i : 16 * i + 16].ljust(16, b"\0"))
         edges = [0, 1, 2, 3, 15, 16, 253, 254, 255, 256, 510, 3825, 4077, 4080, 65535, 1048575, 1048576, 16777216, 4294967295]
-        altered = {**before, self.pick(*before): self.pick(*edges)}
-        if self.often(0.3):
-            altered = place_of(bytes(self.below(256) for _ in range(16))) if self.often(0.5) else place_of(self.run.held[:16].ljust(16, b"\0"))
+        near, name = self.pick("start", "count", "slot"), self.pick(*before)
+        altered = self.pick({**before, name: self.pick(*edges)}, {**before, near: max(before[near] + self.pick(-1, 1), 0)},
+                            place_of(bytes(self.below(256) for _ in range(16))), place_of(self.run.held[:16].ljust(16, b"\0")))
         self.say_place(i, altered)
         for _ in range(self.pick(1, 2)):
             self.any_call()
@@ -323,17 +323,17 @@ class Writer:
 
     def step_pack_many(self):
         """More packets than a count can say, or just as many."""
-        self.say(f"file {self.below(100)} {self.pick(1048575, 1048576, 1048577)}")
+        self.say(f"file {self.below(2)} {self.pick(1048575, 1048576, 1048577)}")
         self.say("settings 5 1 3 0 0 1")
         self.say("out 0 19")
-        self.call(f"pack {self.pick(0, 1048574, 1048575)}")
+        self.call(f"pack {self.pick(0, 1048574, 1048575, 1048577)}")
         self.say("file 0 0")
 
     def step_read(self):
         s = self.sender()
         length = 18 + self.payload_length(s)
         self.say(f"random {self.below(1000)} {length}")
-        self.say_header(**self.edged(self.header_fields(s), length, self.pick(0, 1, 1, 1, 1, 2, 3)))
+        self.say_header(**self.edged(self.header_fields(s), length, self.pick(0, 1, 1, 1, 2, 3, 5)))
         self.say(f"out {self.below(256)} {self.pick(0, 35, 36, 36, 40)}")
         self.call(f"read {self.pick(9, 9, 9, 10, 8, 0)}")
         self.some_bytes_of_out()
@@ -372,7 +372,7 @@ class Writer:
     # ---- all together
 
     WEIGHTS = {"fresh": 3, "open": 16, "close": 3, "offer": 26, "offer_made": 7, "offer_noise": 3, "status": 5, "hand": 7, "complete": 6, "poke": 5,
-               "fill_slots": 3, "place": 6, "pack": 8, "pack_many": 0.5, "read": 9, "encode": 2, "repair": 4, "crc": 2}
+               "fill_slots": 3, "place": 6, "pack": 8, "pack_many": 1, "read": 9, "encode": 2, "repair": 4, "crc": 2}
 
     def look(self):
         """Now and then all that is at hand, or a part of it."""
