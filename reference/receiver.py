@@ -47,17 +47,20 @@ def powers_of_alpha():
 ALPHA = powers_of_alpha()
 
 
-# ---- the CRC, 000 Annex C: a shift register, bit by bit
+# ---- the CRC, 000 Annex C: a shift register, bit by bit. The polynomial's own top bit takes away the bit that leaves
 
 
 def crc32(data):
+    return crc_of(bytes(data))
+
+
+@functools.lru_cache(maxsize=64)
+def crc_of(data):
     register = 0xFFFFFFFF
     for byte in data:
-        for k in (7, 6, 5, 4, 3, 2, 1, 0):
-            leaves = register >> 31
-            register = register << 1 & 0xFFFFFFFF
-            if leaves != byte >> k & 1:
-                register ^= 0x04C11DB7
+        register ^= byte << 24
+        for _ in (7, 6, 5, 4, 3, 2, 1, 0):
+            register = register << 1 ^ 0x104C11DB7 if register >> 31 else register << 1
     return register ^ 0xFFFFFFFF
 
 
