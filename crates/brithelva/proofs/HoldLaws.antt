@@ -14,7 +14,7 @@ use Rattle.refusals.specs.declared.Verdict.{Verdict}
 use Rattle.record.specs.declared.Offered.{Offered}
 use Rattle.record.specs.Open.{openOf, Opens, closeOf}
 use Rattle.record.specs.Offer.{offerOf}
-use Rattle.record.specs.Hand.{handOutOf}
+use Rattle.readout.specs.Hand.{handOutOf}
 use Rattle.brithelva.specs.Layout.{recordIn, recordBytes}
 use Rattle.brithelva.specs.Face.{Keeps, verdictOf, badRecord, openSays, closeSays, Says, offeredAs, offerSays, handSays}
 

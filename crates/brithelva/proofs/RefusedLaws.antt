@@ -29,10 +29,10 @@ use Rattle.record.specs.declared.Offered.{Offered}
 use Rattle.record.specs.declared.Offered.the-variants.{Stored, Repeat}
 use Rattle.record.specs.Open.{openOf, closedAt, closeOf}
 use Rattle.record.specs.Offer.{offerOf}
-use Rattle.record.specs.Hand.{handOutOf}
+use Rattle.readout.specs.Hand.{handOutOf}
 use Rattle.record.proofs.OpenLaws.{refused-record, refused-store, refused-plan}
 use Rattle.record.proofs.OfferLaws.{offer-refused}
-use Rattle.record.proofs.HandLaws.{hand-refused}
+use Rattle.readout.proofs.HandLaws.{hand-refused}
 use Rattle.code.specs.Code.{Bytes}
 use Rattle.brithelva.specs.Layout.{recordIn, recordBytes}
 use Rattle.brithelva.specs.Face.{Said, Kept, refused, verdictOf, badRecord, puts, putsIf, encodeSays, repairSays, fieldList, readingSays, readSays, packedAs, packSays, openSays, closeSays, offeredAs, offerSays, handSays}

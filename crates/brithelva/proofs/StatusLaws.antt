@@ -18,9 +18,9 @@ use Rattle.places.proofs.Facts.{named-facts}
 use Rattle.contents.specs.Contents.{Slot as Content, contents, anyWrong, filled, lowestEmpty}
 use Rattle.contents.proofs.Places.{length-contents}
 use Rattle.contents.proofs.Filled.{filled-most, lowest-found}
-use Rattle.record.specs.declared.Standing.{Standing}
-use Rattle.record.specs.declared.Standing.the-variants.{Filled}
-use Rattle.record.specs.Hand.{standingIn, statusFound, statusOf}
+use Rattle.readout.specs.declared.Standing.{Standing}
+use Rattle.readout.specs.declared.Standing.the-variants.{Filled}
+use Rattle.readout.specs.Hand.{standingIn, statusFound, statusOf}
 use Rattle.brithelva.specs.Layout.{recordIn}
 use Rattle.brithelva.specs.Face.{badRecord, lowestAs, standingAs, statusSays}
 

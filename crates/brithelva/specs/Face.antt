@@ -24,11 +24,11 @@ use Rattle.places.specs.declared.Found.{Found}
 use Rattle.places.specs.declared.Found.the-variants.{At, Nothing}
 use Rattle.record.specs.declared.Offered.{Offered}
 use Rattle.record.specs.declared.Offered.the-variants.{Stored, Repeat}
-use Rattle.record.specs.declared.Standing.{Standing}
-use Rattle.record.specs.declared.Standing.the-variants.{Filled}
+use Rattle.readout.specs.declared.Standing.{Standing}
+use Rattle.readout.specs.declared.Standing.the-variants.{Filled}
 use Rattle.record.specs.Open.{openOf, closeOf}
 use Rattle.record.specs.Offer.{offerOf}
-use Rattle.record.specs.Hand.{statusOf, handOutOf}
+use Rattle.readout.specs.Hand.{statusOf, handOutOf}
 use Rattle.brithelva.specs.Layout.{recordIn, recordBytes}
 
 abbrev pub accepted : ℕ → ℕ

@@ -6,8 +6,8 @@ ghost use lib.Seq.{sets};
 ghost use Rattle.brithelva.specs.Face.{Says, refused, verdictOf, puts, putsIf, packedAs, offeredAs, lowestAs, standingAs};
 use pack::Packed;
 use places::Found;
+use readout::Standing;
 use record::Offered;
-use record::Standing;
 use refusals::Refusal;
 use refusals::Verdict;
 

@@ -191,7 +191,7 @@ pub extern "C" fn bh_status(held: &[u8], store: &[u8], resource: u16) -> u64
     if held.len() != 128 {
         return answers::refused(Refusal::Record);
     }
-    let standing = record::status(memory::record_in(held), store, resource);
+    let standing = readout::status(memory::record_in(held), store, resource);
     answers::standing_as(standing)
 }
 
@@ -210,7 +210,7 @@ pub extern "C" fn bh_hand_out(
         return answers::refused(Refusal::Record);
     }
     let before = memory::record_in(held);
-    let verdict = record::hand_out(before, store, resource, length as usize, out);
+    let verdict = readout::hand_out(before, store, resource, length as usize, out);
     answers::verdict_of(verdict)
 }
 

@@ -37,7 +37,7 @@ use Rattle.contents.proofs.Filled.{holding-all, holding-right, holding-lowest, 
 use Rattle.record.specs.declared.Offered.the-variants.{Stored, Repeat}
 use Rattle.record.specs.Open.{Plan, refuse, take as taken, planOf, carriedOut, Opening, openOf, closeOf}
 use Rattle.record.specs.Offer.{Offering, put, judge, differs, same, putInto, storing, offerJudged, offerOf}
-use Rattle.record.specs.Hand.{Handing, handed, allZero, handRows, handJoined, handFilled, handContents, handFound, handOutOf}
+use Rattle.readout.specs.Hand.{Handing, handed, allZero, handRows, handJoined, handFilled, handContents, handFound, handOutOf}
 use Rattle.record.proofs.SlotLaws.{same-self}
 use Rattle.record.proofs.PlanLaws.{Taking, taking, open-by}
 use Rattle.record.proofs.OpenLaws.{open-good, open-named, open-own, open-empty, open-length, refused-record, refused-store}

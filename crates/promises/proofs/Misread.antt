@@ -23,7 +23,7 @@ use Rattle.record.specs.declared.Offered.{Offered}
 use Rattle.record.specs.declared.Offered.the-variants.{Stored}
 use Rattle.record.specs.Mend.{whole, behind, mendRows, payloadIn, mendedIn, agrees}
 use Rattle.record.specs.Offer.{putInto}
-use Rattle.record.specs.Hand.{handJoined}
+use Rattle.readout.specs.Hand.{handJoined}
 use Rattle.promises.proofs.Turned.{zero-row, wrong-row, wrong-near, wrong-bytes}
 use Rattle.promises.specs.Misreadings.{infoByRows, informationFirst, agreesBefore, keptIfFits, replacing, cutZeros}
 

@@ -32,7 +32,7 @@ use Rattle.record.specs.declared.Offered.{Offered}
 use Rattle.record.specs.declared.Offered.the-variants.{Stored, Repeat}
 use Rattle.record.specs.Open.{Plan, refuse, take, planOf, carriedOut, Opening, openOf, closedAt, closeOf}
 use Rattle.record.specs.Offer.{Offering, Judged, refuse as refuse-packet, put, judge, putInto, storing, offerJudged, offerFound, offerRead, offerOf}
-use Rattle.record.specs.Hand.{Handing, refusing as refuse-hand, allZero, handed, handRows, handJoined, handFilled, handContents, handFound, handOutOf}
+use Rattle.readout.specs.Hand.{Handing, refusing as refuse-hand, allZero, handed, handRows, handJoined, handFilled, handContents, handFound, handOutOf}
 use Rattle.promises.specs.Calls.{Call, Answer, State, step}
 use Rattle.promises.specs.Calls.Call.{packing, opening, offering, asking, handing, closing}
 use Rattle.promises.specs.Statements.{refusedVerdict, refusal, Unchanged, RefusalsChangeNothing}

@@ -31,10 +31,10 @@ use Rattle.contents.proofs.Places.{reading-slots, storing-sets}
 use Rattle.record.specs.declared.Kept.{Kept as Record-kept}
 use Rattle.record.specs.declared.Offered.{Offered}
 use Rattle.record.specs.declared.Offered.the-variants.{Stored, Repeat}
-use Rattle.record.specs.declared.Standing.{Standing}
+use Rattle.readout.specs.declared.Standing.{Standing}
 use Rattle.record.specs.Open.{Plan, refuse, take, planOf, carriedOut, Opening, openOf, closedAt, closeOf}
 use Rattle.record.specs.Offer.{Offering, Judged, refuse as refuse-packet, put, judge, putInto, storing, offerJudged, offerFound, offerRead, offerOf}
-use Rattle.record.specs.Hand.{refusing as refuse-hand, statusFound, statusOf, standingIn, Handing, handFound, handContents, handOutOf}
+use Rattle.readout.specs.Hand.{refusing as refuse-hand, statusFound, statusOf, standingIn, Handing, handFound, handContents, handOutOf}
 use Rattle.record.proofs.PlanLaws.{taking, open-by}
 use Rattle.record.proofs.OpenLaws.{open-named, open-own, open-empty, refused-record, refused-store}
 use Rattle.record.proofs.CloseLaws.{close-record, close-unknown, close-found, close-named}

@@ -29,12 +29,12 @@ use Rattle.places.specs.Places.{good, firstFrom, freshRecord, placeOf}
 use Rattle.places.proofs.Keeping.{fresh-good}
 use Rattle.record.specs.declared.Offered.{Offered}
 use Rattle.record.specs.declared.Offered.the-variants.{Stored}
-use Rattle.record.specs.declared.Standing.{Standing}
-use Rattle.record.specs.declared.Standing.the-variants.{Filled}
+use Rattle.readout.specs.declared.Standing.{Standing}
+use Rattle.readout.specs.declared.Standing.the-variants.{Filled}
 use Rattle.record.specs.Mend.{whole, behind, mendRows, mendedIn}
 use Rattle.record.specs.Offer.{offerOf}
 use Rattle.record.specs.Open.{take as take-plan, carriedOut, openOf}
-use Rattle.record.specs.Hand.{Handing, statusOf, handContents, handOutOf}
+use Rattle.readout.specs.Hand.{Handing, statusOf, handContents, handOutOf}
 use Rattle.record.proofs.PlanLaws.{Taking, taking-plan, open-by}
 use Rattle.record.proofs.OpenLaws.{open-length, open-good, open-named, open-empty}
 use Rattle.promises.specs.Calls.{Call, Answer, State, Outcome, Program, step, run, fresh}

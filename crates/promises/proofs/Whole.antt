@@ -22,7 +22,7 @@ use Rattle.packet.proofs.Laws.{settings-facts}
 use Rattle.places.specs.Places.{placeOf}
 use Rattle.contents.specs.Contents.{Slot as Content, holding, anyWrong, lowestEmpty, joined}
 use Rattle.contents.proofs.Filled.{holding-right, holding-lowest, joined-whole}
-use Rattle.record.specs.Hand.{Handing, handed, allZero, handRows, handJoined, handFilled, handContents}
+use Rattle.readout.specs.Hand.{Handing, handed, allZero, handRows, handJoined, handFilled, handContents}
 use Rattle.promises.specs.Statements.{Protected}
 
 zeros-zero : (n : ℕ) → allZero (replicate n 0) ≡ true

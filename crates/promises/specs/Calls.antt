@@ -14,10 +14,10 @@ use Rattle.pack.specs.Pack.{packOf}
 use Rattle.places.specs.declared.Record.{Record}
 use Rattle.places.specs.Places.{freshRecord}
 use Rattle.record.specs.declared.Offered.{Offered}
-use Rattle.record.specs.declared.Standing.{Standing}
+use Rattle.readout.specs.declared.Standing.{Standing}
 use Rattle.record.specs.Open.{openOf, closeOf}
 use Rattle.record.specs.Offer.{offerOf}
-use Rattle.record.specs.Hand.{statusOf, handOutOf}
+use Rattle.readout.specs.Hand.{statusOf, handOutOf}
 
 pub data Call : Type 0 where
   -- file, settings, packet number, output

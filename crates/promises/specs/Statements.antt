@@ -19,8 +19,8 @@ use Rattle.pack.specs.Pack.{largestFile, countOf, payloadOf, packetOf}
 use Rattle.places.specs.Places.{placeOf, coverOf}
 use Rattle.record.specs.declared.Offered.{Offered}
 use Rattle.record.specs.declared.Offered.the-variants.{Stored, Repeat}
-use Rattle.record.specs.declared.Standing.{Standing}
-use Rattle.record.specs.declared.Standing.the-variants.{Filled}
+use Rattle.readout.specs.declared.Standing.{Standing}
+use Rattle.readout.specs.declared.Standing.the-variants.{Filled}
 use Rattle.record.specs.Mend.{payloadIn}
 use Rattle.record.specs.Offer.{judge, put}
 use Rattle.promises.specs.Calls.{Call, Answer, State, Program, run, fresh, names, about}

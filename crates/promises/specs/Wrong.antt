@@ -22,8 +22,8 @@ use Rattle.places.specs.declared.Found.the-variants.{At, Nothing}
 use Rattle.places.specs.Places.{unused, good, placeNamed}
 use Rattle.record.specs.declared.Offered.{Offered}
 use Rattle.record.specs.declared.Offered.the-variants.{Stored}
-use Rattle.record.specs.declared.Standing.{Standing}
-use Rattle.record.specs.declared.Standing.the-variants.{Filled}
+use Rattle.readout.specs.declared.Standing.{Standing}
+use Rattle.readout.specs.declared.Standing.the-variants.{Filled}
 use Rattle.record.specs.Mend.{Mended, whole, behind, payloadIn, mendedIn}
 use Rattle.record.specs.Offer.{Offering, Judged, refuse, differs, judgeMended, offerJudged}
 use Rattle.promises.specs.Calls.{Call, State, Outcome, Program, step}

@@ -3,14 +3,6 @@ pub mod PlanLaws
 pub mod OpenLaws
 pub mod CloseLaws
 pub mod OneResult
-pub mod WalkLaws
-pub mod SurveyLaws
-pub mod TableLaws
-pub mod RowLaws
-pub mod PassLaws
-pub mod PaddingLaws
-pub mod HandCases
-pub mod HandLaws
 pub mod MendSteps
 pub mod MendLaws
 pub mod OfferCases

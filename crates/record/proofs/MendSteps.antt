@@ -136,9 +136,6 @@ module _ (b l₀ l : List ℕ) (i : ℕ) (c : Repairing b l₀ l i) where
               ∙ turned (found (m .row)) (row-found row m em t);
         }
 
-  pub repairing-room : (n : ℕ) → n ≡ 255 → i < length b / 255 → length b ≤ length l₀ → i * 255 + n ≤ length l
-  repairing-room n e h room = let long : length l ≡ length l₀ = c .long in omega arith
-
 -- m bytes of b from at on, copied to all m bytes of a new list
 pub row-copied : (m : ℕ) (b : List ℕ) (at : ℕ) (row : List ℕ) → at + m ≤ length b → row ≡ sets (replicate m 0) 0 (take (at + m - at) (drop at b)) → row ≡ take m (drop at b)
 row-copied m b at row h e =

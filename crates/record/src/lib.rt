@@ -1,23 +1,18 @@
 // The collecting record over one lent store: document 01, section 5. The record is a struct by value, returned anew by open and close; offer only reads it.
-mod hand;
+// What is asked of it afterwards, status and hand out, stands in crate readout.
 mod mend;
 mod offering;
 mod opening;
 mod slots;
-mod survey;
-mod tables;
 
-pub use hand::hand_out;
 pub use offering::offer;
 pub use opening::close;
 pub use opening::open;
 pub use opening::open_house;
-use places::Found;
 use places::Record;
 pub use places::fresh;
 use refusals::Refusal;
 use refusals::Verdict;
-pub use survey::status;
 
 // The record after open or close, and what is answered. Beside a refusal the record is as it came.
 pub struct Kept {
@@ -29,11 +24,5 @@ pub struct Kept {
 pub enum Offered {
     Stored,
     Repeat,
-    Refused(Refusal),
-}
-
-// How a resource stands: the number of filled slots, and the lowest empty one.
-pub enum Standing {
-    Filled(u32, Found),
     Refused(Refusal),
 }

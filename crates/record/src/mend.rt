@@ -5,7 +5,6 @@ ghost use Prim.Native.Nat.{_+_, _/_, _%_, _≤_};
 ghost use lib.ListN.{length, take, drop};
 ghost use Rattle.record.specs.Mend.{mendRows, crcIn, agrees};
 ghost use Rattle.record.specs.InnerOffer.{mendedBy};
-use super::slots;
 use packet::Packet;
 use refusals::Verdict;
 
@@ -22,7 +21,7 @@ fn row_at(payload: &[u8], at: usize) -> [u8; 255]
 {
     let mut row = [0u8; 255];
     let end = at + 255;
-    slots::copy_in(&mut row, 0, &payload[at..end]);
+    contents::copy_in(&mut row, 0, &payload[at..end]);
     row
 }
 
@@ -41,7 +40,7 @@ pub(crate) fn mend_rows(payload: &[u8], mended: &mut [u8]) -> Mending
             return Mending::Broken(i as u32);
         };
         let row = repaired.row;
-        slots::copy_in(mended, at, &row);
+        contents::copy_in(mended, at, &row);
         i += 1;
     }
     Mending::Whole

@@ -57,8 +57,8 @@ fn put_in(p: Place, store: &mut [u8], number: u32, payload: &[u8]) -> Offered
     ensures { λ r. ⌜ Comes (offerJudged p (now (store .entry)) (put number (now (payload .entry)))) r (now (store .exit)) ⌝ }
 {
     let at = slots::slot_at(p, number);
-    let n = slots::slot_length(store, at);
-    if !slots::length_fits(p, n) {
+    let n = contents::slot_length(store, at);
+    if !contents::length_fits(p, n) {
         return Offered::Refused(Refusal::Slot);
     }
     if n == 0 {

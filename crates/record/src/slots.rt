@@ -1,10 +1,9 @@
 // The slots of a lent store: document 01, section 5. Private to the crate: who calls has judged the record, so that the bytes named here are in the store.
 ghost use mathlib.Core.Path.{_≡_};
-ghost use Prim.Native.Nat.{ℕ, _+_, _*_, _≤_, _<_};
+ghost use Prim.Native.Nat.{_+_, _*_, _≤_, _<_};
 ghost use lib.ListN.{length};
-ghost use lib.Seq.{sets};
-ghost use Rattle.contents.specs.Slots.{lengthAt, cleared, stored};
-ghost use Rattle.contents.specs.Contents.{bytesAt, slotAt, lengthFits};
+ghost use Rattle.contents.specs.Slots.{cleared, stored};
+ghost use Rattle.contents.specs.Contents.{bytesAt, slotAt};
 ghost use Rattle.record.specs.Offer.{same};
 use places::Place;
 
@@ -13,27 +12,6 @@ pub(crate) fn slot_at(p: Place, number: u32) -> usize
     ensures { λ r. ⌜ r ≡ slotAt p number ⌝ }
 {
     p.start as usize + number as usize * (p.slot as usize + 2)
-}
-
-// Whether a slot of a place may hold `n` bytes.
-pub(crate) fn length_fits(p: Place, n: usize) -> bool
-    ensures { λ r. ⌜ r ≡ lengthFits p n ⌝ }
-{
-    n <= p.slot as usize && (p.protection == 0 || n % 255 == 0)
-}
-
-// The length that stands in the slot at `at`.
-pub(crate) fn slot_length(store: &[u8], at: usize) -> usize
-    requires { ⌜ at + 2 ≤ length (now store) ⌝ }
-    ensures { λ r. ⌜ r ≡ lengthAt (now (store .entry)) at ⌝ }
-{
-    wide(store[at]) + wide(store[at + 1]) * 256
-}
-
-fn wide(byte: u8) -> usize
-    ensures { λ r. ⌜ (r ≡ byte) × (r < 256) ⌝ }
-{
-    byte as usize
 }
 
 // Sets the length of each of `count` slots, `width` bytes apart, to 0.
@@ -51,25 +29,13 @@ pub(crate) fn clear_slots(store: &mut [u8], start: usize, count: usize, width: u
     }
 }
 
-// Copies `payload` into `store` from `at` on.
-pub(crate) fn copy_in(store: &mut [u8], at: usize, payload: &[u8])
-    requires { ⌜ at + length (now payload) ≤ length (now store) ⌝ }
-    ensures { λ r. ⌜ now (store .exit) ≡ sets (now (store .entry)) at (now (payload .entry)) ⌝ }
-{
-    let mut i: usize = 0;
-    while i < payload.len() {
-        store[at + i] = payload[i];
-        i += 1;
-    }
-}
-
 // Puts a payload into the slot at `at`. Its length is written last: a process that is killed before leaves the slot empty.
 pub(crate) fn put_slot(store: &mut [u8], at: usize, payload: &[u8])
     requires { ⌜ (at + 2 + length (now payload) ≤ length (now store)) × (length (now payload) < 65536) ⌝ }
     ensures { λ r. ⌜ now (store .exit) ≡ stored (now (store .entry)) at (now (payload .entry)) ⌝ }
 {
     let n = payload.len();
-    copy_in(store, at + 2, payload);
+    contents::copy_in(store, at + 2, payload);
     store[at] = (n % 256) as u8;
     store[at + 1] = (n / 256) as u8;
 }

@@ -3,8 +3,8 @@ use mathlib.Core.Path.{_≡_, sym, ap, subst, _∙_}
 use Prim.Native.Nat.{ℕ, _<_, _+_, _*_}
 use native.Mathlib.Omega.{arith}
 use Rattle.places.specs.declared.Found.{Found}
-use Rattle.record.specs.declared.Standing.{Standing}
-use Rattle.record.specs.declared.Standing.the-variants.{Filled}
+use Rattle.readout.specs.declared.Standing.{Standing}
+use Rattle.readout.specs.declared.Standing.the-variants.{Filled}
 use Rattle.brithelva.specs.Face.{lowestAs, standingAs}
 use borrow.Author.Needs.{needs}
 use Rattle.brithelva.proofs.answers.standing_as.Statement.{statement}

@@ -7,25 +7,25 @@ use Rattle.record.proofs.mend.crc_agrees.Statement.{statement}
 use Rattle.record.proofs.mend.crc_agrees.Tie as tie
 
 table-requires : tie.Need-table-requires
-table-requires c κs = search needs
+table-requires c κs = tt
 
 start-requires : tie.Need-start-requires
-start-requires c κs = search needs
+start-requires c κs = tt
 
 slice-aggregate-feed-by : tie.Need-slice-aggregate-feed-by
 slice-aggregate-feed-by c = sym (length-take-le 14 (c .before .before .before .before .before .before .args .packet .now) (search needs))
 
 feed-by-requires : tie.Need-feed-by-requires
-feed-by-requires c κs = search needs
+feed-by-requires c κs = tt
 
 feed-by-requires-2 : tie.Need-feed-by-requires-2
-feed-by-requires-2 c κs = search needs
+feed-by-requires-2 c κs = tt
 
 crc-in-requires : tie.Need-crc-in-requires
 crc-in-requires c κs = search needs
 
 finish-requires : tie.Need-finish-requires
-finish-requires c κs = search needs
+finish-requires c κs = tt
 
 returns : tie.Need-returns
 returns c =

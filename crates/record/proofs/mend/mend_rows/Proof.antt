@@ -4,7 +4,7 @@ use mathlib.Core.Path.{_≡_}
 use Prim.Native.Nat.{_-_, _/_}
 use borrow.Author.Needs.{needs}
 use lib.ListN.{length}
-use Rattle.record.proofs.MendSteps.{Repairing, repairing-begin, repairing-more, repairing-none, repairing-end, repairing-room}
+use Rattle.record.proofs.MendSteps.{Repairing, repairing-begin, repairing-more, repairing-none, repairing-end}
 use Rattle.record.proofs.mend.mend_rows.Statement.{statement}
 use Rattle.record.proofs.mend.mend_rows.Tie as tie
 
@@ -24,7 +24,7 @@ row-at-requires : tie.Need-row-at-requires Inv-loop μ-loop
 row-at-requires c κs = search needs
 
 repair-requires : tie.Need-repair-requires Inv-loop μ-loop
-repair-requires c κs = search needs
+repair-requires c κs = tt
 
 enum-told : tie.Need-enum-told Inv-loop μ-loop
 enum-told c = search needs
@@ -46,9 +46,7 @@ slice-aggregate-copy-in : tie.Need-slice-aggregate-copy-in Inv-loop μ-loop
 slice-aggregate-copy-in c = search needs
 
 copy-in-requires : tie.Need-copy-in-requires Inv-loop μ-loop
-copy-in-requires c κs =
-    let n : length (c .before .before .before .before .before .repair .result .row) ≡ 255 = search needs in
-    repairing-room _ _ _ _ (c .before .before .before .before .before .before .before .before .loop .inv) _ n (c .before .before .before .before .before .before .before .loop-test .taken) (search needs)
+copy-in-requires c κs = tt
 
 add-i : tie.Need-add-i Inv-loop μ-loop
 add-i c = search needs

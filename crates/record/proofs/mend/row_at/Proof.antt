@@ -20,7 +20,7 @@ part-copy-in-end : tie.Need-part-copy-in-end
 part-copy-in-end c = search needs
 
 copy-in-requires : tie.Need-copy-in-requires
-copy-in-requires c κs = search needs
+copy-in-requires c κs = tt
 
 returns : tie.Need-returns
 returns c = row-copied 255 _ _ _ (c .before .before .before .before .before .pre) (c .before .copy-in .ensures)

@@ -35,13 +35,13 @@ below : (c : tie.After-known-told2) → c .before .i .given .0 .0 < 8
 below c = omega (arith, found-names _ _ _ (named c) .0, eight (c .before .before .before .before .before .before .before .before .before .before .before .before))
 
 is-good-requires : tie.Need-is-good-requires
-is-good-requires c κs = search needs
+is-good-requires c κs = tt
 
 returns : tie.Need-returns
 returns c = told (offer-bad _ _ _ (sym (c .before .is-good .ensures) ∙ not-true _ (c .if1 .taken)))
 
 read-fields-requires : tie.Need-read-fields-requires
-read-fields-requires c κs = search needs
+read-fields-requires c κs = tt
 
 enum-known-reading : tie.Need-enum-known-reading
 enum-known-reading c = search needs
@@ -50,7 +50,7 @@ enum-told : tie.Need-enum-told
 enum-told c = search needs
 
 refusal-in-requires : tie.Need-refusal-in-requires
-refusal-in-requires c κs = search needs
+refusal-in-requires c κs = tt
 
 returns-2 : tie.Need-returns-2
 returns-2 c =
@@ -58,7 +58,7 @@ returns-2 c =
     told (offer-unread (s .t1) (s .store .now) (s .packet .now) (well (c .before .before .before .before)) _ (sym (c .before .before .before .read-fields .ensures) ∙ refusal-read _ _ _ (c .before .enum-told .given .1) (c .refusal-in .ensures)))
 
 find-place-requires : tie.Need-find-place-requires
-find-place-requires c κs = search needs
+find-place-requires c κs = tt
 
 enum-known-i : tie.Need-enum-known-i
 enum-known-i c = search needs

@@ -35,7 +35,7 @@ narrow c =
     omega (arith, payload-length (c .before .before .before .before .before .before .args .packet .now) (omega arith))
 
 differs-requires : tie.Need-differs-requires
-differs-requires c κs = search needs
+differs-requires c κs = tt
 
 returns : tie.Need-returns
 returns c = told (ap (offerJudged _ _) (judge-other _ _ _ (sym (c .before .differs .ensures) ∙ c .if1 .taken)))

@@ -7,13 +7,13 @@ use Rattle.record.proofs.offering.put_in.Statement.{statement}
 use Rattle.record.proofs.offering.put_in.Tie as tie
 
 slot-at-requires : tie.Need-slot-at-requires
-slot-at-requires c κs = search needs
+slot-at-requires c κs = tt
 
 slot-length-requires : tie.Need-slot-length-requires
-slot-length-requires c κs = search needs
+slot-length-requires c κs = tt
 
 length-fits-requires : tie.Need-length-fits-requires
-length-fits-requires c κs = search needs
+length-fits-requires c κs = tt
 
 same-length : tie.Need-same-length
 same-length c = search needs

@@ -13,7 +13,7 @@ add-copy-in : tie.Need-add-copy-in
 add-copy-in c = omega arith
 
 copy-in-requires : tie.Need-copy-in-requires
-copy-in-requires c κs = omega arith
+copy-in-requires c κs = tt
 
 cast-store : tie.Need-cast-store
 cast-store c = omega arith

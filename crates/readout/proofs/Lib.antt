@@ -1,0 +1,8 @@
+pub mod WalkLaws
+pub mod SurveyLaws
+pub mod TableLaws
+pub mod RowLaws
+pub mod PassLaws
+pub mod PaddingLaws
+pub mod HandCases
+pub mod HandLaws

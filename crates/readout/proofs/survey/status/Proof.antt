@@ -1,0 +1,73 @@
+-- The record is judged and the place found; how it stands is said by its slots.
+use mathlib.Core.Path.{_≡_, sym, _∙_}
+use mathlib.Core.Bool.{true}
+use Prim.Native.Nat.{_<_}
+use native.Mathlib.Omega.{arith}
+use borrow.Author.Needs.{needs}
+use borrow.Author.Tests.{not-true, not-false}
+use lib.ListN.{length}
+use Rattle.places.specs.declared.Found.the-variants.{At}
+use Rattle.places.specs.Places.{good, placeNamed}
+use Rattle.places.proofs.Steps.{mapped-length}
+use Rattle.places.proofs.Holders.{found-names}
+use Rattle.readout.proofs.HandCases.{status-record, status-unknown, status-found, found-usable}
+use Rattle.readout.proofs.survey.status.Statement.{statement}
+use Rattle.readout.proofs.survey.status.Tie as tie
+
+-- the test passed, and the place found
+sound : (c : tie.Else1) → good (length (c .before .before .before .args .store .now)) (c .before .before .before .args .t1 .places) ≡ true
+sound c = sym (c .before .is-good .ensures) ∙ not-false _ (c .if1 .left)
+
+found : (c : tie.After-i) → placeNamed (c .before .before .before .before .before .before .args .t1 .places) (c .before .before .before .before .before .before .args .resource) ≡ At (c .i .given .0 .0)
+found c = sym (c .before .before .find-place .ensures) ∙ c .i .given .1
+
+below : (c : tie.After-i) → c .i .given .0 .0 < 8
+below c =
+    let a = c .before .before .before .before .before .before .args in
+    let eight : length (a .t1 .places) ≡ 8 = search (needs, mapped-length) in
+    omega (arith, found-names (a .t1 .places) (a .resource) (c .i .given .0 .0) (found c) .0)
+
+is-good-requires : tie.Need-is-good-requires
+is-good-requires c κs = tt
+
+returns : tie.Need-returns
+returns c = status-record _ _ _ (sym (c .before .is-good .ensures) ∙ not-true _ (c .if1 .taken))
+
+find-place-requires : tie.Need-find-place-requires
+find-place-requires c κs = tt
+
+enum-known-i : tie.Need-enum-known-i
+enum-known-i c = search needs
+
+enum-told : tie.Need-enum-told
+enum-told c = search needs
+
+returns-2 : tie.Need-returns-2
+returns-2 c = status-unknown _ _ _ (sound (c .before .before .before)) (sym (c .before .before .find-place .ensures) ∙ c .enum-told .given .1)
+
+mul-standing : tie.Need-mul-standing
+mul-standing c = omega (arith, below (c .before))
+
+element-copy-out-standing : tie.Need-element-copy-out-standing
+element-copy-out-standing c = below (c .before)
+
+standing-requires : tie.Need-standing-requires
+standing-requires c κs = found-usable _ (c .before .before .before .before .before .before .before .before .args .store .now) _ (sound (c .before .before .before .before .before)) _ (found (c .before .before)) .ends
+
+returns-3 : tie.Need-returns-3
+returns-3 c = c .standing .ensures ∙ status-found _ _ _ (sound (c .before .before .before .before .before .before)) _ (found (c .before .before .before))
+
+pub status-spec : {M : Type 1} → statement M
+status-spec =
+    tie.close
+    (tie.spec
+    is-good-requires
+    returns
+    find-place-requires
+    enum-known-i
+    enum-told
+    returns-2
+    mul-standing
+    element-copy-out-standing
+    standing-requires
+    returns-3)

@@ -1,0 +1,161 @@
+// Hand out: document 01, section 5. Every refusal is ruled out before a byte is written.
+ghost use mathlib.Core.Path.{_≡_};
+ghost use mathlib.Core.List.{_++_};
+ghost use Prim.Native.Nat.{_/_, _≤_};
+ghost use lib.ListN.{length, drop};
+ghost use Rattle.layout.specs.Spread.{scattered};
+ghost use Rattle.contents.specs.Contents.{contents};
+ghost use Rattle.readout.specs.Hand.{handRows, handJoined, handContents, handOutOf};
+ghost use Rattle.readout.specs.Passes.{Usable, Filled, Rowed, sentIn, infoIn, Padding};
+use crate::survey;
+use crate::tables;
+use places::Found;
+use places::Place;
+use places::Record;
+use refusals::Refusal;
+use refusals::Verdict;
+
+// Writes the payloads of a place one behind the other.
+fn write_plain(p: Place, store: &[u8], out: &mut [u8])
+    requires { ⌜ Filled p (now store) × (length (sentIn p (now store)) ≤ length (now out)) ⌝ }
+    ensures { λ r. ⌜ now (out .exit) ≡ sentIn p (now (store .entry)) ++ drop (length (sentIn p (now (store .entry)))) (now (out .entry)) ⌝ }
+{
+    let width = p.slot as usize + 2;
+    let mut at = p.start as usize;
+    let mut o: usize = 0;
+    let mut k: u32 = 0;
+    while k < p.count {
+        let n = contents::slot_length(store, at);
+        let from = at + 2;
+        let to = from + n;
+        contents::copy_in(out, o, &store[from..to]);
+        o += n;
+        at += width;
+        k += 1;
+    }
+}
+
+// Writes the rows of a place to where they belong in a file of `n` bytes.
+fn write_rows(p: Place, store: &[u8], n: usize, out: &mut [u8])
+    requires { ⌜ Rowed p (now store) × (n ≤ length (now out)) ⌝ }
+    ensures { λ r. ⌜ now (out .exit) ≡ scattered (p .rows) n (infoIn (sentIn p (now (store .entry)))) (length (sentIn p (now (store .entry))) / 255) (now (out .entry)) ⌝ }
+{
+    let m = p.rows as usize;
+    let width = p.slot as usize + 2;
+    let mut at = p.start as usize;
+    let mut q: usize = 0;
+    let mut k: u32 = 0;
+    while k < p.count {
+        let count = contents::slot_length(store, at) / 255;
+        tables::scatter_rows(store, at + 2, count, m, q, n, out);
+        q += count;
+        at += width;
+        k += 1;
+    }
+}
+
+// Whether the rows of a place hold 0 wherever they reach beyond a file of `n` bytes.
+fn padding_ends(p: Place, store: &[u8], n: usize) -> bool
+    requires { ⌜ Rowed p (now store) ⌝ }
+    ensures { λ r. ⌜ Padding (p .rows) n (sentIn p (now (store .entry))) 0 (length (sentIn p (now (store .entry))) / 255) 0 r ⌝ }
+{
+    let m = p.rows as usize;
+    let width = p.slot as usize + 2;
+    let mut at = p.start as usize;
+    let mut q: usize = 0;
+    let mut k: u32 = 0;
+    while k < p.count {
+        let count = contents::slot_length(store, at) / 255;
+        if !tables::rows_end(store, at + 2, count, m, q, n) {
+            return false;
+        }
+        q += count;
+        at += width;
+        k += 1;
+    }
+    true
+}
+
+// Without protection the joined payloads, of `bytes` bytes, are the file.
+fn hand_plain(p: Place, store: &[u8], bytes: usize, n: usize, out: &mut [u8]) -> Verdict
+    requires { ⌜ Filled p (now store) × (bytes ≡ length (sentIn p (now store))) × (p .protection ≡ 0) ⌝ }
+    ensures { λ r. ⌜ (r ≡ handJoined p (sentIn p (now (store .entry))) n (now (out .entry)) .answer)
+        × (now (out .exit) ≡ handJoined p (sentIn p (now (store .entry))) n (now (out .entry)) .output) ⌝ }
+{
+    if n != bytes {
+        return Verdict::Refused(Refusal::Size);
+    }
+    if out.len() < bytes {
+        return Verdict::Refused(Refusal::Output);
+    }
+    write_plain(p, store, out);
+    Verdict::Accepted
+}
+
+// With protection the tables are undone.
+fn hand_rows(p: Place, store: &[u8], bytes: usize, n: usize, out: &mut [u8]) -> Verdict
+    requires { ⌜ Rowed p (now store) × (bytes ≡ length (sentIn p (now store))) ⌝ }
+    ensures { λ r. ⌜ (r ≡ handRows (p .rows) (sentIn p (now (store .entry))) n (now (out .entry)) .answer)
+        × (now (out .exit) ≡ handRows (p .rows) (sentIn p (now (store .entry))) n (now (out .entry)) .output) ⌝ }
+{
+    let m = p.rows as usize;
+    let rows = bytes / 255;
+    if rows % m != 0 {
+        return Verdict::Refused(Refusal::Shape);
+    }
+    if !tables::needs_tables(n, m, rows / m) {
+        return Verdict::Refused(Refusal::Size);
+    }
+    if !padding_ends(p, store, n) {
+        return Verdict::Refused(Refusal::Padding);
+    }
+    if out.len() < n {
+        return Verdict::Refused(Refusal::Output);
+    }
+    write_rows(p, store, n, out);
+    Verdict::Accepted
+}
+
+// Where every slot is filled.
+fn hand_filled(p: Place, store: &[u8], bytes: usize, n: usize, out: &mut [u8]) -> Verdict
+    requires { ⌜ Usable p (now store) × Filled p (now store) × (bytes ≡ length (sentIn p (now store))) ⌝ }
+    ensures { λ r. ⌜ (r ≡ handJoined p (sentIn p (now (store .entry))) n (now (out .entry)) .answer)
+        × (now (out .exit) ≡ handJoined p (sentIn p (now (store .entry))) n (now (out .entry)) .output) ⌝ }
+{
+    if p.protection == 0 {
+        return hand_plain(p, store, bytes, n, out);
+    }
+    hand_rows(p, store, bytes, n, out)
+}
+
+// The first `n` bytes of the file that a place holds.
+fn hand_place(p: Place, store: &[u8], n: usize, out: &mut [u8]) -> Verdict
+    requires { ⌜ Usable p (now store) ⌝ }
+    ensures { λ r. ⌜ (r ≡ handContents p (contents p (now (store .entry))) n (now (out .entry)) .answer)
+        × (now (out .exit) ≡ handContents p (contents p (now (store .entry))) n (now (out .entry)) .output) ⌝ }
+{
+    let seen = survey::survey(p, store);
+    let survey::Seen::Sound(t) = seen else {
+        return Verdict::Refused(Refusal::Slot);
+    };
+    let empty = t.empty;
+    match empty {
+        Found::At(i) => Verdict::Refused(Refusal::Missing(i as u32)),
+        Found::Nothing => hand_filled(p, store, t.bytes, n, out),
+    }
+}
+
+// Writes the file of `length` bytes that a resource's place holds to the start of the output, whose other bytes stay. Refused: 9, 10, 15, 21, 22, 23, 24, 26;
+// then nothing is written.
+pub fn hand_out(held: Record, store: &[u8], resource: u16, length: usize, out: &mut [u8]) -> Verdict
+    ensures { λ r. ⌜ (r ≡ handOutOf held (now (store .entry)) resource length (now (out .entry)) .answer)
+        × (now (out .exit) ≡ handOutOf held (now (store .entry)) resource length (now (out .entry)) .output) ⌝ }
+{
+    if !places::is_good(held, store.len()) {
+        return Verdict::Refused(Refusal::Record);
+    }
+    let Found::At(i) = places::find_place(held, resource) else {
+        return Verdict::Refused(Refusal::Unknown);
+    };
+    hand_place(held.places[i], store, length, out)
+}
