@@ -1,3 +1,4 @@
+pub mod Numbers
 pub mod Sums
 pub mod Sweep
 pub mod OneResult

@@ -5,7 +5,6 @@ pub mod Constant
 pub mod Feeding
 pub mod Putting
 pub mod Serving
-pub mod Numbers
 pub mod Stores
 pub mod ByExponents
 pub mod Totals

@@ -28,7 +28,7 @@ use Rattle.code.proofs.Locate.{located}
 use Rattle.rows.specs.InnerSums.{total, runOf}
 use Rattle.rows.specs.InnerNull.{Annihilated}
 use Rattle.rows.specs.InnerErrata.{entries, shareOf, Rooted, Solved, mendedBy, Agreeing, Searched}
-use Rattle.rows.proofs.Numbers.{same-or-not, below-suc}
+use Rattle.ground.proofs.Numbers.{same-or-not, below-suc}
 use Rattle.rows.proofs.Totals.{total-ext, total-first}
 use Rattle.rows.proofs.Shares.{expo-swap, share-more}
 

@@ -19,7 +19,7 @@ use Rattle.field.specs.Field.{product}
 use Rattle.field.proofs.Laws.{product-byte, product-comm, product-assoc, product-one, product-zero, zero-product, ring}
 use Rattle.rows.specs.InnerSums.{total, runOf}
 use Rattle.rows.specs.InnerNull.{Short, Passed, Kept, filled, Basis, Reducing, Reduced, Annihilated, Mixed, Shifted}
-use Rattle.rows.proofs.Numbers.{lt-or-ge, same-or-not, below-suc}
+use Rattle.ground.proofs.Numbers.{lt-or-ge, same-or-not, below-suc}
 use Rattle.rows.proofs.Stores.{Front}
 use Rattle.rows.proofs.Totals.{total-ext, total-more, total-first, total-sum, total-product, total-byte}
 

@@ -18,7 +18,7 @@ use Rattle.code.proofs.Lists.{sum-again}
 use Rattle.code.proofs.Weights.{expo-zero, expo-suc, one-product}
 use Rattle.rows.specs.InnerSums.{total}
 use Rattle.rows.specs.InnerErrata.{entries, shareOf, Placed, shiftsOf, ShiftedOut, Sifted, Restored, Solved}
-use Rattle.rows.proofs.Numbers.{same-or-not, below-suc}
+use Rattle.ground.proofs.Numbers.{same-or-not, below-suc}
 use Rattle.rows.proofs.Totals.{total-ext, total-first, total-sum, total-product}
 
 -- ---- what the places from place k on add to syndrome j

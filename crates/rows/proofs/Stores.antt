@@ -9,7 +9,7 @@ use native.Mathlib.Numerals.{add-one}
 use native.Mathlib.Omega.{arith}
 use lib.ListN.{length, getD, set, length-set}
 use lib.Seq.{getD-set-same, getD-set-other}
-use Rattle.rows.proofs.Numbers.{below-suc}
+use Rattle.ground.proofs.Numbers.{below-suc}
 
 -- each of the first k of n entries is as P says, and the others are as they were
 pub record Front (P : ℕ → ℕ → Type 0) (n k : ℕ) (old out : List ℕ) : Type 0 where

@@ -6,7 +6,7 @@ use mathlib.Core.Logic.{_≢_}
 use mathlib.Core.Bool.{Bool, true, false}
 use mathlib.Core.List.{List}
 use Prim.Native.Nat.{ℕ, zero, suc, _+_, _-_, _≤_, _<_}
-use lib.ListN.{length, getD, drop, set}
+use lib.ListN.{length, getD, set}
 use Rattle.ground.specs.Bits.{sum}
 use Rattle.field.specs.Field.{product, expo, power}
 use Rattle.code.specs.Code.{Bytes}
@@ -34,18 +34,6 @@ pub record Placed (n : ℕ) (at : List ℕ) : Type 0 where
   pub apart : (k l : ℕ) → k < l → l < n → getD at k 0 ≢ getD at l 0
 
 -- ---- roots
-
--- the first root of w at or after the exponent e, or 255
-pub record Next (w : List ℕ) (e r : ℕ) : Type 0 where
-  pub after : e ≤ r
-  pub within : r ≤ 255
-  pub root : r < 255 → eval w (power r) ≡ 0
-  pub none : (k : ℕ) → e ≤ k → k < r → eval w (power k) ≢ 0
-
--- r is w divided by (x - y), of which the remainder is left out
-pub record Deflated (w : List ℕ) (y : ℕ) (r : List ℕ) : Type 0 where
-  pub sized : length r ≡ 9
-  pub entry : (i : ℕ) → getD r i 0 ≡ eval (drop (i + 1) w) y
 
 -- the first n entries are the places whose locators are roots of v
 pub record Rooted (v : List ℕ) (n : ℕ) (at : List ℕ) : Type 0 where

@@ -1,13 +1,11 @@
 // The values at up to sixteen given places that give the syndromes (document 01, section 3). A place is told by its exponent a: byte 254 - a of a row has the locator α^a. The
 // places are shifted out of the syndromes one after the other, which leaves one equation for the last place, and are then brought back, last first.
 ghost use mathlib.Core.Path.{_≡_};
-ghost use Prim.Native.Nat.{ℕ, _+_, _≤_, _<_};
-ghost use lib.ListN.{getD};
+ghost use Prim.Native.Nat.{_+_, _≤_, _<_};
 ghost use Rattle.field.specs.Tables.{Powers, Logs};
 ghost use Rattle.rows.specs.InnerErrata.{Placed, ShiftedOut, Sifted, Restored, Solved, Searched, mendedBy, entries};
 use crate::factors;
 use crate::kernel;
-use crate::roots;
 use crate::terms;
 
 // Values at the first n places; `fits` where they give all sixteen syndromes.
@@ -27,7 +25,7 @@ pub(crate) fn find(rest: [u8; 16]) -> Errata
     let s = terms::syndromes(rest, &powers, &logs);
     let null = kernel::null_vector(s, &powers, &logs);
     let v = null.v;
-    let places = roots::find_places(v, null.top, &powers, &logs);
+    let places = roots::find(v);
     let n = places.n;
     let at = places.at;
     let values = solve(s, at, n, &powers, &logs);

@@ -11,7 +11,6 @@ mod factors;
 mod halves;
 mod kernel;
 mod register;
-mod roots;
 mod terms;
 
 use refusals::Refusal;

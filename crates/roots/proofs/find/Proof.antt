@@ -1,0 +1,84 @@
+-- `roots::find` tries exponent 0, and then eight exponents a turn (`Finding`).
+-- Assumes nothing.
+use mathlib.Core.Path.{refl}
+use mathlib.Core.List.{List}
+use Prim.Native.Nat.{ℕ, _-_}
+use native.Mathlib.Omega.{arith}
+use lib.ListN.{getD}
+use Rattle.roots.proofs.Finding.{Finding, finding-start, finding-more, finding-end}
+use borrow.Author.Needs.{needs}
+use Rattle.roots.proofs.find.Statement.{statement}
+use Rattle.roots.proofs.find.Tie as tie
+
+abbrev Inv-loop : tie.InvT-loop
+Inv-loop table top at₀ n₀ first t₀ b₀ at n t b = Finding t₀ first top n at t b
+
+abbrev μ-loop : tie.MeasureT-loop
+μ-loop table top at₀ n₀ first t₀ b₀ at n t b = 32 - b
+
+table-requires : tie.Need-table-requires Inv-loop μ-loop
+table-requires c κs = tt
+
+last-requires : tie.Need-last-requires Inv-loop μ-loop
+last-requires c κs = tt
+
+at-one-requires : tie.Need-at-one-requires Inv-loop μ-loop
+at-one-requires c κs = tt
+
+note-requires : tie.Need-note-requires Inv-loop μ-loop
+note-requires c κs = refl
+
+array-read-first : tie.Need-array-read-first Inv-loop μ-loop
+array-read-first c = omega arith
+
+loop-holds : tie.Need-loop-holds Inv-loop μ-loop
+loop-holds c =
+    let last = c .before .before .before in
+    let v : List ℕ = last .before .before .args .t1 in
+    let fit : (i : ℕ) → mir.Val.Fits mir.Syntax.w8 (getD v i 0) = λ i. search needs in
+    finding-start v _ _ _ _ (λ i. fit i .fits) (last .last .ensures .1) (c .before .at-one .ensures) (c .note .ensures .1)
+
+move-on-requires : tie.Need-move-on-requires Inv-loop μ-loop
+move-on-requires c κs =
+    let last = c .before .before .before .before .before .before .before in
+    (last .last .ensures .0, c .before .before .before .loop .inv .short, last .before .table .ensures)
+
+mul-look : tie.Need-mul-look Inv-loop μ-loop
+mul-look c = omega arith
+
+look-requires : tie.Need-look-requires Inv-loop μ-loop
+look-requires c κs = (c .before .before .before .before .before .loop .inv .held .sized, omega arith)
+
+add-b : tie.Need-add-b Inv-loop μ-loop
+add-b c = omega arith
+
+loop-less : tie.Need-loop-less Inv-loop μ-loop
+loop-less c = omega arith
+
+loop-again : tie.Need-loop-again Inv-loop μ-loop
+loop-again c =
+    let turn = c .before .before in
+    finding-more (turn .before .before .before .before .loop .inv) _ _ (turn .move-on .ensures) (omega arith) _ _ (c .look .ensures .1)
+
+returns : tie.Need-returns Inv-loop μ-loop
+returns c = finding-end (c .before .loop .inv) (omega arith)
+
+pub find-spec : {M : Type 1} → statement M
+find-spec =
+    tie.close
+    (tie.spec
+    Inv-loop
+    μ-loop
+    table-requires
+    last-requires
+    at-one-requires
+    note-requires
+    array-read-first
+    loop-holds
+    move-on-requires
+    mul-look
+    look-requires
+    add-b
+    loop-less
+    loop-again
+    returns)

@@ -1,0 +1,37 @@
+-- Vocabulary of the private functions that search for roots. Nobody needs to believe it: no contract of a public call cites it.
+-- Assumes nothing.
+use mathlib.Core.Path.{_≡_}
+use mathlib.Core.List.{List}
+use Prim.Native.Nat.{ℕ, suc, _+_, _*_, _/_, _%_, _^_, _<_}
+use lib.ListN.{length, getD, take}
+use Rattle.ground.specs.Bits.{sum}
+use Rattle.field.specs.Field.{product, power}
+use Rattle.code.specs.Value.{eval}
+
+-- byte k of a word, the lowest one counted 0
+unfoldable pub byteAt : ℕ → ℕ → ℕ
+byteAt w k = w / 2 ^ (k * 8) % 256
+
+-- the table: a word for each coefficient i + 1 and each half byte h, at the low and at the high place
+pub record Words (t : List ℕ) : Type 0 where
+  pub room : length t ≡ 256
+  pub low : (i h k : ℕ) → i < 8 → h < 16 → k < 8 → byteAt (getD t (32 * i + h) 0) k ≡ product h (power ((i + 1) * (k + 1)))
+  pub high : (i h k : ℕ) → i < 8 → h < 16 → k < 8 → byteAt (getD t (32 * i + 16 + h) 0) k ≡ product (h * 16) (power ((i + 1) * (k + 1)))
+
+-- nine coefficients of which those behind `top` are 0
+pub record Short (top : ℕ) (t : List ℕ) : Type 0 where
+  pub sized : length t ≡ 9
+  pub above : (m : ℕ) → top < m → getD t m 0 ≡ 0
+
+-- r has the values of u at α^1 to α^8, less its constant, and each coefficient of t is that of u times α^(8 · i)
+pub record Moved (u : List ℕ) (r : ℕ) (t : List ℕ) : Type 0 where
+  pub sized : length t ≡ 9
+  pub values : (k : ℕ) → k < 8 → sum (getD u 0 0) (byteAt r k) ≡ eval u (power (k + 1))
+  pub first : getD t 0 0 ≡ getD u 0 0
+  pub next : (i : ℕ) → getD t (suc i) 0 ≡ product (getD u (suc i) 0) (power (8 * suc i))
+
+-- n and `at` are the first sixteen of l, and zeros behind them
+pub record Held (l : List ℕ) (n : ℕ) (at : List ℕ) : Type 0 where
+  pub sized : length at ≡ 16
+  pub count : n ≡ length (take 16 l)
+  pub entry : (k : ℕ) → k < 16 → getD at k 0 ≡ getD l k 0

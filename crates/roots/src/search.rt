@@ -1,0 +1,42 @@
+// The roots that are found, in the order of their exponents: the first sixteen are kept.
+ghost use mathlib.Core.Path.{_≡_};
+ghost use mathlib.Core.Bool.{Bool, cond, _&&_};
+ghost use mathlib.Core.List.{List, [], _∷_, _++_};
+ghost use Prim.Native.Nat.{ℕ, _+_, _<_};
+ghost use lib.Dec.{eqb, ltb};
+ghost use lib.ListN.{length};
+ghost use Rattle.roots.specs.Roots.{passing};
+ghost use Rattle.roots.specs.InnerWords.{byteAt, Held};
+use crate::words;
+
+// Keeps the exponent e where x equals y, unless it is 255 or more or sixteen are kept already.
+pub(crate) fn note(at: &mut [u8; 16], n: usize, x: u8, y: u8, e: usize) -> usize
+    requires { ⌜ length (now at) ≡ 16 ⌝ }
+    ensures { λ r. ⌜ (length (now (at .exit)) ≡ 16) × ((l : List ℕ) → Held l n (now (at .entry)) → Held (l ++ cond (eqb x y && ltb e 255) (e ∷ []) []) r (now (at .exit))) ⌝ }
+{
+    if x != y {
+        return n;
+    }
+    if 255 <= e {
+        return n;
+    }
+    if 16 <= n {
+        return n;
+    }
+    at[n] = e as u8;
+    n + 1
+}
+
+// Keeps those of the exponents e + 1 to e + 8 at which the byte of the word equals y.
+pub(crate) fn look(at: &mut [u8; 16], n: usize, w: u64, y: u8, e: usize) -> usize
+    requires { ⌜ (length (now at) ≡ 16) × (e < 256) ⌝ }
+    ensures { λ r. ⌜ (length (now (at .exit)) ≡ 16) × ((l : List ℕ) (f : ℕ → Bool) → ((k : ℕ) → k < 8 → f (e + 1 + k) ≡ (eqb (byteAt w k) y && ltb (e + 1 + k) 255)) → Held l n (now (at .entry)) → Held (l ++ passing f 8 (e + 1)) r (now (at .exit))) ⌝ }
+{
+    let mut m = n;
+    let mut k: usize = 0;
+    while k < 8 {
+        m = note(at, m, words::byte(w, k as u64), y, e + 1 + k);
+        k += 1;
+    }
+    m
+}
