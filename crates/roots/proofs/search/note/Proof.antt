@@ -2,6 +2,7 @@
 -- Assumes nothing.
 use mathlib.Core.Path.{_∙_}
 use mathlib.Core.Bool.{_&&_}
+use native.Mathlib.Omega.{arith}
 use lib.Dec.{eqb, ltb}
 use lib.ListN.{length-set}
 use Rattle.roots.proofs.Holding.{held-same, held-full, held-more, differs, beyond, passes}
@@ -17,12 +18,12 @@ returns c =
 returns-2 : tie.Need-returns-2
 returns-2 c =
     let a = c .before .before .args in
-    (c .before .before .pre, λ l h. held-same h _ (a .e) (beyond (a .x) (a .y) (a .e) (c .if2 .taken)))
+    (c .before .before .pre, λ l h. held-same h _ (a .e) (beyond (a .x) (a .y) (a .e) (omega arith)))
 
 returns-3 : tie.Need-returns-3
 returns-3 c =
     let a = c .before .before .before .args in
-    (c .before .before .before .pre, λ l h. held-full h (eqb (a .x) (a .y) && ltb (a .e) 255) (a .e) (c .if3 .taken))
+    (c .before .before .before .pre, λ l h. held-full h (eqb (a .x) (a .y) && ltb (a .e) 255) (a .e) (omega arith))
 
 cast-at : tie.Need-cast-at
 cast-at c = search needs
@@ -37,7 +38,7 @@ returns-4 : tie.Need-returns-4
 returns-4 c =
     let start = c .before .before .before in
     let a = start .args in
-    (length-set (a .at .now) (a .n) (a .e) ∙ start .pre, λ l h. held-more h _ (a .e) (passes (a .x) (a .y) (a .e) (c .before .before .if1 .left) (c .before .if2 .left)) (c .if3 .left))
+    (length-set (a .at .now) (a .n) (a .e) ∙ start .pre, λ l h. held-more h _ (a .e) (passes (a .x) (a .y) (a .e) (c .before .before .if1 .left) (omega arith)) (omega arith))
 
 pub note-spec : {M : Type 1} → statement M
 note-spec =
