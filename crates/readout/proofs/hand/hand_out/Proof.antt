@@ -55,7 +55,7 @@ hand-place-requires : tie.Need-hand-place-requires
 hand-place-requires c κs = found-usable _ _ _ (sound (c .before .before .before .before .before .before)) _ (found (c .before .before .before))
 
 same-length : tie.Need-same-length
-same-length c = search needs
+same-length c = omega arith
 
 returns-3 : tie.Need-returns-3
 returns-3 c = comes-from (out-found _ _ _ (sound (c .before .before .before .before .before .before .before .before .before)) _ _ _ (found (c .before .before .before .before .before .before))) (c .before .before .hand-place .ensures)

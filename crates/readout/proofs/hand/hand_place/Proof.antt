@@ -50,7 +50,7 @@ returns-2 : tie.Need-returns-2
 returns-2 c = let t = tallied (c .before .before .before) in contents-missing _ _ _ _ (t .right) _ (sym (t .empty) ∙ c .before .empty .given .1)
 
 same-length : tie.Need-same-length
-same-length c = search needs
+same-length c = omega arith
 
 returns-3 : tie.Need-returns-3
 returns-3 c =

@@ -16,7 +16,7 @@ write-plain-requires : tie.Need-write-plain-requires
 write-plain-requires c κs = search needs
 
 same-length : tie.Need-same-length
-same-length c = search needs
+same-length c = omega arith
 
 returns-3 : tie.Need-returns-3
 returns-3 c =

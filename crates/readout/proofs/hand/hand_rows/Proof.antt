@@ -10,16 +10,16 @@ use Rattle.readout.proofs.hand.hand_rows.Statement.{statement}
 use Rattle.readout.proofs.hand.hand_rows.Tie as tie
 
 cast-m : tie.Need-cast-m
-cast-m c = search needs
+cast-m c = omega arith
 
 rem-if1 : tie.Need-rem-if1
-rem-if1 c = search needs
+rem-if1 c = omega arith
 
 returns : tie.Need-returns
 returns c = rows-shape _ _ _ _ _ (ap (λ (x : ℕ). x / 255) (c .before .before .before .before .pre .1)) (c .if1 .taken)
 
 div-needs-tables : tie.Need-div-needs-tables
-div-needs-tables c = search needs
+div-needs-tables c = omega arith
 
 needs-tables-requires : tie.Need-needs-tables-requires
 needs-tables-requires c κs =
@@ -48,7 +48,7 @@ write-rows-requires : tie.Need-write-rows-requires
 write-rows-requires c κs = search needs
 
 same-length : tie.Need-same-length
-same-length c = search needs
+same-length c = omega arith
 
 returns-5 : tie.Need-returns-5
 returns-5 c =

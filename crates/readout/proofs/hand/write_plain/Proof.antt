@@ -1,7 +1,6 @@
 -- One slot a turn. Invariant, `Joining`: the walk stands at slot k, and the o bytes of the payloads before it are written. The measure is how many slots are left.
 use Prim.Native.Nat.{_-_}
 use native.Mathlib.Omega.{arith}
-use borrow.Author.Needs.{needs}
 use Rattle.readout.proofs.WalkLaws.{Turn, turn}
 use Rattle.readout.proofs.PassLaws.{Joining, joining-first, joining-next, joining-end}
 use Rattle.readout.proofs.hand.write_plain.Statement.{statement}
@@ -20,13 +19,13 @@ slot : (c : tie.After-slot-length Inv-loop μ-loop)
 slot c = turn _ _ _ _ _ (c .before .before .before .loop .inv .walk) (c .before .before .before .before .before .before .before .before .pre .0) (c .before .if1 .taken) _ (c .slot-length .ensures)
 
 cast-width : tie.Need-cast-width Inv-loop μ-loop
-cast-width c = search needs
+cast-width c = omega arith
 
 add-width : tie.Need-add-width Inv-loop μ-loop
-add-width c = search needs
+add-width c = omega arith
 
 cast-at : tie.Need-cast-at Inv-loop μ-loop
-cast-at c = search needs
+cast-at c = omega arith
 
 loop-holds : tie.Need-loop-holds Inv-loop μ-loop
 loop-holds c = joining-first _ _ _
@@ -41,10 +40,10 @@ add-to : tie.Need-add-to Inv-loop μ-loop
 add-to c = omega (arith, slot c .room)
 
 sub-copy-in : tie.Need-sub-copy-in Inv-loop μ-loop
-sub-copy-in c = search needs
+sub-copy-in c = omega arith
 
 part-copy-in-start : tie.Need-part-copy-in-start Inv-loop μ-loop
-part-copy-in-start c = search needs
+part-copy-in-start c = omega arith
 
 part-copy-in-end : tie.Need-part-copy-in-end Inv-loop μ-loop
 part-copy-in-end c = omega (arith, slot (c .before) .room)
@@ -59,10 +58,10 @@ add-at : tie.Need-add-at Inv-loop μ-loop
 add-at c = omega (arith, slot (c .before .before .before .before .before) .inside)
 
 add-k : tie.Need-add-k Inv-loop μ-loop
-add-k c = search needs
+add-k c = omega arith
 
 loop-less : tie.Need-loop-less Inv-loop μ-loop
-loop-less c = search needs
+loop-less c = omega arith
 
 loop-again : tie.Need-loop-again Inv-loop μ-loop
 loop-again c = joining-next _ _ _ _ _ _ _ (c .before .before .before .before .before .before .before .before .loop .inv) _ (slot (c .before .before .before .before .before)) _ (c .before .before .copy-in .ensures)

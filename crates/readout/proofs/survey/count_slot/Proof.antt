@@ -1,7 +1,7 @@
 -- A slot that holds a byte is one more that is filled; the two arms of the test say so.
 use mathlib.Core.Path.{_∙_}
 use mathlib.Core.Logic.{⊎-elim}
-use borrow.Author.Needs.{needs}
+use native.Mathlib.Omega.{arith}
 use Rattle.readout.proofs.SurveyLaws.{one-more, no-more, counted-is}
 use Rattle.readout.proofs.survey.count_slot.Statement.{statement}
 use Rattle.readout.proofs.survey.count_slot.Tie as tie
@@ -10,10 +10,10 @@ first-empty-requires : tie.Need-first-empty-requires
 first-empty-requires c κs = tt
 
 add-filled : tie.Need-add-filled
-add-filled c = search needs
+add-filled c = omega arith
 
 add-t8 : tie.Need-add-t8
-add-t8 c = search needs
+add-t8 c = omega arith
 
 returns : tie.Need-returns
 returns c =

@@ -17,13 +17,13 @@ abbrev μ-loop : tie.MeasureT-loop
 μ-loop p store width at₀ t₀ k₀ at t k = p .count - k
 
 cast-width : tie.Need-cast-width Inv-loop μ-loop
-cast-width c = search needs
+cast-width c = omega arith
 
 add-width : tie.Need-add-width Inv-loop μ-loop
-add-width c = search needs
+add-width c = omega arith
 
 cast-at : tie.Need-cast-at Inv-loop μ-loop
-cast-at c = search needs
+cast-at c = omega arith
 
 loop-holds : tie.Need-loop-holds Inv-loop μ-loop
 loop-holds c = surveying-first _ _
@@ -55,10 +55,10 @@ add-at c =
     omega (arith, stands-room (f .args .p) (l .at) (l .k) (l .inv .stands) (c .before .before .before .before .if1 .taken) (f .args .store .now) (f .pre))
 
 add-k : tie.Need-add-k Inv-loop μ-loop
-add-k c = search needs
+add-k c = omega arith
 
 loop-less : tie.Need-loop-less Inv-loop μ-loop
-loop-less c = search needs
+loop-less c = omega arith
 
 loop-again : tie.Need-loop-again Inv-loop μ-loop
 loop-again c =

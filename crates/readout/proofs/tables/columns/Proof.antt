@@ -1,15 +1,14 @@
 -- All 239 where the last stands below n, none where the first does not, and otherwise those before the first that does not.
 use native.Mathlib.Omega.{arith}
-use borrow.Author.Needs.{needs}
 use Rattle.readout.proofs.TableLaws.{columns-all, columns-none, columns-few, columns-some}
 use Rattle.readout.proofs.tables.columns.Statement.{statement}
 use Rattle.readout.proofs.tables.columns.Tie as tie
 
 mul-if1 : tie.Need-mul-if1
-mul-if1 c = search needs
+mul-if1 c = omega arith
 
 add-if1 : tie.Need-add-if1
-add-if1 c = search needs
+add-if1 c = omega arith
 
 returns : tie.Need-returns
 returns c = columns-all _ _ _ (c .if1 .taken)
@@ -18,13 +17,13 @@ returns-2 : tie.Need-returns-2
 returns-2 c = columns-none _ _ _ (c .if2 .taken)
 
 sub-result : tie.Need-sub-result
-sub-result c = search needs
+sub-result c = omega arith
 
 sub-result-2 : tie.Need-sub-result-2
-sub-result-2 c = search needs
+sub-result-2 c = omega arith
 
 div-result : tie.Need-div-result
-div-result c = search needs
+div-result c = omega arith
 
 add-result : tie.Need-add-result
 add-result c =

@@ -1,6 +1,6 @@
 -- The bytes are looked at one after the other, to the first that is not 0. Invariant, `Zeroing`: those that are left say what all say. The measure is how many are left.
 use Prim.Native.Nat.{_-_}
-use borrow.Author.Needs.{needs}
+use native.Mathlib.Omega.{arith}
 use Rattle.readout.proofs.TableLaws.{Zeroing, zeroing-first, zeroing-end, zeroing-next, zeroing-not}
 use Rattle.readout.proofs.tables.is_zero.Statement.{statement}
 use Rattle.readout.proofs.tables.is_zero.Tie as tie
@@ -15,16 +15,16 @@ loop-holds : tie.Need-loop-holds Inv-loop μ-loop
 loop-holds c = zeroing-first _ _ _ (c .pre .0)
 
 shared-slice-read-if1 : tie.Need-shared-slice-read-if1 Inv-loop μ-loop
-shared-slice-read-if1 c = search needs
+shared-slice-read-if1 c = omega arith
 
 returns : tie.Need-returns Inv-loop μ-loop
 returns c = zeroing-not _ _ _ _ (c .before .before .before .loop .inv) (c .before .before .loop-test .taken) (c .if1 .taken)
 
 add-i : tie.Need-add-i Inv-loop μ-loop
-add-i c = search needs
+add-i c = omega arith
 
 loop-less : tie.Need-loop-less Inv-loop μ-loop
-loop-less c = search needs
+loop-less c = omega arith
 
 loop-again : tie.Need-loop-again Inv-loop μ-loop
 loop-again c = zeroing-next _ _ _ _ (c .before .before .before .loop .inv) (c .before .before .loop-test .taken) (c .if1 .left)

@@ -1,14 +1,14 @@
 -- The tables are enough, and one less would not be: the two bounds of a quotient rounded up.
-use borrow.Author.Needs.{needs}
+use native.Mathlib.Omega.{arith}
 use Rattle.readout.proofs.TableLaws.{tables-few, tables-enough}
 use Rattle.readout.proofs.tables.needs_tables.Statement.{statement}
 use Rattle.readout.proofs.tables.needs_tables.Tie as tie
 
 mul-size : tie.Need-mul-size
-mul-size c = search needs
+mul-size c = omega arith
 
 mul-room : tie.Need-mul-room
-mul-room c = search needs
+mul-room c = omega arith
 
 returns : tie.Need-returns
 returns c = tables-enough (c .before .args .n) (c .before .args .m) (c .before .args .count) (c .before .pre .0) (c .if1 .taken)

@@ -3,7 +3,6 @@
 use mathlib.Core.Path.{sym, _∙_}
 use Prim.Native.Nat.{_-_}
 use native.Mathlib.Omega.{arith}
-use borrow.Author.Needs.{needs}
 use borrow.Author.Tests.{not-true, not-false}
 use Rattle.readout.proofs.RowLaws.{Clearing, clearing-first, clearing-end, clearing-next, clearing-not}
 use Rattle.readout.proofs.tables.rows_end.Statement.{statement}
@@ -48,10 +47,10 @@ returns c =
     (c .before .before .before .row-start .ensures .0) (c .before .before .columns .ensures) (sym (c .before .is-zero .ensures) ∙ not-true _ (c .if1 .taken))
 
 add-j : tie.Need-add-j Inv-loop μ-loop
-add-j c = search needs
+add-j c = omega arith
 
 loop-less : tie.Need-loop-less Inv-loop μ-loop
-loop-less c = search needs
+loop-less c = omega arith
 
 loop-again : tie.Need-loop-again Inv-loop μ-loop
 loop-again c =

@@ -2,7 +2,6 @@
 -- left make what the whole row makes. The measure is how many of the k are left.
 use Prim.Native.Nat.{_-_}
 use native.Mathlib.Omega.{arith}
-use borrow.Author.Needs.{needs}
 use Rattle.readout.proofs.TableLaws.{RowWriting, writing-first, writing-room, writing-next, writing-end}
 use Rattle.readout.proofs.tables.scatter_row.Statement.{statement}
 use Rattle.readout.proofs.tables.scatter_row.Tie as tie
@@ -17,10 +16,10 @@ loop-holds : tie.Need-loop-holds Inv-loop μ-loop
 loop-holds c = writing-first _ _ _ _ _ _
 
 add-out : tie.Need-add-out Inv-loop μ-loop
-add-out c = search needs
+add-out c = omega arith
 
 shared-slice-read-out : tie.Need-shared-slice-read-out Inv-loop μ-loop
-shared-slice-read-out c = search needs
+shared-slice-read-out c = omega arith
 
 slice-write-out : tie.Need-slice-write-out Inv-loop μ-loop
 slice-write-out c = writing-room _ _ _ _ _ _ _ _ _ (c .before .before .loop .inv) (c .before .loop-test .taken) (c .before .before .before .pre .3)
@@ -32,10 +31,10 @@ add-to c =
     omega (arith, writing-room (f .args .store .now) (f .args .at) (f .args .k) (f .args .m) (f .args .p) (f .args .out .now) (l .out) (l .to) (l .c) (l .inv) (c .before .loop-test .taken) (f .pre .3), l .inv .long)
 
 add-c : tie.Need-add-c Inv-loop μ-loop
-add-c c = search needs
+add-c c = omega arith
 
 loop-less : tie.Need-loop-less Inv-loop μ-loop
-loop-less c = search needs
+loop-less c = omega arith
 
 loop-again : tie.Need-loop-again Inv-loop μ-loop
 loop-again c = writing-next _ _ _ _ _ _ _ _ _ (c .before .before .loop .inv) (c .before .loop-test .taken)

@@ -2,7 +2,6 @@
 -- first q were written, the first q + j are written now. The measure is how many rows are left.
 use Prim.Native.Nat.{_-_}
 use native.Mathlib.Omega.{arith}
-use borrow.Author.Needs.{needs}
 use Rattle.readout.proofs.RowLaws.{Scattering, scattering-first, scattering-next, scattering-end}
 use Rattle.readout.proofs.tables.scatter_rows.Statement.{statement}
 use Rattle.readout.proofs.tables.scatter_rows.Tie as tie
@@ -41,10 +40,10 @@ scatter-row-requires c κs =
     (omega (arith, f .pre .0 .inside), f .pre .0 .few, w .within, λ i h. omega (arith, w .inside i h, l .inv .long, f .pre .1))
 
 add-j : tie.Need-add-j Inv-loop μ-loop
-add-j c = search needs
+add-j c = omega arith
 
 loop-less : tie.Need-loop-less Inv-loop μ-loop
-loop-less c = search needs
+loop-less c = omega arith
 
 loop-again : tie.Need-loop-again Inv-loop μ-loop
 loop-again c =

@@ -83,7 +83,7 @@ offer-at-requires c κs =
     (read (c .before .before .before .before .before .before), good-at _ _ _ (well (c .before .before .before .before .before .before .before .before .before .before)) (found-names _ _ _ n .0), names-in-use (getD (c .before .before .before .before .before .before .before .before .before .before .before .before .before .before .args .t1 .places) (c .before .before .before .i .given .0 .0) unused) _ (found-names _ _ _ n .1))
 
 same-length : tie.Need-same-length
-same-length c = search needs
+same-length c = omega arith
 
 returns-4 : tie.Need-returns-4
 returns-4 c =

@@ -4,7 +4,6 @@ use mathlib.Core.Path.{_≡_, sym, ap, _∙_}
 use mathlib.Core.Bool.{false}
 use Prim.Native.Nat.{_+_, _≤_}
 use native.Mathlib.Omega.{arith}
-use borrow.Author.Needs.{needs}
 use lib.ListN.{length}
 use Rattle.packet.proofs.Laws.{SentFacts, read-sent}
 use Rattle.places.proofs.Facts.{PlaceFacts, place-facts}
@@ -41,10 +40,10 @@ returns : tie.Need-returns
 returns c = told (ap (offerJudged _ _) (judge-other _ _ _ (sym (c .before .differs .ensures) ∙ c .if1 .taken)))
 
 cast-if2 : tie.Need-cast-if2
-cast-if2 c = search needs
+cast-if2 c = omega arith
 
 add-if2 : tie.Need-add-if2
-add-if2 c = search needs
+add-if2 c = omega arith
 
 sub-if2 : tie.Need-sub-if2
 sub-if2 c = let s = sent (c .before .before .before) in omega arith
@@ -61,7 +60,7 @@ offer-plain-requires c κs =
     (room (c .before .before .before .before .before), s .least, omega arith)
 
 same-length : tie.Need-same-length
-same-length c = search needs
+same-length c = omega arith
 
 returns-3 : tie.Need-returns-3
 returns-3 c = come (offer-as-it-came _ _ _ (alike (c .before .before .before .before .before .before .before .before)) _ (narrow (c .before .before .before .before .before .before)) (c .before .before .before .before .if3 .taken)) (c .before .before .offer-plain .ensures)
@@ -72,7 +71,7 @@ offer-rows-requires c κs =
     (room (c .before .before .before .before .before), s .least, s .most, omega arith, s .multiple (omega arith))
 
 same-length-2 : tie.Need-same-length-2
-same-length-2 c = search needs
+same-length-2 c = omega arith
 
 returns-4 : tie.Need-returns-4
 returns-4 c = come (offer-repaired _ _ _ (alike (c .before .before .before .before .before .before .before .before)) _ (narrow (c .before .before .before .before .before .before)) (c .before .before .before .before .if3 .left)) (c .before .before .offer-rows .ensures)

@@ -1,5 +1,6 @@
 -- The payload is the part between header and CRC; where the CRC agrees it goes into its slot.
 use mathlib.Core.Path.{sym, ap, _∙_}
+use native.Mathlib.Omega.{arith}
 use borrow.Author.Needs.{needs}
 use borrow.Author.Tests.{not-true, not-false}
 use Rattle.record.specs.Mend.{whole}
@@ -8,16 +9,16 @@ use Rattle.record.proofs.offering.offer_plain.Statement.{statement}
 use Rattle.record.proofs.offering.offer_plain.Tie as tie
 
 sub-end : tie.Need-sub-end
-sub-end c = search needs
+sub-end c = omega arith
 
 sub-payload : tie.Need-sub-payload
-sub-payload c = search needs
+sub-payload c = omega arith
 
 part-payload-start : tie.Need-part-payload-start
-part-payload-start c = search needs
+part-payload-start c = omega arith
 
 part-payload-end : tie.Need-part-payload-end
-part-payload-end c = search needs
+part-payload-end c = omega arith
 
 crc-agrees-requires : tie.Need-crc-agrees-requires
 crc-agrees-requires c κs = search needs
@@ -29,7 +30,7 @@ put-in-requires : tie.Need-put-in-requires
 put-in-requires c κs = search needs
 
 same-length : tie.Need-same-length
-same-length c = search needs
+same-length c = omega arith
 
 returns-2 : tie.Need-returns-2
 returns-2 c =

@@ -12,16 +12,16 @@ use Rattle.record.proofs.offering.offer_rows.Statement.{statement}
 use Rattle.record.proofs.offering.offer_rows.Tie as tie
 
 sub-end : tie.Need-sub-end
-sub-end c = search needs
+sub-end c = omega arith
 
 sub-payload : tie.Need-sub-payload
-sub-payload c = search needs
+sub-payload c = omega arith
 
 part-payload-start : tie.Need-part-payload-start
-part-payload-start c = search needs
+part-payload-start c = omega arith
 
 part-payload-end : tie.Need-part-payload-end
-part-payload-end c = search needs
+part-payload-end c = omega arith
 
 slice-aggregate-mend-rows : tie.Need-slice-aggregate-mend-rows
 slice-aggregate-mend-rows c = search needs
@@ -67,7 +67,7 @@ put-in-requires c κs =
     (search needs, omega (arith, length-take-le (length (cut q)) l (omega arith)))
 
 same-length : tie.Need-same-length
-same-length c = search needs
+same-length c = omega arith
 
 returns-3 : tie.Need-returns-3
 returns-3 c =

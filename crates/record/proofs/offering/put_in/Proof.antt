@@ -1,5 +1,6 @@
 -- The slot's length is judged first; an empty slot takes the payload, one that holds as many bytes is compared with it.
 use mathlib.Core.Path.{sym, _∙_}
+use native.Mathlib.Omega.{arith}
 use borrow.Author.Needs.{needs}
 use borrow.Author.Tests.{not-true, not-false}
 use Rattle.record.proofs.OfferCases.{told, put-wrong, put-empty, put-other, put-same, put-conflict}
@@ -16,7 +17,7 @@ length-fits-requires : tie.Need-length-fits-requires
 length-fits-requires c κs = tt
 
 same-length : tie.Need-same-length
-same-length c = search needs
+same-length c = omega arith
 
 returns : tie.Need-returns
 returns c = told (put-wrong _ _ _ _ _ (c .before .before .before .before .slot-at .ensures) _ (c .before .before .slot-length .ensures) (sym (c .before .length-fits .ensures) ∙ not-true _ (c .if1 .taken)))
@@ -25,7 +26,7 @@ put-slot-requires : tie.Need-put-slot-requires
 put-slot-requires c κs = search needs
 
 same-length-2 : tie.Need-same-length-2
-same-length-2 c = search needs
+same-length-2 c = omega arith
 
 returns-2 : tie.Need-returns-2
 returns-2 c =
@@ -34,26 +35,26 @@ returns-2 c =
     (w .0, c .before .before .put-slot .ensures ∙ w .1)
 
 same-length-3 : tie.Need-same-length-3
-same-length-3 c = search needs
+same-length-3 c = omega arith
 
 returns-3 : tie.Need-returns-3
 returns-3 c = told (put-other _ _ _ _ _ (c .before .before .before .before .before .before .slot-at .ensures) _ (c .before .before .before .before .slot-length .ensures) (sym (c .before .before .before .length-fits .ensures) ∙ not-false _ (c .before .before .if1 .left)) (c .before .if2 .left) (c .if3 .taken))
 
 add-same-bytes : tie.Need-add-same-bytes
-add-same-bytes c = search needs
+add-same-bytes c = omega arith
 
 same-bytes-requires : tie.Need-same-bytes-requires
 same-bytes-requires c κs = search needs
 
 same-length-4 : tie.Need-same-length-4
-same-length-4 c = search needs
+same-length-4 c = omega arith
 
 returns-4 : tie.Need-returns-4
 returns-4 c =
     told (put-same _ _ _ _ _ (c .before .before .before .before .before .before .before .before .before .slot-at .ensures) _ (c .before .before .before .before .before .before .before .slot-length .ensures) (sym (c .before .before .before .before .before .before .length-fits .ensures) ∙ not-false _ (c .before .before .before .before .before .if1 .left)) (c .before .before .before .before .if2 .left) (c .before .before .before .if3 .left) _ (c .before .same-bytes .ensures) (c .if4 .taken))
 
 same-length-5 : tie.Need-same-length-5
-same-length-5 c = search needs
+same-length-5 c = omega arith
 
 returns-5 : tie.Need-returns-5
 returns-5 c =
