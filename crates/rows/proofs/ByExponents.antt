@@ -2,7 +2,7 @@
 -- Assumes nothing.
 use mathlib.Core.Path.{_≡_, sym, ap, ap₂, _∙_}
 use mathlib.Core.List.{List}
-use Prim.Native.Nat.{ℕ, _+_, _-_, _<_}
+use Prim.Native.Nat.{ℕ, _+_, _-_, _≤_, _<_}
 use native.Mathlib.Omega.{arith}
 use lib.ListN.{getD}
 use Rattle.field.specs.Field.{product, power}
@@ -28,3 +28,6 @@ zero-raised c r e = sym (ap (λ (x : ℕ). product x r) e ∙ zero-product r)
 
 pub zero-over : (a b : ℕ) → a ≡ 0 → product 0 b ≡ a
 zero-over a b e = zero-product b ∙ sym e
+
+pub round-down : (e : ℕ) → 255 ≤ e → power (e - 255) ≡ power e
+round-down e h = let q : e - 255 + 255 ≡ e = omega arith in sym (power-period (e - 255)) ∙ ap power q

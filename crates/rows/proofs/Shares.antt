@@ -1,9 +1,9 @@
 -- The laws of the terms c · α^(a · j), and of their sums over places.
 -- Assumes nothing.
-use mathlib.Core.Path.{_≡_, refl, sym, ap, ap₂, _∙_}
+use mathlib.Core.Path.{_≡_, sym, ap, ap₂, _∙_}
 use mathlib.Core.Bool.{Bool}
 use mathlib.Core.List.{List}
-use Prim.Native.Nat.{ℕ, zero, suc, _+_, _-_, _*_, _≤_, _<_}
+use Prim.Native.Nat.{ℕ, suc, _+_, _-_, _≤_, _<_}
 use native.Mathlib.Nat.{mul-comm}
 use native.Mathlib.Numerals.{add-one}
 use native.Mathlib.Omega.{arith}
@@ -12,7 +12,7 @@ use lib.Seq.{drop-cons}
 use Rattle.ground.specs.Bits.{sum}
 use Rattle.ground.proofs.Sums.{sum-assoc, sum-comm, sum-self, sum-zero, sum-cancel}
 use Rattle.field.specs.Field.{product, expo, power}
-use Rattle.field.proofs.Laws.{product-comm, product-assoc, expo-power}
+use Rattle.field.proofs.Laws.{product-comm, product-assoc, product-power, zero-product, expo-power}
 use Rattle.code.specs.Value.{value}
 use Rattle.code.proofs.Weights.{expo-zero, expo-suc, one-product}
 use Rattle.code.proofs.Values.{value-nil, value-cons}
@@ -31,6 +31,21 @@ term-next c a j t e =
     ap (λ (x : ℕ). product x (power a)) e
     ∙ product-assoc c (expo (power a) j) (power a)
     ∙ ap (product c) (product-comm (expo (power a) j) (power a) ∙ sym (expo-suc (power a) j) ∙ ap (expo (power a)) (sym (add-one j)))
+
+-- by exponents
+pub term-moved : (c a j e r : ℕ) → power e ≡ product c (expo (power a) j) → power r ≡ power (e + a) → power r ≡ product c (expo (power a) (j + 1))
+term-moved c a j e r p q = q ∙ sym (product-power e a) ∙ term-next c a j (power e) p
+
+-- what is 0 adds nothing
+pub term-nothing : (c a : ℕ) (s : List ℕ) → c ≡ 0 → length s ≡ 16 → Termed c a s s
+term-nothing c a s z long =
+    record {
+      sized = long;
+      entry =
+          λ j h. sym (ap (λ (x : ℕ). sum (getD s j 0) (product x (expo (power a) j))) z
+          ∙ ap (sum (getD s j 0)) (zero-product (expo (power a) j))
+          ∙ sum-zero (getD s j 0));
+    }
 
 -- α^(a · j) either way round
 pub expo-swap : (a j : ℕ) → expo (power a) j ≡ expo (power j) a

@@ -8,17 +8,20 @@ ghost use Rattle.code.specs.Value.{value};
 ghost use Rattle.rows.specs.InnerErrata.{Termed, Placed, Agreeing, Nought};
 use crate::factors;
 
-// The sums s, with what c at the place a adds.
+// The sums s, with what c at the place a adds. The terms are told by their exponents, each a more than the one before.
 fn add_term(s: [u8; 16], c: u8, a: usize, powers: &[u8; 512], logs: &[u8; 256]) -> [u8; 16]
     requires { ⌜ (a < 255) × Powers (now powers) × Logs (now logs) ⌝ }
     ensures { λ r. ⌜ Termed c a s r ⌝ }
 {
     let mut out = s;
-    let mut term = c;
+    if c == 0 {
+        return out;
+    }
+    let mut e = factors::log(logs, c);
     let mut j: usize = 0;
     while j < 16 {
-        out[j] = out[j] ^ term;
-        term = factors::raised(powers, logs, term, a);
+        out[j] = out[j] ^ powers[e];
+        e = factors::round(e + a);
         j += 1;
     }
     out
