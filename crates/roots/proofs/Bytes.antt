@@ -1,14 +1,15 @@
 -- The bytes of a word: sums, and the products of a byte from those of its half bytes.
 -- Assumes nothing.
-use mathlib.Core.Path.{_≡_, sym, ap, ap₂, _∙_}
+use mathlib.Core.Path.{_≡_, refl, sym, ap, ap₂, _∙_}
 use mathlib.Core.List.{List}
-use Prim.Native.Nat.{ℕ, _+_, _*_, _/_, _%_, _^_, _<_}
-use native.Mathlib.Nat.{zero-div}
+use Prim.Native.Nat.{ℕ, zero, suc, _+_, _*_, _/_, _%_, _^_, _<_, _≤_}
+use native.Mathlib.Nat.{zero-div, div-div-eq-div-mul, mul-assoc, mul-add, mul-one, not-suc-le-zero, le-of-suc-le-suc}
 use native.Mathlib.Omega.{arith}
 use lib.ListN.{getD}
-use lib.Bits.{bitXor, xor-shr, xor-mod, xor-shifted}
+use lib.Pow.{pow-add}
+use lib.Bits.{bitXor, bitAnd, bitOr, and-shr, and-mod, or-shr, or-mod, and-le-r, xor-shr, xor-mod, xor-shifted}
 use Rattle.ground.specs.Bits.{sum}
-use Rattle.ground.proofs.Sums.{sum-comm}
+use Rattle.ground.proofs.Sums.{sum-comm, sum-self}
 use Rattle.field.specs.Field.{product, power}
 use Rattle.field.proofs.Laws.{product-sum-left}
 use Rattle.roots.specs.InnerWords.{byteAt, Words}
@@ -33,3 +34,85 @@ looked t words i x k hi hx hk =
     ∙ ap₂ sum (words .low i (x % 16) k hi (omega arith) hk) (words .high i (x / 16) k hi (omega arith) hk)
     ∙ sym (product-sum-left (x % 16) (x / 16 * 16) p)
     ∙ ap (λ (y : ℕ). product y p) (halves x)
+
+-- ---- a byte that is 0
+
+-- a byte more at the end moves the others up
+pub push-digit : (k x b : ℕ) → b < 256 → (x * 256 + b) / 2 ^ (suc k * 8) ≡ x / 2 ^ (k * 8)
+push-digit k x b h =
+    let e : suc k * 8 ≡ 8 + k * 8 = omega arith in
+    let d : (x * 256 + b) / 256 ≡ x = omega arith in
+    ap (λ (n : ℕ). (x * 256 + b) / 2 ^ n) e ∙ ap (λ (n : ℕ). (x * 256 + b) / n) (pow-add 2 8 (k * 8))
+    ∙ sym (div-div-eq-div-mul (x * 256 + b) 256 (2 ^ (k * 8))) ∙ ap (λ (n : ℕ). n / 2 ^ (k * 8)) d
+
+-- n bytes, each 1
+unfoldable ones : ℕ → ℕ
+ones zero = zero
+ones (suc n) = ones n * 256 + 1
+
+ones-byte : (n y k : ℕ) → y < 256 → k < n → byteAt (y * ones n) k ≡ y
+unfolding ones byteAt
+ones-byte zero y k h l = absurd (not-suc-le-zero l)
+ones-byte (suc n) y k h l = ap (λ (z : ℕ). z / 2 ^ (k * 8) % 256) (spread y n) ∙ at (λ j b. ones-byte n y j h b) k l
+  where
+    spread : (a m : ℕ) → a * (ones m * 256 + 1) ≡ a * ones m * 256 + a
+    spread a m = mul-add a (ones m * 256) 1 ∙ ap₂ _+_ (sym (mul-assoc a (ones m) 256)) (mul-one a)
+
+    at : ((j : ℕ) → j < n → byteAt (y * ones n) j ≡ y) → (j : ℕ) → j < suc n → (y * ones n * 256 + y) / 2 ^ (j * 8) % 256 ≡ y
+    at less zero b = omega arith
+    at less (suc j) b = ap (λ (z : ℕ). z % 256) (push-digit j (y * ones n) y h) ∙ less j (le-of-suc-le-suc b)
+
+pub each-byte : (y k : ℕ) → y < 256 → k < 8 → byteAt (y * 0x0101010101010101) k ≡ y
+unfolding ones
+each-byte y k h l = ones-byte 8 y k h l
+
+byte-and : (a b k : ℕ) → byteAt (bitAnd a b) k ≡ bitAnd (byteAt a k) (byteAt b k)
+unfolding byteAt
+byte-and a b k = ap (λ (z : ℕ). z % 256) (and-shr a b (k * 8)) ∙ and-mod (a / 2 ^ (k * 8)) (b / 2 ^ (k * 8)) 8
+
+byte-or : (a b k : ℕ) → byteAt (bitOr a b) k ≡ bitOr (byteAt a k) (byteAt b k)
+unfolding byteAt
+byte-or a b k = ap (λ (z : ℕ). z % 256) (or-shr a b (k * 8)) ∙ or-mod (a / 2 ^ (k * 8)) (b / 2 ^ (k * 8)) 8
+
+-- where a byte of a is 0, and no lower byte passes 127, the sum with 127 in each byte has 127 there
+no-carry : (a k : ℕ) → k < 8 → a % 2 ^ (k * 8) ≤ 0x7F7F7F7F7F7F7F7F % 2 ^ (k * 8) → byteAt a k ≡ 0 → byteAt (a + 0x7F7F7F7F7F7F7F7F) k ≡ 127
+unfolding byteAt
+no-carry a zero h l e = omega arith
+no-carry a (suc zero) h l e = omega arith
+no-carry a (suc (suc zero)) h l e = omega arith
+no-carry a (suc (suc (suc zero))) h l e = omega arith
+no-carry a (suc (suc (suc (suc zero)))) h l e = omega arith
+no-carry a (suc (suc (suc (suc (suc zero))))) h l e = omega arith
+no-carry a (suc (suc (suc (suc (suc (suc zero)))))) h l e = omega arith
+no-carry a (suc (suc (suc (suc (suc (suc (suc zero))))))) h l e = omega arith
+no-carry a (suc (suc (suc (suc (suc (suc (suc (suc k)))))))) h l e = absurd (omega arith)
+
+high-byte : (k : ℕ) → k < 8 → byteAt 0x8080808080808080 k ≡ 128
+unfolding byteAt
+high-byte zero h = refl
+high-byte (suc zero) h = refl
+high-byte (suc (suc zero)) h = refl
+high-byte (suc (suc (suc zero))) h = refl
+high-byte (suc (suc (suc (suc zero)))) h = refl
+high-byte (suc (suc (suc (suc (suc zero))))) h = refl
+high-byte (suc (suc (suc (suc (suc (suc zero)))))) h = refl
+high-byte (suc (suc (suc (suc (suc (suc (suc zero))))))) h = refl
+high-byte (suc (suc (suc (suc (suc (suc (suc (suc k)))))))) h = absurd (omega arith)
+
+-- the test: the highest bit of a byte of 0 stays 0
+nought-seen : (x k : ℕ) → k < 8 → byteAt x k ≡ 0
+    → byteAt (bitAnd (bitOr (bitAnd x 0x7F7F7F7F7F7F7F7F + 0x7F7F7F7F7F7F7F7F) x) 0x8080808080808080) k ≡ 0
+nought-seen x k h e =
+    let a : ℕ = bitAnd x 0x7F7F7F7F7F7F7F7F in
+    let l : a % 2 ^ (k * 8) ≤ 0x7F7F7F7F7F7F7F7F % 2 ^ (k * 8) = rw (and-mod x 0x7F7F7F7F7F7F7F7F (k * 8)) (and-le-r (x % 2 ^ (k * 8)) (0x7F7F7F7F7F7F7F7F % 2 ^ (k * 8))) in
+    let z : byteAt a k ≡ 0 = byte-and x 0x7F7F7F7F7F7F7F7F k ∙ ap (λ (b : ℕ). bitAnd b (byteAt 0x7F7F7F7F7F7F7F7F k)) e in
+    byte-and (bitOr (a + 0x7F7F7F7F7F7F7F7F) x) 0x8080808080808080 k
+    ∙ ap₂ bitAnd (byte-or (a + 0x7F7F7F7F7F7F7F7F) x k ∙ ap₂ bitOr (no-carry a k h l z) e) (high-byte k h)
+
+pub none-is : (w y x k : ℕ) → y < 256 → x ≡ bitXor w (y * 0x0101010101010101)
+    → bitAnd (bitOr (bitAnd x 0x7F7F7F7F7F7F7F7F + 0x7F7F7F7F7F7F7F7F) x) 0x8080808080808080 ≡ 0x8080808080808080 → k < 8 → byteAt w k ≡ y → ⊥
+none-is w y x k fit d t h e =
+    let z : byteAt x k ≡ 0 =
+    ap (λ (b : ℕ). byteAt b k) d ∙ byte-sum w (y * 0x0101010101010101) k ∙ ap₂ sum e (each-byte y k fit h) ∙ sum-self y in
+    let q : _≡_ {A = ℕ} 0 128 = sym (nought-seen x k h z) ∙ ap (λ (b : ℕ). byteAt b k) t ∙ high-byte k h in
+    omega arith

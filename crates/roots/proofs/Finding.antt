@@ -117,7 +117,7 @@ cut : (f g : ℕ → Bool) (n m : ℕ) → ((k : ℕ) → k < n → f k ≡ g k)
 cut f g n m same none =
     let j : 0 + n ≡ n = omega arith in
     passing-append f n m 0
-    ∙ ap₂ _++_ (passing-same f g n 0 (λ k l h. same k (omega arith))) (passing-none f m (0 + n) (λ k l. none k (omega arith)))
+    ∙ ap₂ _++_ (passing-same f g n 0 (λ k l h. same k (omega arith))) (passing-none f m (0 + n) (λ k l b. none k (omega arith)))
     ∙ append-nil (passing g n 0)
 
 within : (v : List ℕ) (k : ℕ) → k < 255 → inside v k ≡ isRoot v k

@@ -4,7 +4,7 @@ use mathlib.Core.Path.{_≡_, refl, sym, ap, subst, _∙_}
 use mathlib.Core.Logic.{⊎-elim}
 use mathlib.Core.Bool.{Bool, true, false, cond, _&&_}
 use mathlib.Core.List.{List, [], _∷_, _++_, append-assoc, append-nil}
-use Prim.Native.Nat.{ℕ, _+_, _≤_, _<_}
+use Prim.Native.Nat.{ℕ, _+_, _-_, _≤_, _<_}
 use native.Mathlib.Numerals.{add-one}
 use native.Mathlib.Omega.{arith}
 use borrow.Author.Tests.{eqb-true, eqb-false, ltb-true, ltb-false}
@@ -14,7 +14,7 @@ use lib.Seq.{take-all, take-append-le, length-take-le, getD-append-seam, getD-se
 use Rattle.roots.specs.Roots.{passing}
 use Rattle.roots.specs.InnerWords.{byteAt, Held}
 use Rattle.ground.proofs.Numbers.{lt-or-ge, same-or-not}
-use Rattle.roots.proofs.Passing.{single, passing-more}
+use Rattle.roots.proofs.Passing.{single, passing-more, passing-none}
 
 pub held-nothing : (at : List ℕ) → at ≡ replicate 16 0 → Held [] 0 at
 held-nothing at e =
@@ -125,3 +125,16 @@ looking-end {w} {y} {e} {n₀} {at₀} {n} {at} {k} was h l f a b =
     let le : k ≤ 8 = was .within in
     let i : k ≡ 8 = omega arith in
     rw i at (was .held l f a b)
+
+-- none of the eight bytes is y
+pub looking-none : (w y e n : ℕ) (at : List ℕ) → ((k : ℕ) → k < 8 → byteAt w k ≡ y → ⊥)
+    → (l : List ℕ) (f : ℕ → Bool) → ((j : ℕ) → j < 8 → f (e + 1 + j) ≡ (eqb (byteAt w j) y && ltb (e + 1 + j) 255)) → Held l n at
+    → Held (l ++ passing f 8 (e + 1)) n at
+looking-none w y e n at none l f a h = rw (passing-none f 8 (e + 1) fails) (rw (append-nil l) h)
+  where
+    fails : (k : ℕ) → e + 1 ≤ k → k < e + 1 + 8 → f k ≡ false
+    fails k b c =
+        let j : ℕ = k - (e + 1) in
+        let q : e + 1 + j ≡ k = omega arith in
+        let i : j < 8 = omega arith in
+        ap f (sym q) ∙ a j i ∙ differs (byteAt w j) y (e + 1 + j) (none j i)

@@ -47,8 +47,8 @@ passing-same f g (suc n) e h =
     ap₂ (λ (b : Bool) (l : List ℕ). cond b (e ∷ l) l) (h e (le-refl e) (omega arith)) (passing-same f g n (suc e) (λ k l b. h k (omega arith) (omega arith)))
 
 -- none passes
-pub passing-none : (f : ℕ → Bool) (n e : ℕ) → ((k : ℕ) → e ≤ k → f k ≡ false) → passing f n e ≡ []
+pub passing-none : (f : ℕ → Bool) (n e : ℕ) → ((k : ℕ) → e ≤ k → k < e + n → f k ≡ false) → passing f n e ≡ []
 unfolding passing
 passing-none f zero e h = refl
 passing-none f (suc n) e h =
-    ap₂ (λ (b : Bool) (l : List ℕ). cond b (e ∷ l) l) (h e (le-refl e)) (passing-none f n (suc e) (λ k l. h k (omega arith)))
+    ap₂ (λ (b : Bool) (l : List ℕ). cond b (e ∷ l) l) (h e (le-refl e) (omega arith)) (passing-none f n (suc e) (λ k l b. h k (omega arith) (omega arith)))

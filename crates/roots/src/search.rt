@@ -1,6 +1,6 @@
 // The roots that are found, in the order of their exponents: the first sixteen are kept.
 ghost use mathlib.Core.Path.{_≡_};
-ghost use mathlib.Core.Bool.{Bool, cond, _&&_};
+ghost use mathlib.Core.Bool.{Bool, true, cond, _&&_};
 ghost use mathlib.Core.List.{List, [], _∷_, _++_};
 ghost use Prim.Native.Nat.{ℕ, _+_, _<_};
 ghost use lib.Dec.{eqb, ltb};
@@ -27,8 +27,28 @@ pub(crate) fn note(at: &mut [u8; 16], n: usize, x: u8, y: u8, e: usize) -> usize
     n + 1
 }
 
+// Whether no byte of the word is y, told at once for most words: where a byte of x is 0, the addition leaves its highest bit 0, and no addition carries into the next byte.
+fn has_none(w: u64, y: u8) -> bool
+    ensures { λ r. ⌜ (r ≡ true → (k : ℕ) → k < 8 → byteAt w k ≡ y → ⊥) ⌝ }
+{
+    let x = w ^ (words::wide(y) * 0x0101010101010101);
+    let s = (x & 0x7F7F7F7F7F7F7F7F) + 0x7F7F7F7F7F7F7F7F;
+    ((s | x) & 0x8080808080808080) == 0x8080808080808080
+}
+
 // Keeps those of the exponents e + 1 to e + 8 at which the byte of the word equals y.
 pub(crate) fn look(at: &mut [u8; 16], n: usize, w: u64, y: u8, e: usize) -> usize
+    requires { ⌜ (length (now at) ≡ 16) × (e < 256) ⌝ }
+    ensures { λ r. ⌜ (length (now (at .exit)) ≡ 16) × ((l : List ℕ) (f : ℕ → Bool) → ((k : ℕ) → k < 8 → f (e + 1 + k) ≡ (eqb (byteAt w k) y && ltb (e + 1 + k) 255)) → Held l n (now (at .entry)) → Held (l ++ passing f 8 (e + 1)) r (now (at .exit))) ⌝ }
+{
+    if has_none(w, y) {
+        return n;
+    }
+    look_each(at, n, w, y, e)
+}
+
+// The same, byte by byte.
+fn look_each(at: &mut [u8; 16], n: usize, w: u64, y: u8, e: usize) -> usize
     requires { ⌜ (length (now at) ≡ 16) × (e < 256) ⌝ }
     ensures { λ r. ⌜ (length (now (at .exit)) ≡ 16) × ((l : List ℕ) (f : ℕ → Bool) → ((k : ℕ) → k < 8 → f (e + 1 + k) ≡ (eqb (byteAt w k) y && ltb (e + 1 + k) 255)) → Held l n (now (at .entry)) → Held (l ++ passing f 8 (e + 1)) r (now (at .exit))) ⌝ }
 {

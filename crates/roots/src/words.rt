@@ -20,6 +20,12 @@ pub(crate) fn byte(w: u64, k: u64) -> u8
     ((w >> (k * 8)) % 256) as u8
 }
 
+pub(crate) fn wide(x: u8) -> u64
+    ensures { λ r. ⌜ (r ≡ x) × (r < 256) ⌝ }
+{
+    x as u64
+}
+
 // The products of x and α^((i + 1) * (k + 1)), k from 0 to 7.
 fn word(words: &[u64; 256], i: usize, x: u8) -> u64
     requires { ⌜ (i < 8) × Words (now words) ⌝ }

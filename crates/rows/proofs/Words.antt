@@ -3,14 +3,13 @@
 use mathlib.Core.Path.{_≡_, refl, sym, ap, ap₂, _∙_}
 use mathlib.Core.List.{List, [], _∷_, _++_}
 use Prim.Native.Nat.{ℕ, zero, suc, _+_, _*_, _/_, _%_, _^_, _<_}
-use native.Mathlib.Nat.{div-div-eq-div-mul}
 use native.Mathlib.Omega.{arith}
 use lib.ListN.{length, length-append}
-use lib.Pow.{pow-add}
 use lib.Bits.{bitXor, xor-shr, xor-mod}
 use Rattle.ground.specs.Bits.{sum}
 use Rattle.code.specs.Code.{add}
 use Rattle.code.proofs.Lists.{zeros}
+use Rattle.roots.proofs.Bytes.{push-digit}
 use Rattle.rows.specs.InnerRegister.{unpack, both}
 
 pub length-unpack : (k w : ℕ) → length (unpack k w) ≡ k
@@ -52,13 +51,6 @@ both-xor h l x y =
     ∙ sym (add-beside (unpack 8 h) (unpack 8 l) (unpack 8 x) (unpack 8 y) (length-unpack 8 h ∙ sym (length-unpack 8 x)))
 
 -- ---- a byte more at the end
-
-push-digit : (k x b : ℕ) → b < 256 → (x * 256 + b) / 2 ^ (suc k * 8) ≡ x / 2 ^ (k * 8)
-push-digit k x b h =
-    let e : suc k * 8 ≡ 8 + k * 8 = omega arith in
-    let d : (x * 256 + b) / 256 ≡ x = omega arith in
-    ap (λ (n : ℕ). (x * 256 + b) / 2 ^ n) e ∙ ap (λ (n : ℕ). (x * 256 + b) / n) (pow-add 2 8 (k * 8))
-    ∙ sym (div-div-eq-div-mul (x * 256 + b) 256 (2 ^ (k * 8))) ∙ ap (λ (n : ℕ). n / 2 ^ (k * 8)) d
 
 pub unpack-push : (k x b : ℕ) → b < 256 → unpack (suc k) (x * 256 + b) ≡ unpack k x ++ (b ∷ [])
 unfolding unpack

@@ -1,59 +1,23 @@
--- `roots::search::look` looks at one byte after the other (`Looking`).
+-- `roots::search::look` passes over a word in which there is nothing to keep.
 -- Assumes nothing.
-use Prim.Native.Nat.{_-_}
-use native.Mathlib.Omega.{arith}
-use Rattle.roots.proofs.Holding.{Looking, looking-start, looking-more, looking-end}
+use Rattle.roots.proofs.Holding.{looking-none}
+use borrow.Author.Needs.{needs}
 use Rattle.roots.proofs.search.look.Statement.{statement}
 use Rattle.roots.proofs.search.look.Tie as tie
 
-abbrev Inv-loop : tie.InvT-loop
-Inv-loop at₀ n w y e m₀ k₀ at m k = Looking w y e n at₀ m at k
+has-none-requires : tie.Need-has-none-requires
+has-none-requires c κs = tt
 
-abbrev μ-loop : tie.MeasureT-loop
-μ-loop at₀ n w y e m₀ k₀ at m k = 8 - k
-
-loop-holds : tie.Need-loop-holds Inv-loop μ-loop
-loop-holds c = looking-start _ _ _ _ _ (c .pre .0)
-
-byte-requires : tie.Need-byte-requires Inv-loop μ-loop
-byte-requires c κs = omega arith
-
-add-note : tie.Need-add-note Inv-loop μ-loop
-add-note c = omega arith
-
-add-note-2 : tie.Need-add-note-2 Inv-loop μ-loop
-add-note-2 c = omega arith
-
-note-requires : tie.Need-note-requires Inv-loop μ-loop
-note-requires c κs = c .before .before .before .loop .inv .sized
-
-add-k : tie.Need-add-k Inv-loop μ-loop
-add-k c = omega arith
-
-loop-less : tie.Need-loop-less Inv-loop μ-loop
-loop-less c = omega arith
-
-loop-again : tie.Need-loop-again Inv-loop μ-loop
-loop-again c =
-    looking-more (c .before .before .before .before .loop .inv) (omega arith) _ (c .before .byte .ensures) _ _ (c .note .ensures .0) (c .note .ensures .1)
-
-returns : tie.Need-returns Inv-loop μ-loop
+returns : tie.Need-returns
 returns c =
-    let inv = c .before .loop .inv in
-    (inv .sized, looking-end inv (omega arith))
+    let start = c .before .before in
+    (start .pre .0, looking-none (start .args .w) (start .args .y) (start .args .e) _ _ (c .before .has-none .ensures (c .if1 .taken)))
+
+look-each-requires : tie.Need-look-each-requires
+look-each-requires c κs = search needs
+
+returns-2 : tie.Need-returns-2
+returns-2 c = search needs
 
 pub look-spec : {M : Type 1} → statement M
-look-spec =
-    tie.close
-    (tie.spec
-    Inv-loop
-    μ-loop
-    loop-holds
-    byte-requires
-    add-note
-    add-note-2
-    note-requires
-    add-k
-    loop-less
-    loop-again
-    returns)
+look-spec = tie.close (tie.spec has-none-requires returns look-each-requires returns-2)
