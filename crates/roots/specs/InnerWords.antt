@@ -1,12 +1,15 @@
 -- Vocabulary of the private functions that search for roots. Nobody needs to believe it: no contract of a public call cites it.
 -- Assumes nothing.
 use mathlib.Core.Path.{_≡_}
-use mathlib.Core.List.{List}
+use mathlib.Core.Bool.{Bool, cond, _&&_}
+use mathlib.Core.List.{List, [], _∷_, _++_}
 use Prim.Native.Nat.{ℕ, suc, _+_, _*_, _/_, _%_, _^_, _<_}
+use lib.Dec.{eqb, ltb}
 use lib.ListN.{length, getD, take}
 use Rattle.ground.specs.Bits.{sum}
 use Rattle.field.specs.Field.{product, power}
 use Rattle.code.specs.Value.{eval}
+use Rattle.roots.specs.Roots.{passing}
 
 -- byte k of a word, the lowest one counted 0
 unfoldable pub byteAt : ℕ → ℕ → ℕ
@@ -35,3 +38,13 @@ pub record Held (l : List ℕ) (n : ℕ) (at : List ℕ) : Type 0 where
   pub sized : length at ≡ 16
   pub count : n ≡ length (take 16 l)
   pub entry : (k : ℕ) → k < 16 → getD at k 0 ≡ getD l k 0
+
+-- e is held besides, where x is y and e is below 255
+pub record Noted (x y e n : ℕ) (at : List ℕ) (r : ℕ) (out : List ℕ) : Type 0 where
+  pub sized : length out ≡ 16
+  pub held : (l : List ℕ) → Held l n at → Held (l ++ cond (eqb x y && ltb e 255) (e ∷ []) []) r out
+
+-- those of e + 1 to e + 8 are held besides that pass f, which are the ones below 255 at which the byte of w is y
+pub record Looked (w y e n : ℕ) (at : List ℕ) (r : ℕ) (out : List ℕ) : Type 0 where
+  pub sized : length out ≡ 16
+  pub held : (l : List ℕ) (f : ℕ → Bool) → ((k : ℕ) → k < 8 → f (e + 1 + k) ≡ (eqb (byteAt w k) y && ltb (e + 1 + k) 255)) → Held l n at → Held (l ++ passing f 8 (e + 1)) r out

@@ -1,18 +1,15 @@
 // The roots that are found, in the order of their exponents: the first sixteen are kept.
 ghost use mathlib.Core.Path.{_≡_};
-ghost use mathlib.Core.Bool.{Bool, true, cond, _&&_};
-ghost use mathlib.Core.List.{List, [], _∷_, _++_};
+ghost use mathlib.Core.Bool.{true};
 ghost use Prim.Native.Nat.{ℕ, _+_, _<_};
-ghost use lib.Dec.{eqb, ltb};
 ghost use lib.ListN.{length};
-ghost use Rattle.roots.specs.Roots.{passing};
-ghost use Rattle.roots.specs.InnerWords.{byteAt, Held};
+ghost use Rattle.roots.specs.InnerWords.{byteAt, Noted, Looked};
 use crate::words;
 
 // Keeps the exponent e where x equals y, unless it is 255 or more or sixteen are kept already.
 pub(crate) fn note(at: &mut [u8; 16], n: usize, x: u8, y: u8, e: usize) -> usize
     requires { ⌜ length (now at) ≡ 16 ⌝ }
-    ensures { λ r. ⌜ (length (now (at .exit)) ≡ 16) × ((l : List ℕ) → Held l n (now (at .entry)) → Held (l ++ cond (eqb x y && ltb e 255) (e ∷ []) []) r (now (at .exit))) ⌝ }
+    ensures { λ r. ⌜ Noted x y e n (now (at .entry)) r (now (at .exit)) ⌝ }
 {
     if x != y {
         return n;
@@ -27,7 +24,7 @@ pub(crate) fn note(at: &mut [u8; 16], n: usize, x: u8, y: u8, e: usize) -> usize
     n + 1
 }
 
-// Whether no byte of the word is y, told at once for most words: where a byte of x is 0, the addition leaves its highest bit 0, and no addition carries into the next byte.
+// True only where no byte of the word is y: it makes a byte of 0 in x, whose highest bit the addition leaves 0. No byte carries into the next.
 fn has_none(w: u64, y: u8) -> bool
     ensures { λ r. ⌜ (r ≡ true → (k : ℕ) → k < 8 → byteAt w k ≡ y → ⊥) ⌝ }
 {
@@ -39,7 +36,7 @@ fn has_none(w: u64, y: u8) -> bool
 // Keeps those of the exponents e + 1 to e + 8 at which the byte of the word equals y.
 pub(crate) fn look(at: &mut [u8; 16], n: usize, w: u64, y: u8, e: usize) -> usize
     requires { ⌜ (length (now at) ≡ 16) × (e < 256) ⌝ }
-    ensures { λ r. ⌜ (length (now (at .exit)) ≡ 16) × ((l : List ℕ) (f : ℕ → Bool) → ((k : ℕ) → k < 8 → f (e + 1 + k) ≡ (eqb (byteAt w k) y && ltb (e + 1 + k) 255)) → Held l n (now (at .entry)) → Held (l ++ passing f 8 (e + 1)) r (now (at .exit))) ⌝ }
+    ensures { λ r. ⌜ Looked w y e n (now (at .entry)) r (now (at .exit)) ⌝ }
 {
     if has_none(w, y) {
         return n;
@@ -50,7 +47,7 @@ pub(crate) fn look(at: &mut [u8; 16], n: usize, w: u64, y: u8, e: usize) -> usiz
 // The same, byte by byte.
 fn look_each(at: &mut [u8; 16], n: usize, w: u64, y: u8, e: usize) -> usize
     requires { ⌜ (length (now at) ≡ 16) × (e < 256) ⌝ }
-    ensures { λ r. ⌜ (length (now (at .exit)) ≡ 16) × ((l : List ℕ) (f : ℕ → Bool) → ((k : ℕ) → k < 8 → f (e + 1 + k) ≡ (eqb (byteAt w k) y && ltb (e + 1 + k) 255)) → Held l n (now (at .entry)) → Held (l ++ passing f 8 (e + 1)) r (now (at .exit))) ⌝ }
+    ensures { λ r. ⌜ Looked w y e n (now (at .entry)) r (now (at .exit)) ⌝ }
 {
     let mut m = n;
     let mut k: usize = 0;

@@ -36,7 +36,7 @@ loop-holds c =
     let last = c .before .before .before in
     let v : List ℕ = last .before .before .args .t1 in
     let fit : (i : ℕ) → mir.Val.Fits mir.Syntax.w8 (getD v i 0) = λ i. search needs in
-    finding-start v _ _ _ _ (λ i. fit i .fits) (last .last .ensures .1) (c .before .at-one .ensures) (c .note .ensures .1)
+    finding-start v _ _ _ _ (λ i. fit i .fits) (last .last .ensures .1) (c .before .at-one .ensures) (c .note .ensures .held)
 
 move-on-requires : tie.Need-move-on-requires Inv-loop μ-loop
 move-on-requires c κs =
@@ -58,7 +58,7 @@ loop-less c = omega arith
 loop-again : tie.Need-loop-again Inv-loop μ-loop
 loop-again c =
     let turn = c .before .before in
-    finding-more (turn .before .before .before .before .loop .inv) _ _ (turn .move-on .ensures) (omega arith) _ _ (c .look .ensures .1)
+    finding-more (turn .before .before .before .before .loop .inv) _ _ (turn .move-on .ensures) (omega arith) _ _ (c .look .ensures .held)
 
 returns : tie.Need-returns Inv-loop μ-loop
 returns c = finding-end (c .before .loop .inv) (omega arith)

@@ -11,7 +11,7 @@ has-none-requires c κs = tt
 returns : tie.Need-returns
 returns c =
     let start = c .before .before in
-    (start .pre .0, looking-none (start .args .w) (start .args .y) (start .args .e) _ _ (c .before .has-none .ensures (c .if1 .taken)))
+    record { sized = start .pre .0; held = looking-none (start .args .w) (start .args .y) (start .args .e) _ _ (c .before .has-none .ensures (c .if1 .taken)) }
 
 look-each-requires : tie.Need-look-each-requires
 look-each-requires c κs = search needs

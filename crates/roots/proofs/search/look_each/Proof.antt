@@ -35,12 +35,12 @@ loop-less c = omega arith
 
 loop-again : tie.Need-loop-again Inv-loop μ-loop
 loop-again c =
-    looking-more (c .before .before .before .before .loop .inv) (omega arith) _ (c .before .byte .ensures) _ _ (c .note .ensures .0) (c .note .ensures .1)
+    looking-more (c .before .before .before .before .loop .inv) (omega arith) _ (c .before .byte .ensures) _ _ (c .note .ensures .sized) (c .note .ensures .held)
 
 returns : tie.Need-returns Inv-loop μ-loop
 returns c =
     let inv = c .before .loop .inv in
-    (inv .sized, looking-end inv (omega arith))
+    record { sized = inv .sized; held = looking-end inv (omega arith) }
 
 pub look-each-spec : {M : Type 1} → statement M
 look-each-spec =

@@ -13,17 +13,17 @@ use Rattle.roots.proofs.search.note.Tie as tie
 returns : tie.Need-returns
 returns c =
     let a = c .before .args in
-    (c .before .pre, λ l h. held-same h _ (a .e) (differs (a .x) (a .y) (a .e) (c .if1 .taken)))
+    record { sized = c .before .pre; held = λ l h. held-same h _ (a .e) (differs (a .x) (a .y) (a .e) (c .if1 .taken)) }
 
 returns-2 : tie.Need-returns-2
 returns-2 c =
     let a = c .before .before .args in
-    (c .before .before .pre, λ l h. held-same h _ (a .e) (beyond (a .x) (a .y) (a .e) (omega arith)))
+    record { sized = c .before .before .pre; held = λ l h. held-same h _ (a .e) (beyond (a .x) (a .y) (a .e) (omega arith)) }
 
 returns-3 : tie.Need-returns-3
 returns-3 c =
     let a = c .before .before .before .args in
-    (c .before .before .before .pre, λ l h. held-full h (eqb (a .x) (a .y) && ltb (a .e) 255) (a .e) (omega arith))
+    record { sized = c .before .before .before .pre; held = λ l h. held-full h (eqb (a .x) (a .y) && ltb (a .e) 255) (a .e) (omega arith) }
 
 cast-at : tie.Need-cast-at
 cast-at c = search needs
@@ -38,7 +38,7 @@ returns-4 : tie.Need-returns-4
 returns-4 c =
     let start = c .before .before .before in
     let a = start .args in
-    (length-set (a .at .now) (a .n) (a .e) ∙ start .pre, λ l h. held-more h _ (a .e) (passes (a .x) (a .y) (a .e) (c .before .before .if1 .left) (omega arith)) (omega arith))
+    record { sized = length-set (a .at .now) (a .n) (a .e) ∙ start .pre; held = λ l h. held-more h _ (a .e) (passes (a .x) (a .y) (a .e) (c .before .before .if1 .left) (omega arith)) (omega arith) }
 
 pub note-spec : {M : Type 1} → statement M
 note-spec =
