@@ -61,9 +61,10 @@ reference:
 	@reference/test.py
 	@reference/compare
 
-# what `cases` prints, from the proved program itself
+# what `cases` prints, from the proved program itself, and random files of cases beside the second program
 cases:
 	@rt check cases
+	@tests/random-cases
 
 command: build/run
 	@tests/demo build/run
