@@ -19,7 +19,7 @@ CFLAGS = -std=gnu11 -O2 -Wall -Wextra -Wconversion -Iinclude
 sources = crates.txt $(shell find crates -path '*/must-fail' -prune -o -type f -print)
 command = $(wildcard command/*.c) command/command.h include/brithelva.h
 
-.PHONY: all test quick c-tests style reference cases demo command kill steps limits example bench fuzz install uninstall clean
+.PHONY: all test quick c-tests style reference cases demo command checked kill steps limits example bench fuzz install uninstall clean
 
 all: build/run
 
@@ -49,6 +49,9 @@ test: quick
 quick: style reference
 	@if $(tools) $(CC_FOR); then $(MAKE) --no-print-directory c-tests; else echo 'no C compiler for x86-64 can be had here: the tests in C are left out'; fi
 
+ifeq ($(machine),x86_64)
+c-tests: checked
+endif
 c-tests: command kill steps limits example fuzz
 
 style:
@@ -69,6 +72,13 @@ cases:
 command: build/run
 	@tests/demo build/run
 	@tests/command build/run
+
+checked: build/checked
+	@ASAN_OPTIONS=detect_leaks=0 tests/command build/checked
+
+# the command with its own faults looked for at run time
+build/checked: build/libbrithelva.a $(command)
+	@$(CC_FOR) $(CFLAGS) -g -fsanitize=address,undefined -fno-sanitize-recover=all -DBRITHELVA_VERSION='"$(VERSION)"' $(filter %.c,$(command)) build/libbrithelva.a -o $@
 
 kill: build/run
 	@tests/kill build/run
