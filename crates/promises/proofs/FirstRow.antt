@@ -204,7 +204,7 @@ first-mended = rw altered-payload (ap (λ (a : Repaired). behind a 0 (whole wron
 judged-first : firstJudged (placeOf two 1 0) (fieldsOf two zeros 0) altered ≡ cond (agrees altered body) (put 0 body) (refuse Crc)
 judged-first =
     let narrow : ltb 510 (length (payloadIn altered)) ≡ false = ap (λ (l : List ℕ). ltb 510 (length l)) altered-payload in
-    rw (not-different two zeros protected 0 (omega arith) altered copy 0, narrow) (ap (judgeMended 0 altered) first-mended)
+    rw (not-different two zeros 0 0, narrow) (ap (judgeMended 0 altered) first-mended)
 
 offered-first : firstOffer held store altered ≡ offerJudged (placeOf two 1 0) store (cond (agrees altered body) (put 0 body) (refuse Crc))
 unfolding firstOffer
