@@ -45,7 +45,6 @@ use Rattle.record.proofs.CloseLaws.{close-record, close-unknown, close-found, c
 use Rattle.promises.specs.Calls.{Call, Answer, State, step, run, fresh, names, about}
 use Rattle.promises.specs.Calls.Call.{packing, opening, offering, asking, handing, closing}
 use Rattle.promises.specs.Statements.{Protected, Copy, BringsNoOther, Fair, AllFair, Offers, Carries, HandsOut, Demand3, FreshHandsOut, FromFresh}
-use Rattle.promises.proofs.Copies.{copy-names}
 use Rattle.promises.proofs.Judged.{copy-reads, copy-judged}
 use Rattle.promises.proofs.Whole.{contents-handed}
 use Rattle.promises.proofs.Offers.{Putting, offer-effect, offer-at, put-within, put-fits}

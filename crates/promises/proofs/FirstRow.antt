@@ -2,11 +2,12 @@
 -- empty, or byte 239 of what is handed out is not the file's. Assumes nothing.
 use mathlib.Core.Path.{_≡_, refl, sym, ap, ap₂, _∙_, subst}
 use mathlib.Core.Bool.{Bool, true, false, cond}
-use mathlib.Core.List.{List, [], _∷_, _++_, map}
+use mathlib.Core.List.{List, [], _∷_, _++_, map, flatten}
 use Prim.Native.Nat.{ℕ, zero, suc, _+_, _-_, _*_, _/_, _%_, _≤_, _<_}
 use native.Mathlib.Omega.{arith}
 use lib.ListN.{length, getD, take, drop, replicate, set, length-append, take-append-drop, length-take, length-drop, drop-of-length-le}
 use lib.Seq.{take-at, drop-at, drop-drop}
+use Rattle.ground.proofs.Listed.{listed-ext, joined-all}
 use Rattle.code.specs.Code.{Bytes, distance}
 use Rattle.code.specs.Repair.{checksOf}
 use Rattle.code.specs.Cases.{rowCases}
@@ -47,7 +48,6 @@ use Rattle.record.specs.Offer.{Offering, storing, putInto, put, refuse, judgeMe
 use Rattle.promises.specs.Wrong.{firstRowOnly, firstJudged, firstOffer, mendingFirst}
 use Rattle.promises.proofs.Judged.{not-different, copy-reads}
 use Rattle.promises.proofs.Fresh.{takes}
-use Rattle.promises.proofs.Copies.{same-rows}
 use Rattle.promises.proofs.Turned.{zero-row, wrong-row, wrong-bytes, zero-coded}
 
 abbrev two : Settings
@@ -75,6 +75,14 @@ protected = record { bytes = zeros-bytes 478; some = omega arith; limit = omega 
 
 long : length (payloadOf two zeros 0) ≡ 510
 long = length-payload two zeros 0
+
+-- two lists of whole rows, row by row the same
+same-rows : (k : ℕ) (x y : List ℕ) → length x ≤ k * 255 → length y ≤ k * 255
+    → ((i : ℕ) → i < k → take 255 (drop (i * 255) x) ≡ take 255 (drop (i * 255) y)) → x ≡ y
+same-rows k x y hx hy e =
+    sym (joined-all x 255 k hx)
+    ∙ ap flatten (listed-ext (λ i. take 255 (drop (i * 255) x)) (λ i. take 255 (drop (i * 255) y)) k 0 (λ i p l. e i (omega arith)))
+    ∙ joined-all y 255 k hy
 
 zeros-payload : payloadOf two zeros 0 ≡ zero-row ++ zero-row
 zeros-payload =

@@ -1,25 +1,28 @@
 -- An altered copy of packet n, offered to the file's own place, is judged to be the packet's payload for slot n: its fields are read as packed, every row is
--- repaired to the packet's, and the CRC then agrees. Assumes nothing.
+-- repaired to the packet's, and the CRC then agrees. Hence two files that one copy serves have that payload in common. Assumes nothing.
 use mathlib.Core.Path.{_≡_, refl, sym, ap, _∙_}
 use mathlib.Core.Bool.{true, false}
 use mathlib.Core.List.{List, _++_}
 use Prim.Native.Nat.{ℕ, _+_, _*_, _≤_, _<_}
 use native.Mathlib.Omega.{arith}
-use borrow.Author.Tests.{eq-eqb}
+use borrow.Author.Tests.{eq-eqb, lt-ltb}
 use lib.ListN.{length, take, drop}
 use Rattle.crc.specs.Crc.{crc32Of}
+use Rattle.packet.specs.declared.Packet.{Packet}
 use Rattle.packet.specs.declared.Reading.the-variants.{Sent}
 use Rattle.packet.specs.declared.Settings.{Settings}
-use Rattle.packet.specs.Packet.{readOf}
+use Rattle.packet.specs.Packet.{resourceIn, readOf}
 use Rattle.packet.proofs.Laws.{SentFacts}
 use Rattle.pack.specs.Pack.{countOf, payloadOf, packetOf}
 use Rattle.pack.proofs.Laws.{fieldsOf, packet-payload, packet-front, packet-crc, packet-sent, packet-reads, payload-most, payload-coded}
 use Rattle.places.specs.Places.{placeOf}
+use Rattle.places.proofs.Truth.{and-join}
 use Rattle.record.specs.Mend.{payloadIn, crcIn, agrees}
 use Rattle.record.specs.Offer.{put, judge, differs}
 use Rattle.record.proofs.MendLaws.{Altered, Intact, read-copy}
-use Rattle.record.proofs.OfferFacts.{SameFile, same-serves}
+use Rattle.record.proofs.OfferFacts.{read-known, read-resource, SameFile, same-serves}
 use Rattle.record.proofs.OfferLaws.{judge-copy}
+use Rattle.promises.specs.Calls.{names}
 use Rattle.promises.specs.Statements.{Protected, Copy}
 
 -- a packet's fields are those of the file's own place
@@ -60,3 +63,20 @@ module _ (g : Settings) (file : List ℕ) (p : Protected g file) (n : ℕ) (belo
         judge-copy (placeOf g (countOf g (length file)) start) (fieldsOf g file n) q (packetOf g file n) altered packet-intact (own-fields g file n start)
         (λ z. omega (arith, p .protection)) (omega (arith, ap length body, payload-most g file (p .fit) n))
         ∙ ap (put n) body
+
+    pub copy-names : names (g .resource) q ≡ true
+    copy-names =
+        let least : 19 ≤ length q = read-known q (fieldsOf g file n) copy-reads .least in
+        and-join (lt-ltb 4 (length q) (omega arith)) (eq-eqb (resourceIn q) (g .resource) (sym (read-resource q (fieldsOf g file n) copy-reads)))
+
+-- one copy for two files: the number is the same, and so is the payload
+pub same-payload : (g : Settings) (a b : List ℕ) (pa : Protected g a) (pb : Protected g b) (n m : ℕ)
+    → n < countOf g (length a) → m < countOf g (length b) → (q : List ℕ) → Copy g a n q → Copy g b m q → payloadOf g a n ≡ payloadOf g b n
+same-payload g a b pa pb n m la lb q ca cb =
+    let read : Sent (fieldsOf g a n) ≡ Sent (fieldsOf g b m) = sym (copy-reads g a pa n la q ca) ∙ copy-reads g b pb m lb q cb in
+    let fields : fieldsOf g a n ≡ fieldsOf g b m = cc in
+    let judged : put n (payloadOf g a n) ≡ put m (payloadOf g b m) =
+    sym (copy-judged g a pa n la q ca 0) ∙ ap (λ (f : Packet). judge (placeOf g (f .count) 0) f q) fields ∙ copy-judged g b pb m lb q cb 0 in
+    let number : m ≡ n = cc in
+    let payload : payloadOf g a n ≡ payloadOf g b m = cc in
+    payload ∙ ap (payloadOf g b) number

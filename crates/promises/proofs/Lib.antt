@@ -1,11 +1,10 @@
 pub mod Refusals
-pub mod Copies
 pub mod Noise
+pub mod Judged
 pub mod NoSecond
 pub mod Offers
 pub mod Views
 pub mod Sequences
-pub mod Judged
 pub mod Whole
 pub mod Demand
 pub mod Fresh

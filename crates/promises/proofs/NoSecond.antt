@@ -1,7 +1,7 @@
 -- No second file fits: each offered copy is one of both files, so their payloads are the same, and the tables undone are the same file.
 -- Assumes nothing.
 use mathlib.Core.Path.{_≡_, refl, sym, ap, ap₂, _∙_, subst}
-use mathlib.Core.Bool.{Bool, true, false}
+use mathlib.Core.Bool.{false}
 use mathlib.Core.List.{List, [], _∷_, flatten}
 use Prim.Native.Nat.{ℕ, _+_, _≤_, _<_}
 use native.Mathlib.Omega.{arith}
@@ -13,12 +13,12 @@ use Rattle.packet.specs.declared.Settings.{Settings}
 use Rattle.pack.specs.Pack.{countOf, payloadOf}
 use Rattle.pack.proofs.Laws.{fieldsOf, joined-file}
 use Rattle.places.specs.Places.{placeOf}
+use Rattle.places.proofs.Truth.{differ}
 use Rattle.record.specs.Offer.{judge}
 use Rattle.promises.specs.Calls.{Call, names}
 use Rattle.promises.specs.Calls.Call.{offering}
 use Rattle.promises.specs.Statements.{Protected, Copy, BringsNoOther, Fair, AllFair, Offers, Carries, NoSecondFile}
-use Rattle.promises.proofs.Copies.{copy-names, same-number, same-payload}
-use Rattle.promises.proofs.Judged.{copy-reads, copy-judged}
+use Rattle.promises.proofs.Judged.{copy-reads, copy-judged, copy-names, same-payload}
 
 -- an offer that is a copy for the one file, and fair for the other
 pub record Both (g : Settings) (a b : List ℕ) (n : ℕ) : Type 0 where
@@ -30,19 +30,14 @@ both : (g : Settings) (a b : List ℕ) (n : ℕ) {cs : List Call} → Offers g a
 both g a b n (Offers.here {q} c) (AllFair.next f rest) = record { packet = q; one = c; other = f }
 both g a b n (Offers.later o) (AllFair.next f rest) = both g a b n o rest
 
--- true is not false
-clash : {A : Type 0} {t : Bool} → t ≡ true → t ≡ false → A
-clash p q = let z : _≡_ {A = ℕ} 0 1 = cc in absurd (omega arith)
-
 module _ (g : Settings) (a b : List ℕ) (pa : Protected g a) (pb : Protected g b) (same-size : length a ≡ length b) where
   served : (n : ℕ) → n < countOf g (length a) → (q : List ℕ) → Copy g a n q → (c : Call) → c ≡ offering q → Fair g b c → payloadOf g a n ≡ payloadOf g b n
   served n l q ca c e (Fair.copy m q′ lm cb) =
       let s : q′ ≡ q = cc in
-      let cq : Copy g b m q = subst (Copy g b m) s cb in
-      same-payload g a b pa pb n m l lm q ca cq ∙ ap (payloadOf g b) (sym (same-number g a b pa pb n m l lm q ca cq))
+      same-payload g a b pa pb n m l lm q ca (subst (Copy g b m) s cb)
   served n l q ca c e (Fair.other q′ none) =
       let s : q′ ≡ q = cc in
-      clash (copy-names g a pa n l q ca) (subst (λ (x : List ℕ). names (g .resource) x ≡ false) s none)
+      differ (sym (copy-names g a pa n l q ca) ∙ subst (λ (x : List ℕ). names (g .resource) x ≡ false) s none)
   served n l q ca c e (Fair.noise q′ only) =
       let s : q′ ≡ q = cc in
       subst (BringsNoOther g b) s only (fieldsOf g a n) (copy-reads g a pa n l q ca) n (payloadOf g a n)
