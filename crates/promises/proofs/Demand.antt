@@ -42,13 +42,14 @@ use Rattle.record.proofs.SlotLaws.{same-self}
 use Rattle.record.proofs.PlanLaws.{Taking, taking, open-by}
 use Rattle.record.proofs.OpenLaws.{open-good, open-named, open-own, open-empty, open-length, refused-record, refused-store}
 use Rattle.record.proofs.CloseLaws.{close-record, close-unknown, close-found, close-keeps}
+use Rattle.record.proofs.OfferLaws.{offer-length}
 use Rattle.promises.specs.Calls.{Call, Answer, State, step, run, fresh, names, about}
 use Rattle.promises.specs.Calls.Call.{packing, opening, offering, asking, handing, closing}
 use Rattle.promises.specs.Statements.{Protected, Copy, BringsNoOther, Fair, AllFair, Offers, Carries, HandsOut, Demand3, FreshHandsOut, FromFresh}
 use Rattle.promises.proofs.Judged.{copy-reads, copy-judged}
 use Rattle.promises.proofs.Whole.{contents-handed}
 use Rattle.promises.proofs.Offers.{Putting, offer-effect, offer-at, put-within, put-fits}
-use Rattle.promises.proofs.Views.{Kept, open-length-kept, offer-length, step-leaves, step-length}
+use Rattle.promises.proofs.Views.{Kept, open-length-kept, step-leaves, step-length}
 
 -- one of two ways
 split : {A : Type 0} (k n : ℕ) → (k ≡ n → A) → ((k ≡ n → ⊥) → A) → A

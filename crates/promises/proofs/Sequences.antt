@@ -11,38 +11,28 @@ use lib.Dec.{eqb, ltb}
 use lib.ListN.{length, getD, set}
 use Rattle.refusals.specs.declared.Refusal.{Refusal}
 use Rattle.refusals.specs.declared.Verdict.{Verdict}
-use Rattle.packet.specs.declared.Packet.{Packet}
-use Rattle.packet.specs.declared.Reading.{Reading}
-use Rattle.packet.specs.declared.Reading.the-variants.{Sent, Refused}
 use Rattle.packet.specs.declared.Settings.{Settings}
-use Rattle.packet.specs.Packet.{resourceIn, readOf}
-use Rattle.packet.proofs.Laws.{resource-in}
+use Rattle.packet.specs.Packet.{resourceIn}
 use Rattle.places.specs.declared.Place.{Place}
 use Rattle.places.specs.declared.Record.{Record}
 use Rattle.places.specs.declared.Found.{Found}
 use Rattle.places.specs.declared.Found.the-variants.{At, Nothing}
 use Rattle.places.specs.Places.{unused, good, placeNamed, placeOf}
 use Rattle.places.proofs.Truth.{differ, and-both}
-use Rattle.places.proofs.Facts.{named-facts}
-use Rattle.contents.specs.Slots.{stored}
-use Rattle.contents.specs.Contents.{Slot as Content, wrong, holding, contents, slotAt, slotOf}
-use Rattle.contents.proofs.Bytes.{length-stored}
-use Rattle.contents.proofs.Places.{reading-slots, storing-sets}
+use Rattle.contents.specs.Contents.{Slot as Content, contents}
 use Rattle.record.specs.declared.Kept.{Kept as Record-kept}
-use Rattle.record.specs.declared.Offered.{Offered}
-use Rattle.record.specs.declared.Offered.the-variants.{Stored, Repeat}
 use Rattle.readout.specs.declared.Standing.{Standing}
 use Rattle.record.specs.Open.{Plan, refuse, take, planOf, carriedOut, Opening, openOf, closedAt, closeOf}
-use Rattle.record.specs.Offer.{Offering, Judged, refuse as refuse-packet, put, judge, putInto, storing, offerJudged, offerFound, offerRead, offerOf}
+use Rattle.record.specs.Offer.{offerOf}
 use Rattle.readout.specs.Hand.{refusing as refuse-hand, statusFound, statusOf, standingIn, Handing, handFound, handContents, handOutOf}
 use Rattle.record.proofs.PlanLaws.{taking, open-by}
 use Rattle.record.proofs.OpenLaws.{open-named, open-own, open-empty, refused-record, refused-store}
 use Rattle.record.proofs.CloseLaws.{close-record, close-unknown, close-found, close-named}
+use Rattle.record.proofs.OfferLaws.{offer-length, alike-answer, alike-holds}
 use Rattle.promises.specs.Calls.{Call, Answer, State, Outcome, step, run, fresh, names, about}
 use Rattle.promises.specs.Calls.Call.{packing, opening, offering, asking, handing, closing}
 use Rattle.promises.specs.Statements.{Alike, pick, told, TwoSequences}
-use Rattle.promises.proofs.Offers.{Told, read-told, offer-at, put-within, put-fits}
-use Rattle.promises.proofs.Views.{Kept, offer-length, offer-leaves, open-length-kept, open-leaves, close-leaves, step-leaves, step-length}
+use Rattle.promises.proofs.Views.{Kept, offer-leaves, open-length-kept, open-leaves, close-leaves, step-leaves, step-length}
 
 -- two stores of one length that show the same at r's place
 pub record Like (r : ℕ) (h : Record) (s t : List ℕ) : Type 0 where
@@ -141,96 +131,16 @@ module _ (r : ℕ) (h : Record) (s t : List ℕ) (l : Like r h s t) where
 
   -- ---- offer of a packet that names r
 
-  -- the same answer, and the same contents afterwards
-  record OfferedAlike (q : List ℕ) : Type 0 where
-    same-answer : offerOf h s q .answer ≡ offerOf h t q .answer
-    same-contents : (i : ℕ) → placeNamed (h .places) r ≡ At i → contents (getD (h .places) i unused) (offerOf h s q .store) ≡ contents (getD (h .places) i unused) (offerOf h t q .store)
+  like-offer : (q : List ℕ) → names r q ≡ true → offerOf h s q .answer ≡ offerOf h t q .answer
+  like-offer q own =
+      let named : resourceIn q ≡ r = eqb-true (resourceIn q) r (and-both (ltb 4 (length q)) _ own .1) in
+      alike-answer h s t q (l .sized) (λ i n. l .seen i (ap (placeNamed (h .places)) (sym named) ∙ n))
 
-  unmoved : (q : List ℕ) → offerOf h s q .answer ≡ offerOf h t q .answer → offerOf h s q .store ≡ s → offerOf h t q .store ≡ t → OfferedAlike q
-  unmoved q a es et = record {
-    same-answer = a;
-    same-contents = λ i n. ap (contents (getD (h .places) i unused)) es ∙ l .seen i n ∙ sym (ap (contents (getD (h .places) i unused)) et);
+  offer-own-like : (q : List ℕ) → Like r h (offerOf h s q .store) (offerOf h t q .store)
+  offer-own-like q = record {
+    sized = offer-length h s q ∙ l .sized ∙ sym (offer-length h t q);
+    seen = λ i n. alike-holds h s t q (l .sized) r i n (l .seen i n);
   }
-
-  module _ (q : List ℕ) (f : Packet) (read : readOf q ≡ Sent f) (own : f .resource ≡ r) (gs : good (length s) (h .places) ≡ true) (i : ℕ) (n : placeNamed (h .places) r ≡ At i) where
-    gt : good (length t) (h .places) ≡ true
-    gt = ap (λ (m : ℕ). good m (h .places)) (sym (l .sized)) ∙ gs
-
-    named : placeNamed (h .places) (f .resource) ≡ At i
-    named = ap (placeNamed (h .places)) own ∙ n
-
-    at-s : offerOf h s q ≡ offerJudged (getD (h .places) i unused) s (judge (getD (h .places) i unused) f q)
-    at-s = offer-at h s q gs f read i named
-
-    at-t : offerOf h t q ≡ offerJudged (getD (h .places) i unused) t (judge (getD (h .places) i unused) f q)
-    at-t = offer-at h t q gt f read i named
-
-    module _ (k : ℕ) (b : List ℕ) (j : judge (getD (h .places) i unused) f q ≡ put k b) where
-      below : k < getD (h .places) i unused .count
-      below = put-within h s q gs f read i named k b j
-
-      slots : slotOf (getD (h .places) i unused) s k ≡ slotOf (getD (h .places) i unused) t k
-      slots =
-          sym (reading-slots (getD (h .places) i unused) s k below) ∙ ap (λ (c : List Content). getD c k wrong) (l .seen i n)
-          ∙ reading-slots (getD (h .places) i unused) t k below
-
-      said : (x : List ℕ) → offerOf h x q ≡ offerJudged (getD (h .places) i unused) x (judge (getD (h .places) i unused) f q)
-          → (a : Offered) → putInto (slotOf (getD (h .places) i unused) x k) b ≡ a → offerOf h x q ≡ storing x (slotAt (getD (h .places) i unused) k) b a
-      said x e a p = e ∙ ap (offerJudged (getD (h .places) i unused) x) j ∙ ap (storing x (slotAt (getD (h .places) i unused) k) b) p
-
-      put-alike : (a : Offered) → putInto (slotOf (getD (h .places) i unused) s k) b ≡ a → OfferedAlike q
-      put-alike Stored p =
-          let es = said s at-s Stored p in
-          let et = said t at-t Stored (ap (λ (c : Content). putInto c b) (sym slots) ∙ p) in
-          record {
-            same-answer = ap (λ (o : Offering). o .answer) es ∙ sym (ap (λ (o : Offering). o .answer) et);
-            same-contents = λ i′ n′.
-                let same : i′ ≡ i = found-same i′ i (sym n′ ∙ n) in
-                let ends = named-facts (length s) (h .places) gs r i n .ends-within in
-                ap₂ (λ (m : ℕ) (o : Offering). contents (getD (h .places) m unused) (o .store)) same es
-                ∙ storing-sets (getD (h .places) i unused) s k b ends below (put-fits h s q gs f read i named k b j)
-                ∙ ap (λ (c : List Content). set c k (holding b)) (l .seen i n)
-                ∙ sym (ap₂ (λ (m : ℕ) (o : Offering). contents (getD (h .places) m unused) (o .store)) same et
-                ∙ storing-sets (getD (h .places) i unused) t k b (named-facts (length t) (h .places) gt r i n .ends-within) below (put-fits h s q gs f read i named k b j));
-          }
-      put-alike Repeat p =
-          let es = said s at-s Repeat p in
-          let et = said t at-t Repeat (ap (λ (c : Content). putInto c b) (sym slots) ∙ p) in
-          unmoved q (ap (λ (o : Offering). o .answer) es ∙ sym (ap (λ (o : Offering). o .answer) et)) (ap (λ (o : Offering). o .store) es) (ap (λ (o : Offering). o .store) et)
-      put-alike (Offered.Refused u) p =
-          let es = said s at-s (Offered.Refused u) p in
-          let et = said t at-t (Offered.Refused u) (ap (λ (c : Content). putInto c b) (sym slots) ∙ p) in
-          unmoved q (ap (λ (o : Offering). o .answer) es ∙ sym (ap (λ (o : Offering). o .answer) et)) (ap (λ (o : Offering). o .store) es) (ap (λ (o : Offering). o .store) et)
-
-    judged-alike : (j : Judged) → judge (getD (h .places) i unused) f q ≡ j → OfferedAlike q
-    judged-alike (refuse-packet u) e =
-        let es = at-s ∙ ap (offerJudged (getD (h .places) i unused) s) e in
-        let et = at-t ∙ ap (offerJudged (getD (h .places) i unused) t) e in
-        unmoved q (ap (λ (o : Offering). o .answer) es ∙ sym (ap (λ (o : Offering). o .answer) et)) (ap (λ (o : Offering). o .store) es) (ap (λ (o : Offering). o .store) et)
-    judged-alike (put k b) e = put-alike k b e (putInto (slotOf (getD (h .places) i unused) s k) b) refl
-
-  like-offer : (q : List ℕ) → names r q ≡ true → OfferedAlike q
-  unfolding offerOf
-  like-offer q own = sound (good (length s) (h .places)) refl
-    where
-      to : (b : Bool) → good (length s) (h .places) ≡ b → good (length t) (h .places) ≡ b
-      to b g = ap (λ (m : ℕ). good m (h .places)) (sym (l .sized)) ∙ g
-
-      at : good (length s) (h .places) ≡ true → (f : Packet) → readOf q ≡ Sent f → f .resource ≡ r → (p : Found) → placeNamed (h .places) r ≡ p → OfferedAlike q
-      at g f e o Nothing n =
-          let m : placeNamed (h .places) (f .resource) ≡ Nothing = ap (placeNamed (h .places)) o ∙ n in
-          unmoved q (rw (g, to true g, e, m) refl) (rw (g, e, m) refl) (rw (to true g, e, m) refl)
-      at g f e o (At i) n = judged-alike q f e o g i n (judge (getD (h .places) i unused) f q) refl
-
-      reading : good (length s) (h .places) ≡ true → (a : Reading) → readOf q ≡ a → OfferedAlike q
-      reading g (Sent f) e =
-          at g f e (ap (λ (x : Packet). x .resource) (read-told q f e .fields) ∙ resource-in q ∙ eqb-true (resourceIn q) r (and-both (ltb 4 (length q)) _ own .1))
-          (placeNamed (h .places) r) refl
-      reading g (Refused u) e = unmoved q (rw (g, to true g, e) refl) (rw (g, e) refl) (rw (to true g, e) refl)
-
-      sound : (b : Bool) → good (length s) (h .places) ≡ b → OfferedAlike q
-      sound true g = reading g (readOf q) refl
-      sound false g = unmoved q (rw (g, to false g) refl) (rw g refl) (rw (to false g) refl)
 
 -- ---- any call
 
@@ -267,9 +177,7 @@ unfolding step
 named-step r (packing file g n out) h s t l e = differ (sym e)
 named-step r (opening g count) h s t l e =
     (ap (λ (k : Record-kept). Answer.opened (k .verdict)) (like-open r h s t l g count), open-own-like r h s t l g count (eqb-true (g .resource) r e))
-named-step r (offering q) h s t l e =
-    let o = like-offer r h s t l q e in
-    (ap Answer.offered (o .same-answer), record { sized = offer-length h s q ∙ l .sized ∙ sym (offer-length h t q); seen = o .same-contents })
+named-step r (offering q) h s t l e = (ap Answer.offered (like-offer r h s t l q e), offer-own-like r h s t l q)
 named-step r (asking x) h s t l e =
     let same : x ≡ r = eqb-true x r e in
     (ap (λ (y : ℕ). Answer.asked (statusOf h s y)) same ∙ ap Answer.asked (like-status r h s t l) ∙ sym (ap (λ (y : ℕ). Answer.asked (statusOf h t y)) same), l)

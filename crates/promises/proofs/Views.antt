@@ -1,40 +1,32 @@
 -- What a call that is not about a resource leaves alone: the resource's place, and what its slots hold.
 -- Assumes nothing.
 use mathlib.Core.Path.{_≡_, refl, sym, ap, ap₂, _∙_, subst}
-use mathlib.Core.Logic.{_⊎_, inl, inr}
 use mathlib.Core.Bool.{Bool, true, false, cond, _&&_}
 use mathlib.Core.List.{List, [], _∷_}
 use Prim.Native.Nat.{ℕ, _+_, _≤_, _<_}
-use native.Mathlib.Omega.{arith}
 use borrow.Author.Tests.{eqb-true, eqb-false, eq-eqb, lt-ltb}
 use lib.Dec.{eqb, ltb}
 use lib.ListN.{length, getD, set}
-use Rattle.packet.specs.declared.Packet.{Packet}
 use Rattle.packet.specs.declared.Settings.{Settings}
 use Rattle.packet.specs.Packet.{resourceIn}
-use Rattle.packet.proofs.Laws.{resource-in}
 use Rattle.places.specs.declared.Place.{Place}
 use Rattle.places.specs.declared.Record.{Record}
 use Rattle.places.specs.declared.Found.{Found}
 use Rattle.places.specs.declared.Found.the-variants.{At, Nothing}
 use Rattle.places.specs.Places.{unused, inUse, good, placeNamed, placeOf, meets}
-use Rattle.places.proofs.Truth.{differ}
+use Rattle.places.proofs.Truth.{differ, and-join}
 use Rattle.places.proofs.Named.{names-in-use, names-resource}
-use Rattle.places.proofs.Facts.{good-apart}
 use Rattle.places.proofs.Holders.{found-names, unused-at}
 use Rattle.contents.specs.Slots.{cleared, stored}
 use Rattle.contents.specs.Contents.{Slot as Content, contents, slotAt}
-use Rattle.contents.proofs.Bytes.{length-stored}
-use Rattle.contents.proofs.Slots.{fits-room}
-use Rattle.contents.proofs.Places.{apart-meets, storing-leaves}
 use Rattle.record.specs.Open.{Plan, refuse, take, planOf, carriedOut, Opening, openOf, closedAt, closeOf}
-use Rattle.record.specs.Offer.{Offering, offerOf}
+use Rattle.record.specs.Offer.{offerOf}
 use Rattle.record.proofs.PlanLaws.{Taking, taking, open-by}
 use Rattle.record.proofs.OpenLaws.{open-below, open-own, open-named-other, open-others, open-length, open-good, refused-record, refused-store}
 use Rattle.record.proofs.CloseLaws.{close-record, close-unknown, close-found, close-others, close-named-other, close-keeps}
+use Rattle.record.proofs.OfferLaws.{offer-length, offer-other}
 use Rattle.promises.specs.Calls.{Call, State, step, names, about}
 use Rattle.promises.specs.Calls.Call.{packing, opening, offering, asking, handing, closing}
-use Rattle.promises.proofs.Offers.{Told, Putting, offer-effect}
 
 -- the place of resource r, and what it holds, are as they were
 pub record Kept (r : ℕ) (h : Record) (s : List ℕ) (h′ : Record) (s′ : List ℕ) : Type 0 where
@@ -47,42 +39,12 @@ kept-all r h s = record { named = refl; same-place = λ i e. refl; same-contents
 
 -- ---- offer
 
--- where a packet that does not name r puts its payload is not r's place
-elsewhere : (r : ℕ) (q : List ℕ) (f : Packet) → Told q f → names r q ≡ false → f .resource ≡ r → ⊥
-elsewhere r q f t n e =
-    let x : resourceIn q ≡ r = sym (resource-in q) ∙ ap (λ (g : Packet). g .resource) (sym (t .fields)) ∙ e in
-    let y : names r q ≡ true = rw (lt-ltb 4 (length q) (omega (arith, t .least)), eq-eqb (resourceIn q) r x) refl in
-    differ (sym y ∙ n)
-
-pub offer-length : (h : Record) (s q : List ℕ) → length (offerOf h s q .store) ≡ length s
-offer-length h s q = by (offer-effect h s q)
-  where
-    by : (offerOf h s q .store ≡ s) ⊎ Putting h s q → length (offerOf h s q .store) ≡ length s
-    by (inl e) = ap length e
-    by (inr p) = ap (λ (o : Offering). length (o .store)) (p .after) ∙ length-stored s _ (p .payload)
-
 pub offer-leaves : (r : ℕ) (h : Record) (s q : List ℕ) → names r q ≡ false → Kept r h s h (offerOf h s q .store)
-offer-leaves r h s q n = by (offer-effect h s q)
-  where
-    at : (p : Putting h s q) (i : ℕ) → placeNamed (h .places) r ≡ At i → contents (getD (h .places) i unused) (offerOf h s q .store) ≡ contents (getD (h .places) i unused) s
-    at p i e =
-        let a = found-names (h .places) r i e in
-        let b = found-names (h .places) (p .fields .resource) (p .place) (p .named) in
-        let apart : p .place ≡ i → ⊥ = λ z.
-        elsewhere r q (p .fields) (p .told) n
-        (sym (names-resource (getD (h .places) (p .place) unused) (p .fields .resource) (b .1))
-        ∙ ap (λ (x : ℕ). getD (h .places) x unused .resource) z ∙ names-resource (getD (h .places) i unused) r (a .1)) in
-        let away : meets (getD (h .places) (p .place) unused) (getD (h .places) i unused) ≡ false =
-        apart-meets (getD (h .places) (p .place) unused) (getD (h .places) i unused)
-        (good-apart (length s) (h .places) (p .sound) (p .place) i (b .0) (a .0) apart
-        (names-in-use (getD (h .places) (p .place) unused) (p .fields .resource) (b .1)) (names-in-use (getD (h .places) i unused) r (a .1))) in
-        ap (λ (o : Offering). contents (getD (h .places) i unused) (o .store)) (p .after)
-        ∙ storing-leaves (getD (h .places) (p .place) unused) (getD (h .places) i unused) s (p .fields .number) (p .payload) away (p .within)
-        (fits-room (getD (h .places) (p .place) unused) (length (p .payload)) (p .fits))
-
-    by : (offerOf h s q .store ≡ s) ⊎ Putting h s q → Kept r h s h (offerOf h s q .store)
-    by (inl e) = record { named = refl; same-place = λ i p. refl; same-contents = λ i p. ap (contents (getD (h .places) i unused)) e }
-    by (inr p) = record { named = refl; same-place = λ i e. refl; same-contents = at p }
+offer-leaves r h s q n = record {
+  named = refl;
+  same-place = λ i e. refl;
+  same-contents = λ i e. offer-other h s q r i e (λ l z. differ (sym (and-join (lt-ltb 4 (length q) l) (eq-eqb (resourceIn q) r z)) ∙ n));
+}
 
 -- ---- open
 
