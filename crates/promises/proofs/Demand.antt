@@ -6,58 +6,43 @@ use mathlib.Core.Bool.{Bool, true, false, cond, not, _&&_}
 use mathlib.Core.List.{List, [], _∷_, _++_, flatten}
 use Prim.Native.Nat.{ℕ, zero, suc, _+_, _-_, _*_, _/_, _%_, _≤_, _<_}
 use native.Mathlib.Omega.{arith}
-use borrow.Author.Tests.{eqb-true, eqb-false, eq-eqb, ne-eqb, le-ltb}
+use borrow.Author.Tests.{eqb-true, ne-eqb}
 use lib.Dec.{eqb, ltb}
-use lib.ListN.{length, getD, set, take, drop, replicate, length-set}
-use lib.Seq.{getD-set-same, getD-set-other}
-use Rattle.refusals.specs.declared.Refusal.{Refusal}
-use Rattle.refusals.specs.declared.Verdict.{Verdict}
+use lib.ListN.{length, getD, drop, replicate, getD-replicate}
 use Rattle.refusals.specs.declared.Verdict.the-variants.{Accepted, Refused}
 use Rattle.ground.specs.Lists.{listed}
+use Rattle.ground.proofs.Numbers.{same-or-not}
 use Rattle.packet.specs.declared.Packet.{Packet}
+use Rattle.packet.specs.declared.Reading.{Reading}
 use Rattle.packet.specs.declared.Reading.the-variants.{Sent}
 use Rattle.packet.specs.declared.Settings.{Settings}
 use Rattle.packet.specs.Packet.{readOf, resourceIn}
-use Rattle.packet.proofs.Laws.{resource-in}
-use Rattle.layout.specs.Layout.{tablesOf, codedFile, undone}
-use Rattle.layout.proofs.Coded.{length-coded, undone-file, undone-padding, tables-reach}
-use Rattle.pack.specs.Pack.{countOf, codedLength, sentOf, payloadOf, packetOf}
-use Rattle.pack.proofs.Laws.{fieldsOf, rows-positive, sent-coded, length-sent, payload-some, joined-payloads}
+use Rattle.pack.specs.Pack.{countOf, payloadOf}
+use Rattle.pack.proofs.Laws.{fieldsOf}
 use Rattle.places.specs.declared.Place.{Place}
 use Rattle.places.specs.declared.Record.{Record}
 use Rattle.places.specs.declared.Found.{Found}
 use Rattle.places.specs.declared.Found.the-variants.{At, Nothing}
 use Rattle.places.specs.Places.{unused, good, placeNamed, placeOf}
-use Rattle.places.proofs.Truth.{differ}
-use Rattle.places.proofs.Facts.{PlaceFacts, named-facts}
-use Rattle.contents.specs.Slots.{cleared, stored}
-use Rattle.contents.specs.Contents.{Slot as Content, wrong, holding, contents, slotAt, slotOf, anyWrong, lowestEmpty, joined}
-use Rattle.contents.proofs.Places.{length-contents, reading-slots, storing-sets}
-use Rattle.contents.proofs.Filled.{holding-all, holding-right, holding-lowest, joined-whole}
-use Rattle.record.specs.declared.Offered.the-variants.{Stored, Repeat}
+use Rattle.places.proofs.Truth.{and-both}
+use Rattle.contents.specs.Contents.{Slot as Content, wrong, holding, contents}
+use Rattle.contents.proofs.Places.{length-contents}
+use Rattle.contents.proofs.Filled.{holding-all}
 use Rattle.record.specs.Open.{Plan, refuse, take as taken, planOf, carriedOut, Opening, openOf, closeOf}
-use Rattle.record.specs.Offer.{Offering, put, judge, differs, same, putInto, storing, offerJudged, offerOf}
-use Rattle.readout.specs.Hand.{Handing, handed, allZero, handRows, handJoined, handFilled, handContents, handFound, handOutOf}
-use Rattle.record.proofs.SlotLaws.{same-self}
+use Rattle.record.specs.Offer.{Offering, Judged, refuse as refuse-packet, put, judge, differs, offerJudged, offerOf}
+use Rattle.readout.specs.Hand.{Handing, handOutOf}
 use Rattle.record.proofs.PlanLaws.{Taking, taking, open-by}
 use Rattle.record.proofs.OpenLaws.{open-good, open-named, open-own, open-empty, open-length, refused-record, refused-store}
 use Rattle.record.proofs.CloseLaws.{close-record, close-unknown, close-found, close-keeps}
-use Rattle.record.proofs.OfferLaws.{offer-length}
+use Rattle.record.proofs.OfferCases.{offer-unread, offer-placed}
+use Rattle.record.proofs.OfferFacts.{read-resource}
+use Rattle.record.proofs.OfferLaws.{Placed, Sound, heldAfter, held-after, slots-kept, offer-sound, offer-holds, offer-length}
 use Rattle.promises.specs.Calls.{Call, Answer, State, step, run, fresh, names, about}
 use Rattle.promises.specs.Calls.Call.{packing, opening, offering, asking, handing, closing}
 use Rattle.promises.specs.Statements.{Protected, Copy, BringsNoOther, Fair, AllFair, Offers, Carries, HandsOut, Demand3, FreshHandsOut, FromFresh}
 use Rattle.promises.proofs.Judged.{copy-reads, copy-judged}
 use Rattle.promises.proofs.Whole.{contents-handed}
-use Rattle.promises.proofs.Offers.{Putting, offer-effect, offer-at, put-within, put-fits}
 use Rattle.promises.proofs.Views.{Kept, open-length-kept, step-leaves, step-length}
-
--- one of two ways
-split : {A : Type 0} (k n : ℕ) → (k ≡ n → A) → ((k ≡ n → ⊥) → A) → A
-split {A} k n same other = by (eqb k n) refl
-  where
-    by : (t : Bool) → eqb k n ≡ t → A
-    by true e = same (eqb-true k n e)
-    by false e = other (eqb-false k n e)
 
 -- ---- a good record stays good
 
@@ -87,44 +72,31 @@ step-good (asking y) x k = k
 step-good (handing y n out) x k = k
 step-good (closing y) x k = close-stays (x .held) (x .store) y k
 
-empty-at : (n k : ℕ) → k < n → getD (replicate n (holding [])) k wrong ≡ holding []
-empty-at zero k l = absurd (omega arith)
-empty-at (suc n) zero l = refl
-empty-at (suc n) (suc k) l = empty-at n k (omega arith)
-
--- an input whose bytes 3 and 4 are not r does not name r
-unnamed : (q : List ℕ) (r : ℕ) → (resourceIn q ≡ r → ⊥) → names r q ≡ false
-unnamed q r d = rw (ne-eqb (resourceIn q) r d) (by (ltb 4 (length q)))
-  where
-    by : (b : Bool) → b && false ≡ false
-    by true = refl
-    by false = refl
-
 -- ---- while a file is collected
 
 module _ (g : Settings) (file : List ℕ) (p : Protected g file) (i start : ℕ) where
   -- its place
-  abbrev own : Place
+  abbrev pub own : Place
   own = placeOf g (countOf g (length file)) start
 
   -- the start of a place does not count in the judgement
-  judge-start : (f : Packet) (q : List ℕ) → judge (placeOf g (countOf g (length file)) 0) f q ≡ judge (placeOf g (countOf g (length file)) start) f q
+  judge-start : (f : Packet) (q : List ℕ) → judge (placeOf g (countOf g (length file)) 0) f q ≡ judge own f q
   unfolding judge differs
   judge-start f q = refl
 
-  slot-in : ℕ → State → Content
-  slot-in k x = getD (contents (placeOf g (countOf g (length file)) start) (x .store)) k wrong
+  -- what slot k of it holds
+  abbrev pub slot-in : ℕ → State → Content
+  slot-in k x = getD (contents own (x .store)) k wrong
 
   pub record Collecting (x : State) : Type 0 where
     pub sound : good (length (x .store)) (x .held .places) ≡ true
     pub named : placeNamed (x .held .places) (g .resource) ≡ At i
-    pub place : getD (x .held .places) i unused ≡ placeOf g (countOf g (length file)) start
-    pub slots : (k : ℕ) → k < countOf g (length file)
-        → (getD (contents (placeOf g (countOf g (length file)) start) (x .store)) k wrong ≡ holding []) ⊎ (getD (contents (placeOf g (countOf g (length file)) start) (x .store)) k wrong ≡ holding (payloadOf g file k))
+    pub place : getD (x .held .places) i unused ≡ own
+    pub slots : (k : ℕ) → k < countOf g (length file) → (slot-in k x ≡ holding []) ⊎ (slot-in k x ≡ holding (payloadOf g file k))
 
   -- packet k is there
   abbrev pub Has : ℕ → State → Type 0
-  Has k x = getD (contents (placeOf g (countOf g (length file)) start) (x .store)) k wrong ≡ holding (payloadOf g file k)
+  Has k x = slot-in k x ≡ holding (payloadOf g file k)
 
   -- what a call does to it: it goes on, and no packet is lost
   pub record GoesOn (x y : State) : Type 0 where
@@ -137,7 +109,7 @@ module _ (g : Settings) (file : List ℕ) (p : Protected g file) (i start : ℕ)
   -- contents as they were
   same-contents-go : (x y : State) → Collecting x → good (length (y .store)) (y .held .places) ≡ true → Kept (g .resource) (x .held) (x .store) (y .held) (y .store) → GoesOn x y
   same-contents-go x y c sound k =
-      let same : contents (placeOf g (countOf g (length file)) start) (y .store) ≡ contents (placeOf g (countOf g (length file)) start) (x .store) =
+      let same : contents own (y .store) ≡ contents own (x .store) =
       ap (λ (o : Place). contents o (y .store)) (sym (c .place)) ∙ k .same-contents i (c .named) ∙ ap (λ (o : Place). contents o (x .store)) (c .place) in
       record {
         collecting = record {
@@ -180,104 +152,76 @@ module _ (g : Settings) (file : List ℕ) (p : Protected g file) (i start : ℕ)
 
   -- ---- an offer that is judged to bring packet n's payload fills its slot
 
-  module _ (n : ℕ) (below : n < countOf g (length file)) (q : List ℕ) (f : Packet) (read : readOf q ≡ Sent f) (of : f .resource ≡ g .resource)
-      (brings : judge (placeOf g (countOf g (length file)) start) f q ≡ put n (payloadOf g file n)) (x : State) (c : Collecting x) where
+  module _ (x : State) (c : Collecting x) (q : List ℕ) (f : Packet) (read : readOf q ≡ Sent f) (of : f .resource ≡ g .resource) where
     found-there : placeNamed (x .held .places) (f .resource) ≡ At i
     found-there = ap (placeNamed (x .held .places)) of ∙ c .named
 
-    b : List ℕ
-    b = payloadOf g file n
+    module _ (n : ℕ) (brings : judge own f q ≡ put n (payloadOf g file n)) where
+      placed : Placed own f n (payloadOf g file n)
+      placed =
+          subst (Sound own f) brings
+          (subst (λ (o : Place). Sound o f (judge o f q)) (c .place) (offer-sound (x .held) (x .store) q (c .sound) f read i found-there))
 
-    judged : judge (getD (x .held .places) i unused) f q ≡ put n (payloadOf g file n)
-    judged = ap (λ (o : Place). judge o f q) (c .place) ∙ brings
+      after : contents own (offerOf (x .held) (x .store) q .store) ≡ heldAfter (put n (payloadOf g file n)) (contents own (x .store))
+      after =
+          subst (λ (o : Place). contents o (offerOf (x .held) (x .store) q .store) ≡ heldAfter (judge o f q) (contents o (x .store))) (c .place)
+          (offer-holds (x .held) (x .store) q (c .sound) f read i found-there)
+          ∙ ap (λ (j : Judged). heldAfter j (contents own (x .store))) brings
 
-    offered-at : offerOf (x .held) (x .store) q
-        ≡ storing (x .store) (slotAt (getD (x .held .places) i unused) n) (payloadOf g file n) (putInto (slotOf (getD (x .held .places) i unused) (x .store) n) (payloadOf g file n))
-    offered-at =
-        offer-at (x .held) (x .store) q (c .sound) f read i found-there
-        ∙ ap (offerJudged (getD (x .held .places) i unused) (x .store)) judged
+      -- its slot holds it afterwards
+      fills : Has n (step (offering q) x .state)
+      unfolding step
+      fills =
+          ap (λ (l : List Content). getD l n wrong) after
+          ∙ held-after (contents own (x .store)) n (payloadOf g file n) (omega (arith, length-contents own (x .store), placed .below)) (c .slots n (placed .below))
 
-    here : slotOf (getD (x .held .places) i unused) (x .store) n ≡ getD (contents (placeOf g (countOf g (length file)) start) (x .store)) n wrong
-    here =
-        ap (λ (o : Place). slotOf o (x .store) n) (c .place)
-        ∙ sym (reading-slots (placeOf g (countOf g (length file)) start) (x .store) n below)
+      -- every other slot is as it was
+      leaves : (k : ℕ) → (k ≡ n → ⊥) → slot-in k (step (offering q) x .state) ≡ slot-in k x
+      unfolding step
+      leaves k d =
+          ap (λ (l : List Content). getD l k wrong) after
+          ∙ slots-kept own f (x .store) (put n (payloadOf g file n)) placed (contents own (x .store)) k (λ z. d (z ∙ sym (placed .number)))
 
-    -- an empty slot is filled
-    fills : getD (contents (placeOf g (countOf g (length file)) start) (x .store)) n wrong ≡ holding [] → GoesOn x (step (offering q) x .state) × Has n (step (offering q) x .state)
-    unfolding step
-    fills e =
-        let done : offerOf (x .held) (x .store) q ≡ record { answer = Stored; store = stored (x .store) (slotAt (getD (x .held .places) i unused) n) (payloadOf g file n) } =
-        offered-at ∙ ap (λ (s : Content). storing (x .store) (slotAt (getD (x .held .places) i unused) n) (payloadOf g file n) (putInto s (payloadOf g file n))) (here ∙ e) in
-        let fits = put-fits (x .held) (x .store) q (c .sound) f read i found-there n (payloadOf g file n) judged in
-        let ends = named-facts (length (x .store)) (x .held .places) (c .sound) (g .resource) i (c .named) .ends-within in
-        let after : contents (placeOf g (countOf g (length file)) start) (offerOf (x .held) (x .store) q .store)
-        ≡ set (contents (placeOf g (countOf g (length file)) start) (x .store)) n (holding (payloadOf g file n)) =
-        ap (λ (o : Offering). contents (placeOf g (countOf g (length file)) start) (o .store)) done
-        ∙ ap (λ (o : Place). contents o (stored (x .store) (slotAt (getD (x .held .places) i unused) n) (payloadOf g file n))) (sym (c .place))
-        ∙ storing-sets (getD (x .held .places) i unused) (x .store) n (payloadOf g file n) ends (rw (c .place) below) fits
-        ∙ ap (λ (o : Place). set (contents o (x .store)) n (holding (payloadOf g file n))) (c .place) in
-        let long : n < length (contents (placeOf g (countOf g (length file)) start) (x .store)) = omega (arith, length-contents (placeOf g (countOf g (length file)) start) (x .store)) in
-        let own-slot : getD (contents (placeOf g (countOf g (length file)) start) (offerOf (x .held) (x .store) q .store)) n wrong ≡ holding (payloadOf g file n) =
-        ap (λ (l : List Content). getD l n wrong) after ∙ getD-set-same (contents (placeOf g (countOf g (length file)) start) (x .store)) n (holding (payloadOf g file n)) wrong long in
-        let other : (k : ℕ) → (k ≡ n → ⊥) → getD (contents (placeOf g (countOf g (length file)) start) (offerOf (x .held) (x .store) q .store)) k wrong
-        ≡ getD (contents (placeOf g (countOf g (length file)) start) (x .store)) k wrong = λ k d.
-        ap (λ (l : List Content). getD l k wrong) after ∙ getD-set-other (contents (placeOf g (countOf g (length file)) start) (x .store)) n k (holding (payloadOf g file n)) wrong d in (
+      brought-go : GoesOn x (step (offering q) x .state)
+      unfolding step
+      brought-go =
+          let there : (k : ℕ) → k ≡ n → Has k (step (offering q) x .state) = λ k z. subst (λ (m : ℕ). Has m (step (offering q) x .state)) (sym z) fills in
           record {
             collecting = record {
               sound = step-good (offering q) x (c .sound);
               named = c .named;
               place = c .place;
-              slots = λ k l. split k n (λ z. inr (subst (λ (m : ℕ). getD (contents (placeOf g (countOf g (length file)) start) (offerOf (x .held) (x .store) q .store)) m wrong ≡ holding (payloadOf g file m)) (sym z) own-slot))
-                  (λ d. rw (other k d) (c .slots k l));
+              slots = λ k l. ⊎-elim (λ z. inr (there k z)) (λ d. rw (leaves k d) (c .slots k l)) (same-or-not k n);
             };
-            keeps = λ k h. split k n (λ z. subst (λ (m : ℕ). getD (contents (placeOf g (countOf g (length file)) start) (offerOf (x .held) (x .store) q .store)) m wrong ≡ holding (payloadOf g file m)) (sym z) own-slot)
-                (λ d. other k d ∙ h);
-          },
-          own-slot,
-        )
+            keeps = λ k h. ⊎-elim (there k) (λ d. leaves k d ∙ h) (same-or-not k n);
+          }
 
-    -- one that holds the payload already stays
-    repeats : getD (contents (placeOf g (countOf g (length file)) start) (x .store)) n wrong ≡ holding (payloadOf g file n) → GoesOn x (step (offering q) x .state) × Has n (step (offering q) x .state)
-    unfolding step
-    repeats e = by (payloadOf g file n) refl
-      where
-        unmoved : offerOf (x .held) (x .store) q .store ≡ x .store → GoesOn x (step (offering q) x .state) × Has n (step (offering q) x .state)
-        unmoved z = (
-          unmoved-go q x c z,
-          ap (λ (s : List ℕ). getD (contents (placeOf g (countOf g (length file)) start) s) n wrong) z ∙ e,
-        )
-
-        by : (a : List ℕ) → payloadOf g file n ≡ a → GoesOn x (step (offering q) x .state) × Has n (step (offering q) x .state)
-        by [] z = absurd (omega (arith, payload-some g file (p .fit) n below, ap length z))
-        by (y ∷ a) z =
-            unmoved (ap (λ (o : Offering). o .store) (offered-at
-            ∙ ap₂ (λ (s : Content) (w : List ℕ). storing (x .store) (slotAt (getD (x .held .places) i unused) n) w (putInto s w)) (here ∙ e ∙ ap holding z) z
-            ∙ ap (λ (t : Bool). storing (x .store) (slotAt (getD (x .held .places) i unused) n) (y ∷ a) (cond t Repeat (Rattle.record.specs.declared.Offered.Offered.Refused Refusal.Conflict))) (same-self (y ∷ a))))
-
-    brought-go : GoesOn x (step (offering q) x .state) × Has n (step (offering q) x .state)
-    brought-go = ⊎-elim fills repeats (c .slots n below)
+    -- refused, or it brings what the file has there
+    judged-go : BringsNoOther g file q → (j : Judged) → judge own f q ≡ j → GoesOn x (step (offering q) x .state)
+    judged-go none (refuse-packet r) e =
+        unmoved-go q x c (ap (λ (o : Offering). o .store) (offer-placed (x .held) (x .store) q (c .sound) f read i found-there
+        ∙ ap (offerJudged (getD (x .held .places) i unused) (x .store)) (ap (λ (o : Place). judge o f q) (c .place) ∙ e)))
+    judged-go none (put n b) e = brought-go n (e ∙ ap (put n) (none f read n b (judge-start f q ∙ e)))
 
   copy-go : (n : ℕ) (below : n < countOf g (length file)) (q : List ℕ) → Copy g file n q → (x : State) → Collecting x
       → GoesOn x (step (offering q) x .state) × Has n (step (offering q) x .state)
-  copy-go n below q cp = brought-go n below q (fieldsOf g file n) (copy-reads g file p n below q cp) refl (copy-judged g file p n below q cp start)
+  copy-go n below q cp x c =
+      let reads = copy-reads g file p n below q cp in
+      let judged = copy-judged g file p n below q cp start in
+      (brought-go x c q (fieldsOf g file n) reads refl n judged, fills x c q (fieldsOf g file n) reads refl n judged)
 
   -- ---- any other offer
 
   noise-go : (q : List ℕ) → BringsNoOther g file q → (x : State) → Collecting x → GoesOn x (step (offering q) x .state)
-  noise-go q none x c = ⊎-elim (unmoved-go q x c) puts (offer-effect (x .held) (x .store) q)
+  noise-go q none x c = by (names (g .resource) q) refl
     where
-      puts : Putting (x .held) (x .store) q → GoesOn x (step (offering q) x .state)
-      puts w = split (w .fields .resource) (g .resource) ours (λ d. unnamed-go (offering q) x c (unnamed q (g .resource) (λ z. d (ap (λ (y : Packet). y .resource) (w .told .fields) ∙ resource-in q ∙ z))))
-        where
-          ours : w .fields .resource ≡ g .resource → GoesOn x (step (offering q) x .state)
-          ours of =
-              let at : At (w .place) ≡ At i = sym (w .named) ∙ ap (placeNamed (x .held .places)) of ∙ c .named in
-              let here : w .place ≡ i = cc in
-              let place : getD (x .held .places) (w .place) unused ≡ placeOf g (countOf g (length file)) start = ap (λ (j : ℕ). getD (x .held .places) j unused) here ∙ c .place in
-              let brings : judge (placeOf g (countOf g (length file)) start) (w .fields) q ≡ put (w .fields .number) (w .payload) = ap (λ (o : Place). judge o (w .fields) q) (sym place) ∙ w .judged-put in
-              let same : w .payload ≡ payloadOf g file (w .fields .number) = none (w .fields) (w .read) (w .fields .number) (w .payload) (judge-start (w .fields) q ∙ brings) in
-              let below : w .fields .number < countOf g (length file) = subst (λ (o : Place). w .fields .number < o .count) place (w .within) in
-              brought-go (w .fields .number) below q (w .fields) (w .read) of (brings ∙ ap (put (w .fields .number)) same) x c .0
+      reading : resourceIn q ≡ g .resource → (a : Reading) → readOf q ≡ a → GoesOn x (step (offering q) x .state)
+      reading z (Sent f) e = judged-go x c q f e (read-resource q f e ∙ z) none (judge own f q) refl
+      reading z (Reading.Refused r) e = unmoved-go q x c (ap (λ (o : Offering). o .store) (offer-unread (x .held) (x .store) q (c .sound) r e))
+
+      by : (t : Bool) → names (g .resource) q ≡ t → GoesOn x (step (offering q) x .state)
+      by true e = reading (eqb-true (resourceIn q) (g .resource) (and-both (ltb 4 (length q)) _ e .1)) (readOf q) refl
+      by false e = unnamed-go (offering q) x c e
 
   -- ---- any fair call
 
@@ -312,7 +256,7 @@ module _ (g : Settings) (file : List ℕ) (p : Protected g file) (i start : ℕ)
   hands : (x : State) → Collecting x → ((k : ℕ) → k < countOf g (length file) → Has k x) → HandsOut step g file x
   unfolding step handOutOf
   hands x c all out room =
-      let o : Place = placeOf g (countOf g (length file)) start in
+      let o : Place = own in
       let full : contents o (x .store) ≡ listed (λ k. holding (payloadOf g file k)) (countOf g (length file)) 0 =
       holding-all (contents o (x .store)) (payloadOf g file) (λ k l. all k (omega (arith, length-contents o (x .store))))
       ∙ ap (λ (n : ℕ). listed (λ k. holding (payloadOf g file k)) n 0) (length-contents o (x .store)) in
@@ -333,7 +277,7 @@ opened-collecting g file p h s i start e t =
       sound = open-stays h s g n (t .fitting .sound);
       named = ap (λ (o : Opening). placeNamed (o .kept .«record» .places) (g .resource)) done ∙ open-named h (length s) g n i start t;
       place = ap (λ (o : Opening). getD (o .kept .«record» .places) i unused) done ∙ open-own h (length s) g n i start t;
-      slots = λ k l. inl (ap (λ (c : List Content). getD c k wrong) empty ∙ empty-at n k l);
+      slots = λ k l. inl (ap (λ (c : List Content). getD c k wrong) empty ∙ getD-replicate n k (holding []) wrong l);
     }
 
 -- ---- the demand

@@ -2,7 +2,6 @@ pub mod Refusals
 pub mod Noise
 pub mod Judged
 pub mod NoSecond
-pub mod Offers
 pub mod Views
 pub mod Sequences
 pub mod Whole
