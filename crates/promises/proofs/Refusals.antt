@@ -1,6 +1,6 @@
 -- A refusal changes nothing: each definition gives back what it was lent wherever its answer is a refusal.
 -- Assumes nothing.
-use mathlib.Core.Path.{_≡_, refl, ap}
+use mathlib.Core.Path.{_≡_, refl, sym, ap, _∙_}
 use mathlib.Core.Bool.{Bool, true, false, cond, not, _||_}
 use mathlib.Core.List.{List, [], _∷_, _++_}
 use Prim.Native.Nat.{ℕ, _-_, _*_, _/_, _%_}
@@ -11,11 +11,7 @@ use Rattle.refusals.specs.declared.Refusal.{Refusal}
 use Rattle.refusals.specs.declared.Refusal.the-variants.{Number, Slot, Field, Shape, Size, Padding, Count, Output}
 use Rattle.refusals.specs.declared.Verdict.{Verdict}
 use Rattle.refusals.specs.declared.Verdict.the-variants.{Accepted, Refused}
-use Rattle.packet.specs.declared.Packet.{Packet}
-use Rattle.packet.specs.declared.Reading.{Reading}
-use Rattle.packet.specs.declared.Reading.the-variants.{Sent}
 use Rattle.packet.specs.declared.Settings.{Settings}
-use Rattle.packet.specs.Packet.{readOf}
 use Rattle.packet.specs.Settings.{settingsFit}
 use Rattle.layout.specs.Layout.{tablesOf, undone}
 use Rattle.pack.specs.declared.Packed.{Packed}
@@ -26,13 +22,13 @@ use Rattle.places.specs.declared.Record.{Record}
 use Rattle.places.specs.declared.Found.{Found}
 use Rattle.places.specs.declared.Found.the-variants.{At, Nothing}
 use Rattle.places.specs.Places.{unused, good, placeNamed}
-use Rattle.contents.specs.Contents.{Slot as Content, slotAt, slotOf, contents, anyWrong, lowestEmpty, joined}
+use Rattle.contents.specs.Contents.{Slot as Content, contents, anyWrong, lowestEmpty, joined}
 use Rattle.record.specs.declared.Kept.{Kept}
 use Rattle.record.specs.declared.Offered.{Offered}
-use Rattle.record.specs.declared.Offered.the-variants.{Stored, Repeat}
 use Rattle.record.specs.Open.{Plan, refuse, take, planOf, carriedOut, Opening, openOf, closedAt, closeOf}
-use Rattle.record.specs.Offer.{Offering, Judged, refuse as refuse-packet, put, judge, putInto, storing, offerJudged, offerFound, offerRead, offerOf}
+use Rattle.record.specs.Offer.{offerOf}
 use Rattle.readout.specs.Hand.{Handing, refusing as refuse-hand, allZero, handed, handRows, handJoined, handFilled, handContents, handFound, handOutOf}
+use Rattle.record.proofs.OfferLaws.{offer-unstored}
 use Rattle.promises.specs.Calls.{Call, Answer, State, step}
 use Rattle.promises.specs.Calls.Call.{packing, opening, offering, asking, handing, closing}
 use Rattle.promises.specs.Statements.{refusedVerdict, refusal, Unchanged, RefusalsChangeNothing}
@@ -116,33 +112,8 @@ hand-keeps h s r n out = hand-by (good (length s) (h .places)) h s n out (placeN
 
 -- ---- offer: the store
 
-abbrev OfferKeeps : List ℕ → Offering → Type 0
-OfferKeeps s o = refusal (Answer.offered (o .answer)) ≡ true → o .store ≡ s
-
-storing-keeps : (s : List ℕ) (at : ℕ) (b : List ℕ) (a : Offered) → OfferKeeps s (storing s at b a)
-storing-keeps s at b Stored e = no e
-storing-keeps s at b Repeat e = refl
-storing-keeps s at b (Offered.Refused r) e = refl
-
-judged-keeps : (p : Place) (s : List ℕ) (j : Judged) → OfferKeeps s (offerJudged p s j)
-judged-keeps p s (refuse-packet r) e = refl
-judged-keeps p s (put k b) e = storing-keeps s (slotAt p k) b (putInto (slotOf p s k) b) e
-
-offer-found-keeps : (h : Record) (s : List ℕ) (f : Packet) (q : List ℕ) (i : Found) → OfferKeeps s (offerFound h s f q i)
-offer-found-keeps h s f q (At i) e = judged-keeps (getD (h .places) i unused) s (judge (getD (h .places) i unused) f q) e
-offer-found-keeps h s f q Nothing e = refl
-
-read-keeps : (h : Record) (s q : List ℕ) (a : Reading) → OfferKeeps s (offerRead h s q a)
-read-keeps h s q (Sent f) e = offer-found-keeps h s f q (placeNamed (h .places) (f .resource)) e
-read-keeps h s q (Reading.Refused r) e = refl
-
-offer-by : (b : Bool) (h : Record) (s q : List ℕ) (a : Reading) → OfferKeeps s (cond b (offerRead h s q a) (record { answer = Offered.Refused Refusal.Record; store = s }))
-offer-by true h s q a e = read-keeps h s q a e
-offer-by false h s q a e = refl
-
-offer-keeps : (h : Record) (s q : List ℕ) → OfferKeeps s (offerOf h s q)
-unfolding offerOf
-offer-keeps h s q = offer-by (good (length s) (h .places)) h s q (readOf q)
+offer-keeps : (h : Record) (s q : List ℕ) → refusal (Answer.offered (offerOf h s q .answer)) ≡ true → offerOf h s q .store ≡ s
+offer-keeps h s q e = offer-unstored h s q (λ z. no (sym (ap (λ (a : Offered). refusal (Answer.offered a)) z) ∙ e))
 
 -- ---- open and close: the record and the store
 
