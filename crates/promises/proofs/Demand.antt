@@ -9,7 +9,7 @@ use native.Mathlib.Omega.{arith}
 use borrow.Author.Tests.{eqb-true, ne-eqb}
 use lib.Dec.{eqb, ltb}
 use lib.ListN.{length, getD, drop, replicate, getD-replicate}
-use Rattle.refusals.specs.declared.Verdict.the-variants.{Accepted, Refused}
+use Rattle.refusals.specs.declared.Verdict.the-variants.{Accepted}
 use Rattle.ground.specs.Lists.{listed}
 use Rattle.ground.proofs.Numbers.{same-or-not}
 use Rattle.packet.specs.declared.Packet.{Packet}
@@ -21,19 +21,18 @@ use Rattle.pack.specs.Pack.{countOf, payloadOf}
 use Rattle.pack.proofs.Laws.{fieldsOf}
 use Rattle.places.specs.declared.Place.{Place}
 use Rattle.places.specs.declared.Record.{Record}
-use Rattle.places.specs.declared.Found.{Found}
 use Rattle.places.specs.declared.Found.the-variants.{At, Nothing}
 use Rattle.places.specs.Places.{unused, good, placeNamed, placeOf}
 use Rattle.places.proofs.Truth.{and-both}
 use Rattle.contents.specs.Contents.{Slot as Content, wrong, holding, contents}
 use Rattle.contents.proofs.Places.{length-contents}
 use Rattle.contents.proofs.Filled.{holding-all}
-use Rattle.record.specs.Open.{Plan, refuse, take as taken, planOf, carriedOut, Opening, openOf, closeOf}
+use Rattle.record.specs.Open.{Plan, refuse, take as taken, planOf, carriedOut, Opening, openOf}
 use Rattle.record.specs.Offer.{Offering, Judged, refuse as refuse-packet, put, judge, differs, offerJudged, offerOf}
 use Rattle.readout.specs.Hand.{Handing, handOutOf}
-use Rattle.record.proofs.PlanLaws.{Taking, taking, open-by}
-use Rattle.record.proofs.OpenLaws.{open-good, open-named, open-own, open-empty, open-length, refused-record, refused-store}
-use Rattle.record.proofs.CloseLaws.{close-record, close-unknown, close-found, close-keeps}
+use Rattle.record.proofs.PlanLaws.{Taking, taking, taking-plan, open-by}
+use Rattle.record.proofs.OpenLaws.{open-named, open-own, open-empty, open-keeps, open-keeps-length, accepted-plan, refused-record, refused-store}
+use Rattle.record.proofs.CloseLaws.{close-keeps-good}
 use Rattle.record.proofs.OfferCases.{offer-unread, offer-placed}
 use Rattle.record.proofs.OfferFacts.{read-resource}
 use Rattle.record.proofs.OfferLaws.{Placed, Sound, heldAfter, held-after, slots-kept, offer-sound, offer-holds, offer-length}
@@ -42,35 +41,20 @@ use Rattle.promises.specs.Calls.Call.{packing, opening, offering, asking
 use Rattle.promises.specs.Statements.{Protected, Copy, BringsNoOther, Fair, AllFair, Offers, Carries, HandsOut, Demand3, FreshHandsOut, FromFresh}
 use Rattle.promises.proofs.Judged.{copy-reads, copy-judged}
 use Rattle.promises.proofs.Whole.{contents-handed}
-use Rattle.promises.proofs.Views.{Kept, open-length-kept, step-leaves, step-length}
+use Rattle.promises.proofs.Views.{Kept, step-leaves}
 
 -- ---- a good record stays good
-
-open-stays : (h : Record) (s : List ℕ) (g : Settings) (count : ℕ) → good (length s) (h .places) ≡ true
-    → good (length (openOf h s g count .store)) (openOf h s g count .kept .«record» .places) ≡ true
-open-stays h s g count k = by (planOf h (length s) g count) refl
-  where
-    by : (p : Plan) → planOf h (length s) g count ≡ p → good (length (openOf h s g count .store)) (openOf h s g count .kept .«record» .places) ≡ true
-    by (refuse r) e = rw (refused-record h s g count r e, refused-store h s g count r e) k
-    by (taken i start) e =
-        ap₂ (λ (n : ℕ) (o : Opening). good n (o .kept .«record» .places)) (open-length-kept h s g count) (open-by h s g count (taken i start) e)
-        ∙ open-good h (length s) g count i start (taking h (length s) g count i start e)
-
-close-stays : (h : Record) (s : List ℕ) (x : ℕ) → good (length s) (h .places) ≡ true → good (length s) (closeOf h s x .«record» .places) ≡ true
-close-stays h s x k = at (placeNamed (h .places) x) refl
-  where
-    at : (f : Found) → placeNamed (h .places) x ≡ f → good (length s) (closeOf h s x .«record» .places) ≡ true
-    at Nothing e = rw (close-unknown h s x k e) k
-    at (At i) e = rw (close-found h s x k i e) (close-keeps (h .places) x i e (length s) k)
 
 step-good : (c : Call) (x : State) → good (length (x .store)) (x .held .places) ≡ true → good (length (step c x .state .store)) (step c x .state .held .places) ≡ true
 unfolding step
 step-good (packing file g n out) x k = k
-step-good (opening g count) x k = open-stays (x .held) (x .store) g count k
+step-good (opening g count) x k =
+    ap (λ (n : ℕ). good n (openOf (x .held) (x .store) g count .kept .«record» .places)) (open-keeps-length (x .held) (x .store) g count)
+    ∙ open-keeps (x .held) (x .store) g count k
 step-good (offering q) x k = ap (λ (n : ℕ). good n (x .held .places)) (offer-length (x .held) (x .store) q) ∙ k
 step-good (asking y) x k = k
 step-good (handing y n out) x k = k
-step-good (closing y) x k = close-stays (x .held) (x .store) y k
+step-good (closing y) x k = close-keeps-good (x .held) (x .store) y k
 
 -- ---- while a file is collected
 
@@ -265,18 +249,19 @@ module _ (g : Settings) (file : List ℕ) (p : Protected g file) (i start : ℕ)
       ap (λ (h : Handing). Answer.handed (h .answer) (h .output)) done
 
 -- a place just opened is one in which the file is collected
-opened-collecting : (g : Settings) (file : List ℕ) (p : Protected g file) (h : Record) (s : List ℕ) (i start : ℕ) → planOf h (length s) g (countOf g (length file)) ≡ taken i start
-    → Taking h (length s) g (countOf g (length file)) i start
-    → Collecting g file p i start (record { held = openOf h s g (countOf g (length file)) .kept .«record»; store = openOf h s g (countOf g (length file)) .store })
-opened-collecting g file p h s i start e t =
+opened-collecting : (g : Settings) (file : List ℕ) (p : Protected g file) (x : State) (i start : ℕ) → Taking (x .held) (length (x .store)) g (countOf g (length file)) i start
+    → Collecting g file p i start (step (opening g (countOf g (length file))) x .state)
+unfolding step
+opened-collecting g file p x i start t =
     let n : ℕ = countOf g (length file) in
-    let done : openOf h s g (countOf g (length file)) ≡ carriedOut h s g (countOf g (length file)) (taken i start) = open-by h s g n (taken i start) e in
-    let empty : contents (placeOf g (countOf g (length file)) start) (openOf h s g (countOf g (length file)) .store) ≡ replicate (countOf g (length file)) (holding []) =
-    ap (λ (o : Opening). contents (placeOf g (countOf g (length file)) start) (o .store)) done ∙ open-empty h s g n i start t in
+    let done : openOf (x .held) (x .store) g n ≡ carriedOut (x .held) (x .store) g n (taken i start) =
+    open-by (x .held) (x .store) g n (taken i start) (taking-plan (x .held) (length (x .store)) g n i start t) in
+    let empty : contents (placeOf g n start) (openOf (x .held) (x .store) g n .store) ≡ replicate n (holding []) =
+    ap (λ (o : Opening). contents (placeOf g n start) (o .store)) done ∙ open-empty (x .held) (x .store) g n i start t in
     record {
-      sound = open-stays h s g n (t .fitting .sound);
-      named = ap (λ (o : Opening). placeNamed (o .kept .«record» .places) (g .resource)) done ∙ open-named h (length s) g n i start t;
-      place = ap (λ (o : Opening). getD (o .kept .«record» .places) i unused) done ∙ open-own h (length s) g n i start t;
+      sound = step-good (opening g n) x (t .fitting .sound);
+      named = ap (λ (o : Opening). placeNamed (o .kept .«record» .places) (g .resource)) done ∙ open-named (x .held) (length (x .store)) g n i start t;
+      place = ap (λ (o : Opening). getD (o .kept .«record» .places) i unused) done ∙ open-own (x .held) (length (x .store)) g n i start t;
       slots = λ k l. inl (ap (λ (c : List Content). getD c k wrong) empty ∙ getD-replicate n k (holding []) wrong l);
     }
 
@@ -284,21 +269,9 @@ opened-collecting g file p h s i start e t =
 
 pub demand-3 : Demand3 step
 unfolding step
-demand-3 g file p x accepted cs carried = by (planOf (x .held) (length (x .store)) g (countOf g (length file))) refl
-  where
-    n : ℕ
-    n = countOf g (length file)
-
-    by : (q : Plan) → planOf (x .held) (length (x .store)) g (countOf g (length file)) ≡ q
-        → HandsOut step g file (run step cs (record { held = openOf (x .held) (x .store) g (countOf g (length file)) .kept .«record»; store = openOf (x .held) (x .store) g (countOf g (length file)) .store }) .state)
-    by (refuse r) e =
-        let z : Answer.opened (Refused r) ≡ Answer.opened Accepted =
-        ap (λ (o : Opening). Answer.opened (o .kept .verdict)) (sym (open-by (x .held) (x .store) g (countOf g (length file)) (refuse r) e)) ∙ accepted in
-        let y : _≡_ {A = ℕ} 0 1 = cc in
-        absurd (omega arith)
-    by (taken i start) e =
-        let t = taking (x .held) (length (x .store)) g (countOf g (length file)) i start e in
-        let begun : Collecting g file p i start (record { held = openOf (x .held) (x .store) g (countOf g (length file)) .kept .«record»; store = openOf (x .held) (x .store) g (countOf g (length file)) .store }) =
-        opened-collecting g file p (x .held) (x .store) i start e t in
-        hands g file p i start _ (fair-run g file p i start (carried .fair) _ begun .collecting)
-        (λ k l. offered-run g file p i start k l (carried .every k l) (carried .fair) _ begun)
+demand-3 g file p x accepted cs carried =
+    let told : Answer.opened (openOf (x .held) (x .store) g (countOf g (length file)) .kept .verdict) ≡ Answer.opened Accepted = accepted in
+    let t = accepted-plan (x .held) (x .store) g (countOf g (length file)) cc in
+    let begun : Collecting g file p (t .0) (t .1) (step (opening g (countOf g (length file))) x .state) = opened-collecting g file p x (t .0) (t .1) (t .2) in
+    hands g file p (t .0) (t .1) _ (fair-run g file p (t .0) (t .1) (carried .fair) _ begun .collecting)
+    (λ k l. offered-run g file p (t .0) (t .1) k l (carried .every k l) (carried .fair) _ begun)

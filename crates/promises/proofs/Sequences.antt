@@ -26,13 +26,13 @@ use Rattle.record.specs.Open.{Plan, refuse, take, planOf, carriedOut, Opening, 
 use Rattle.record.specs.Offer.{offerOf}
 use Rattle.readout.specs.Hand.{refusing as refuse-hand, statusFound, statusOf, standingIn, Handing, handFound, handContents, handOutOf}
 use Rattle.record.proofs.PlanLaws.{taking, open-by}
-use Rattle.record.proofs.OpenLaws.{open-named, open-own, open-empty, refused-record, refused-store}
+use Rattle.record.proofs.OpenLaws.{open-named, open-own, open-empty, open-keeps-length, refused-record, refused-store}
 use Rattle.record.proofs.CloseLaws.{close-record, close-unknown, close-found, close-named}
 use Rattle.record.proofs.OfferLaws.{offer-length, alike-answer, alike-holds}
 use Rattle.promises.specs.Calls.{Call, Answer, State, Outcome, step, run, fresh, names, about}
 use Rattle.promises.specs.Calls.Call.{packing, opening, offering, asking, handing, closing}
 use Rattle.promises.specs.Statements.{Alike, pick, told, TwoSequences}
-use Rattle.promises.proofs.Views.{Kept, offer-leaves, open-length-kept, open-leaves, close-leaves, step-leaves, step-length}
+use Rattle.promises.proofs.Views.{Kept, offer-leaves, open-leaves, close-leaves, step-leaves, step-length}
 
 -- two stores of one length that show the same at r's place
 pub record Like (r : ℕ) (h : Record) (s t : List ℕ) : Type 0 where
@@ -116,7 +116,7 @@ module _ (r : ℕ) (h : Record) (s t : List ℕ) (l : Like r h s t) where
           let a = taking h (length s) g count i start e in
           let b = taking h (length t) g count i start (there (take i start) e) in
           record {
-            sized = open-length-kept h s g count ∙ l .sized ∙ sym (open-length-kept h t g count);
+            sized = open-keeps-length h s g count ∙ l .sized ∙ sym (open-keeps-length h t g count);
             seen = λ j n.
                 let named : placeNamed (openOf h s g count .kept .«record» .places) r ≡ At i =
                 ap (λ (o : Opening). placeNamed (o .kept .«record» .places) r) (open-by h s g count (take i start) e)

@@ -19,11 +19,11 @@ use Rattle.places.proofs.Named.{names-in-use, names-resource}
 use Rattle.places.proofs.Holders.{found-names, unused-at}
 use Rattle.contents.specs.Slots.{cleared, stored}
 use Rattle.contents.specs.Contents.{Slot as Content, contents, slotAt}
-use Rattle.record.specs.Open.{Plan, refuse, take, planOf, carriedOut, Opening, openOf, closedAt, closeOf}
+use Rattle.record.specs.Open.{Plan, refuse, take, planOf, openOf, closeOf}
 use Rattle.record.specs.Offer.{offerOf}
-use Rattle.record.proofs.PlanLaws.{Taking, taking, open-by}
-use Rattle.record.proofs.OpenLaws.{open-below, open-own, open-named-other, open-others, open-length, open-good, refused-record, refused-store}
-use Rattle.record.proofs.CloseLaws.{close-record, close-unknown, close-found, close-others, close-named-other, close-keeps}
+use Rattle.record.proofs.PlanLaws.{taking, open-by}
+use Rattle.record.proofs.OpenLaws.{open-named-other, open-others, open-keeps-length, refused-record, refused-store}
+use Rattle.record.proofs.CloseLaws.{close-record, close-unknown, close-found, close-others, close-named-other}
 use Rattle.record.proofs.OfferLaws.{offer-length, offer-other}
 use Rattle.promises.specs.Calls.{Call, State, step, names, about}
 use Rattle.promises.specs.Calls.Call.{packing, opening, offering, asking, handing, closing}
@@ -48,31 +48,23 @@ offer-leaves r h s q n = record {
 
 -- ---- open
 
-module _ (h : Record) (s : List ℕ) (g : Settings) (count : ℕ) where
-  pub open-length-kept : length (openOf h s g count .store) ≡ length s
-  open-length-kept = by (planOf h (length s) g count) refl
-    where
-      by : (p : Plan) → planOf h (length s) g count ≡ p → length (openOf h s g count .store) ≡ length s
-      by (refuse r) e = ap length (refused-store h s g count r e)
-      by (take i start) e = ap (λ (o : Opening). length (o .store)) (open-by h s g count (take i start) e) ∙ open-length h s g count i start (taking h (length s) g count i start e)
-
-  pub open-leaves : (r : ℕ) → (g .resource ≡ r → ⊥) → Kept r h s (openOf h s g count .kept .«record») (openOf h s g count .store)
-  open-leaves r d = by (planOf h (length s) g count) refl
-    where
-      by : (p : Plan) → planOf h (length s) g count ≡ p → Kept r h s (openOf h s g count .kept .«record») (openOf h s g count .store)
-      by (refuse t) e = rw (refused-record h s g count t e, refused-store h s g count t e) (kept-all r h s)
-      by (take i start) e =
-          let t = taking h (length s) g count i start e in
-          let away : (j : ℕ) → placeNamed (h .places) r ≡ At j → j ≡ i → ⊥ = λ j n z.
-          differ (sym (names-in-use (getD (h .places) j unused) r (found-names (h .places) r j n .1))
-          ∙ ap (λ (x : ℕ). inUse (getD (h .places) x unused)) z ∙ unused-at (h .places) i (t .unused) .1) in
-          rw (open-by h s g count (take i start) e) (record {
-            named = open-named-other h (length s) g count i start t r d;
-            same-place = λ j n. open-others h s g count i start t j (found-names (h .places) r j n .0) (away j n)
-                (names-in-use (getD (h .places) j unused) r (found-names (h .places) r j n .1)) .0;
-            same-contents = λ j n. open-others h s g count i start t j (found-names (h .places) r j n .0) (away j n)
-                (names-in-use (getD (h .places) j unused) r (found-names (h .places) r j n .1)) .1;
-          })
+pub open-leaves : (h : Record) (s : List ℕ) (g : Settings) (count r : ℕ) → (g .resource ≡ r → ⊥) → Kept r h s (openOf h s g count .kept .«record») (openOf h s g count .store)
+open-leaves h s g count r d = by (planOf h (length s) g count) refl
+  where
+    by : (p : Plan) → planOf h (length s) g count ≡ p → Kept r h s (openOf h s g count .kept .«record») (openOf h s g count .store)
+    by (refuse t) e = rw (refused-record h s g count t e, refused-store h s g count t e) (kept-all r h s)
+    by (take i start) e =
+        let t = taking h (length s) g count i start e in
+        let away : (j : ℕ) → placeNamed (h .places) r ≡ At j → j ≡ i → ⊥ = λ j n z.
+        differ (sym (names-in-use (getD (h .places) j unused) r (found-names (h .places) r j n .1))
+        ∙ ap (λ (x : ℕ). inUse (getD (h .places) x unused)) z ∙ unused-at (h .places) i (t .unused) .1) in
+        rw (open-by h s g count (take i start) e) (record {
+          named = open-named-other h (length s) g count i start t r d;
+          same-place = λ j n. open-others h s g count i start t j (found-names (h .places) r j n .0) (away j n)
+              (names-in-use (getD (h .places) j unused) r (found-names (h .places) r j n .1)) .0;
+          same-contents = λ j n. open-others h s g count i start t j (found-names (h .places) r j n .0) (away j n)
+              (names-in-use (getD (h .places) j unused) r (found-names (h .places) r j n .1)) .1;
+        })
 
 -- ---- close
 
@@ -110,7 +102,7 @@ step-leaves r (closing y) x e = close-leaves (x .held) (x .store) y r (eqb-false
 pub step-length : (c : Call) (x : State) → length (step c x .state .store) ≡ length (x .store)
 unfolding step
 step-length (packing file g n out) x = refl
-step-length (opening g count) x = open-length-kept (x .held) (x .store) g count
+step-length (opening g count) x = open-keeps-length (x .held) (x .store) g count
 step-length (offering q) x = offer-length (x .held) (x .store) q
 step-length (asking y) x = refl
 step-length (handing y n out) x = refl
