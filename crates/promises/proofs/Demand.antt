@@ -10,7 +10,6 @@ use borrow.Author.Tests.{eqb-true, ne-eqb}
 use lib.Dec.{eqb, ltb}
 use lib.ListN.{length, getD, drop, replicate, getD-replicate}
 use Rattle.refusals.specs.declared.Verdict.the-variants.{Accepted}
-use Rattle.ground.specs.Lists.{listed}
 use Rattle.ground.proofs.Numbers.{same-or-not}
 use Rattle.packet.specs.declared.Packet.{Packet}
 use Rattle.packet.specs.declared.Reading.{Reading}
@@ -26,16 +25,17 @@ use Rattle.places.specs.Places.{unused, good, placeNamed, placeOf}
 use Rattle.places.proofs.Truth.{and-both}
 use Rattle.contents.specs.Contents.{Slot as Content, wrong, holding, contents}
 use Rattle.contents.proofs.Places.{length-contents}
-use Rattle.contents.proofs.Filled.{holding-all}
 use Rattle.record.specs.Open.{Plan, refuse, take as taken, planOf, carriedOut, Opening, openOf}
 use Rattle.record.specs.Offer.{Offering, Judged, refuse as refuse-packet, put, judge, differs, offerJudged, offerOf}
-use Rattle.readout.specs.Hand.{Handing, handOutOf}
+use Rattle.readout.specs.Hand.{Handing, handContents, handOutOf}
 use Rattle.record.proofs.PlanLaws.{Taking, taking, taking-plan, open-by}
 use Rattle.record.proofs.OpenLaws.{open-named, open-own, open-empty, open-keeps, open-keeps-length, accepted-plan, refused-record, refused-store}
 use Rattle.record.proofs.CloseLaws.{close-keeps-good}
 use Rattle.record.proofs.OfferCases.{offer-unread, offer-placed}
 use Rattle.record.proofs.OfferFacts.{read-resource}
 use Rattle.record.proofs.OfferLaws.{Placed, Sound, heldAfter, held-after, slots-kept, offer-sound, offer-holds, offer-length}
+use Rattle.readout.proofs.HandCases.{out-found}
+use Rattle.readout.proofs.HandLaws.{accepted}
 use Rattle.promises.specs.Calls.{Call, Answer, State, step, run, fresh, names, about}
 use Rattle.promises.specs.Calls.Call.{packing, opening, offering, asking, handing, closing}
 use Rattle.promises.specs.Statements.{Protected, Copy, BringsNoOther, Fair, AllFair, Offers, Carries, HandsOut, Demand3, FreshHandsOut, FromFresh}
@@ -238,14 +238,12 @@ module _ (g : Settings) (file : List ℕ) (p : Protected g file) (i start : ℕ)
   -- ---- when every packet is there
 
   hands : (x : State) → Collecting x → ((k : ℕ) → k < countOf g (length file) → Has k x) → HandsOut step g file x
-  unfolding step handOutOf
+  unfolding step
   hands x c all out room =
-      let o : Place = own in
-      let full : contents o (x .store) ≡ listed (λ k. holding (payloadOf g file k)) (countOf g (length file)) 0 =
-      holding-all (contents o (x .store)) (payloadOf g file) (λ k l. all k (omega (arith, length-contents o (x .store))))
-      ∙ ap (λ (n : ℕ). listed (λ k. holding (payloadOf g file k)) n 0) (length-contents o (x .store)) in
-      let done : handOutOf (x .held) (x .store) (g .resource) (length file) out ≡ record { answer = Accepted; output = file ++ drop (length file) out } =
-      rw (c .sound, c .named, c .place, full) (contents-handed g file p start out room) in
+      let done : handOutOf (x .held) (x .store) (g .resource) (length file) out ≡ accepted file out =
+      out-found (x .held) (x .store) (g .resource) (c .sound) (length file) out i (c .named)
+      ∙ ap (λ (o : Place). handContents o (contents o (x .store)) (length file) out) (c .place)
+      ∙ contents-handed g file p (contents own (x .store)) (length-contents own (x .store)) all start out room in
       ap (λ (h : Handing). Answer.handed (h .answer) (h .output)) done
 
 -- a place just opened is one in which the file is collected
@@ -269,8 +267,8 @@ opened-collecting g file p x i start t =
 
 pub demand-3 : Demand3 step
 unfolding step
-demand-3 g file p x accepted cs carried =
-    let told : Answer.opened (openOf (x .held) (x .store) g (countOf g (length file)) .kept .verdict) ≡ Answer.opened Accepted = accepted in
+demand-3 g file p x answer cs carried =
+    let told : Answer.opened (openOf (x .held) (x .store) g (countOf g (length file)) .kept .verdict) ≡ Answer.opened Accepted = answer in
     let t = accepted-plan (x .held) (x .store) g (countOf g (length file)) cc in
     let begun : Collecting g file p (t .0) (t .1) (step (opening g (countOf g (length file))) x .state) = opened-collecting g file p x (t .0) (t .1) (t .2) in
     hands g file p (t .0) (t .1) _ (fair-run g file p (t .0) (t .1) (carried .fair) _ begun .collecting)

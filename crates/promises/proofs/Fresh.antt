@@ -17,6 +17,7 @@ use Rattle.packet.proofs.Laws.{settings-facts}
 use Rattle.pack.specs.declared.Packed.the-variants.{Written}
 use Rattle.pack.specs.Pack.{Packing, largestFile, countOf, codedLength, packetOf, written, packOf}
 use Rattle.pack.proofs.Laws.{rows-positive, length-tables}
+use Rattle.pack.proofs.Plans.{pack-accepts}
 use Rattle.layout.specs.Layout.{tablesOf}
 use Rattle.layout.proofs.Coded.{tables-reach}
 use Rattle.places.specs.declared.Found.the-variants.{At, Nothing}
@@ -45,19 +46,6 @@ module _ (g : Settings) (file : List ℕ) (p : Protected g file) where
           subst (λ (x : ℕ). length file ≤ x) (mul-assoc 239 (g .rows) t) (tables-reach (g .rows) (length file) (rows-positive g (p .fit) plain)) in
           let coded : codedLength g (length file) ≡ 255 * (g .rows * t) = length-tables g (length file) plain ∙ mul-assoc 255 (g .rows) t in
           ceil-positive (codedLength g (length file)) (g .size) (settings-facts g (p .fit) .size .least) (omega (arith, p .some))
-
-  packs : (n : ℕ) → n < countOf g (length file) → (out : List ℕ) → length (packetOf g file n) ≤ length out
-      → packOf file g n out ≡ record { answer = Written (length (packetOf g file n)); output = packetOf g file n ++ drop (length (packetOf g file n)) out }
-  unfolding packOf written
-  packs n below out room =
-      rw (
-        p .fit,
-        ne-eqb (length file) 0 (λ (z : length file ≡ 0). omega (arith, p .some)),
-        le-ltb largestFile (length file) (p .limit),
-        le-ltb 1048575 (countOf g (length file)) (p .count),
-        lt-leb (countOf g (length file)) n below,
-        le-ltb (length out) (length (packetOf g file n)) room,
-      ) refl
 
   module _ (s : List ℕ) (fits : coverOf (countOf g (length file)) (g .size) ≤ length s) (limit : coverOf (countOf g (length file)) (g .size) ≤ 16777216) where
     room : coverOf (countOf g (length file)) (g .size) ≤ usable (length s)
@@ -91,4 +79,5 @@ from-fresh g file p s fits limit cs carried = record {
   where
     packed : (n : ℕ) → n < countOf g (length file) → (x : State) (out : List ℕ) → length (packetOf g file n) ≤ length out
         → step (packing file g n out) x .answer ≡ Answer.packed (Written (length (packetOf g file n))) (packetOf g file n ++ drop (length (packetOf g file n)) out)
-    packed n below x out room = ap (λ (k : Packing). Answer.packed (k .answer) (k .output)) (packs g file p n below out room)
+    packed n below x out room = ap (λ (k : Packing). Answer.packed (k .answer) (k .output)) (pack-accepts file g n out
+        (record { fits = p .fit; some = p .some; most = p .limit; few = p .count; below = below }) room)

@@ -21,14 +21,14 @@ use Rattle.places.specs.Places.{unused, good, placeNamed, placeOf}
 use Rattle.places.proofs.Truth.{differ, and-both}
 use Rattle.contents.specs.Contents.{Slot as Content, contents}
 use Rattle.record.specs.declared.Kept.{Kept as Record-kept}
-use Rattle.readout.specs.declared.Standing.{Standing}
 use Rattle.record.specs.Open.{Plan, refuse, take, planOf, carriedOut, Opening, openOf, closedAt, closeOf}
 use Rattle.record.specs.Offer.{offerOf}
-use Rattle.readout.specs.Hand.{refusing as refuse-hand, statusFound, statusOf, standingIn, Handing, handFound, handContents, handOutOf}
+use Rattle.readout.specs.Hand.{statusOf, Handing, handOutOf}
 use Rattle.record.proofs.PlanLaws.{taking, open-by}
 use Rattle.record.proofs.OpenLaws.{open-named, open-own, open-empty, open-keeps-length, refused-record, refused-store}
 use Rattle.record.proofs.CloseLaws.{close-record, close-unknown, close-found, close-named}
 use Rattle.record.proofs.OfferLaws.{offer-length, alike-answer, alike-holds}
+use Rattle.readout.proofs.HandLaws.{status-same, hand-same}
 use Rattle.promises.specs.Calls.{Call, Answer, State, Outcome, step, run, fresh, names, about}
 use Rattle.promises.specs.Calls.Call.{packing, opening, offering, asking, handing, closing}
 use Rattle.promises.specs.Statements.{Alike, pick, told, TwoSequences}
@@ -51,26 +51,6 @@ nothing-found : {A : Type 0} (i : ℕ) (f : Found) → f ≡ Nothing → f ≡ A
 nothing-found i f p q = absurd (let z : _≡_ {A = ℕ} 0 1 = cc in omega arith)
 
 module _ (r : ℕ) (h : Record) (s t : List ℕ) (l : Like r h s t) where
-  -- ---- status and hand out
-
-  status-at : (f : Found) → placeNamed (h .places) r ≡ f → statusFound h s f ≡ statusFound h t f
-  status-at (At i) e = ap standingIn (l .seen i e)
-  status-at Nothing e = refl
-
-  like-status : statusOf h s r ≡ statusOf h t r
-  unfolding statusOf
-  like-status =
-      ap₂ (λ (n : ℕ) (x : Standing). cond (good n (h .places)) x (Standing.Refused Refusal.Record)) (l .sized) (status-at (placeNamed (h .places) r) refl)
-
-  hand-at : (n : ℕ) (out : List ℕ) (f : Found) → placeNamed (h .places) r ≡ f → handFound h s n out f ≡ handFound h t n out f
-  hand-at n out (At i) e = ap (λ (c : List Content). handContents (getD (h .places) i unused) c n out) (l .seen i e)
-  hand-at n out Nothing e = refl
-
-  like-hand : (n : ℕ) (out : List ℕ) → handOutOf h s r n out ≡ handOutOf h t r n out
-  unfolding handOutOf
-  like-hand n out =
-      ap₂ (λ (m : ℕ) (x : Handing). cond (good m (h .places)) x (refuse-hand Refusal.Record out)) (l .sized) (hand-at n out (placeNamed (h .places) r) refl)
-
   -- ---- close
 
   like-close : (x : ℕ) → closeOf h s x ≡ closeOf h t x
@@ -180,11 +160,11 @@ named-step r (opening g count) h s t l e =
 named-step r (offering q) h s t l e = (ap Answer.offered (like-offer r h s t l q e), offer-own-like r h s t l q)
 named-step r (asking x) h s t l e =
     let same : x ≡ r = eqb-true x r e in
-    (ap (λ (y : ℕ). Answer.asked (statusOf h s y)) same ∙ ap Answer.asked (like-status r h s t l) ∙ sym (ap (λ (y : ℕ). Answer.asked (statusOf h t y)) same), l)
+    (ap (λ (y : ℕ). Answer.asked (statusOf h s y)) same ∙ ap Answer.asked (status-same h s t r (l .sized) (l .seen)) ∙ sym (ap (λ (y : ℕ). Answer.asked (statusOf h t y)) same), l)
 named-step r (handing x n out) h s t l e =
     let same : x ≡ r = eqb-true x r e in (
       ap (λ (y : ℕ). Answer.handed (handOutOf h s y n out .answer) (handOutOf h s y n out .output)) same
-          ∙ ap (λ (a : Handing). Answer.handed (a .answer) (a .output)) (like-hand r h s t l n out)
+          ∙ ap (λ (a : Handing). Answer.handed (a .answer) (a .output)) (hand-same h s t r (l .sized) (l .seen) n out)
           ∙ sym (ap (λ (y : ℕ). Answer.handed (handOutOf h t y n out .answer) (handOutOf h t y n out .output)) same),
       l,
     )
