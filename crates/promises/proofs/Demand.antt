@@ -1,14 +1,14 @@
 -- Demand 3. While a file is collected each slot of its place is empty or holds its packet's payload; a copy fills its slot, nothing empties one; when all are
 -- filled, hand out undoes the tables and gives the file. Assumes nothing.
-use mathlib.Core.Path.{_≡_, refl, sym, ap, ap₂, _∙_, subst}
+use mathlib.Core.Path.{_≡_, refl, sym, ap, _∙_, subst}
 use mathlib.Core.Logic.{_⊎_, inl, inr, ⊎-elim}
-use mathlib.Core.Bool.{Bool, true, false, cond, not, _&&_}
-use mathlib.Core.List.{List, [], _∷_, _++_, flatten}
-use Prim.Native.Nat.{ℕ, zero, suc, _+_, _-_, _*_, _/_, _%_, _≤_, _<_}
+use mathlib.Core.Bool.{Bool, true, false}
+use mathlib.Core.List.{List, []}
+use Prim.Native.Nat.{ℕ, _<_}
 use native.Mathlib.Omega.{arith}
 use borrow.Author.Tests.{eqb-true, ne-eqb}
 use lib.Dec.{eqb, ltb}
-use lib.ListN.{length, getD, drop, replicate, getD-replicate}
+use lib.ListN.{length, getD, replicate, getD-replicate}
 use Rattle.refusals.specs.declared.Verdict.the-variants.{Accepted}
 use Rattle.ground.proofs.Numbers.{same-or-not}
 use Rattle.packet.specs.declared.Packet.{Packet}
@@ -19,7 +19,6 @@ use Rattle.packet.specs.Packet.{readOf, resourceIn}
 use Rattle.pack.specs.Pack.{countOf, payloadOf}
 use Rattle.pack.proofs.Laws.{fieldsOf}
 use Rattle.places.specs.declared.Place.{Place}
-use Rattle.places.specs.declared.Record.{Record}
 use Rattle.places.specs.declared.Found.the-variants.{At, Nothing}
 use Rattle.places.specs.Places.{unused, good, placeNamed, placeOf}
 use Rattle.places.proofs.Truth.{and-both}
@@ -36,9 +35,9 @@ use Rattle.record.proofs.OfferFacts.{read-resource}
 use Rattle.record.proofs.OfferLaws.{Placed, Sound, heldAfter, held-after, slots-kept, offer-sound, offer-holds, offer-length}
 use Rattle.readout.proofs.HandCases.{out-found}
 use Rattle.readout.proofs.HandLaws.{accepted}
-use Rattle.promises.specs.Calls.{Call, Answer, State, step, run, fresh, names, about}
+use Rattle.promises.specs.Calls.{Call, Answer, State, step, run, names, about}
 use Rattle.promises.specs.Calls.Call.{packing, opening, offering, asking, handing, closing}
-use Rattle.promises.specs.Statements.{Protected, Copy, BringsNoOther, Fair, AllFair, Offers, Carries, HandsOut, Demand3, FreshHandsOut, FromFresh}
+use Rattle.promises.specs.Statements.{Protected, Copy, BringsNoOther, Fair, AllFair, Offers, HandsOut, Demand3}
 use Rattle.promises.proofs.Judged.{copy-reads, copy-judged}
 use Rattle.promises.proofs.Whole.{contents-handed}
 use Rattle.promises.proofs.Views.{Kept, step-leaves}

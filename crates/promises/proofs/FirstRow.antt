@@ -2,21 +2,20 @@
 -- empty, or byte 239 of what is handed out is not the file's. Assumes nothing.
 use mathlib.Core.Path.{_≡_, refl, sym, ap, ap₂, _∙_, subst}
 use mathlib.Core.Bool.{Bool, true, false, cond}
-use mathlib.Core.List.{List, [], _∷_, _++_, map, flatten}
-use Prim.Native.Nat.{ℕ, zero, suc, _+_, _-_, _*_, _/_, _%_, _≤_, _<_}
+use mathlib.Core.List.{List, [], _∷_, _++_, flatten}
+use Prim.Native.Nat.{ℕ, zero, suc, _-_, _*_, _≤_, _<_}
 use native.Mathlib.Omega.{arith}
 use lib.ListN.{length, getD, take, drop, replicate, set, length-append, take-append-drop, length-take, length-drop, drop-of-length-le}
 use lib.Seq.{take-at, drop-at, drop-drop}
 use Rattle.ground.proofs.Listed.{listed-ext, joined-all}
 use Rattle.code.specs.Code.{Bytes, distance}
 use Rattle.code.specs.Repair.{checksOf}
-use Rattle.code.specs.Cases.{rowCases}
 use Rattle.code.proofs.Cases.{row-cases}
-use Rattle.code.proofs.Lists.{zeros-bytes, append-bytes, bytes-parts, bytes-cons}
+use Rattle.code.proofs.Lists.{zeros-bytes, append-bytes, bytes-parts}
 use Rattle.packet.specs.declared.Settings.{Settings}
 use Rattle.packet.specs.Settings.{settingsFit}
 use Rattle.layout.specs.Layout.{infoOf, rowOf}
-use Rattle.pack.specs.Pack.{countOf, payloadOf, packetOf}
+use Rattle.pack.specs.Pack.{payloadOf, packetOf}
 use Rattle.pack.proofs.Laws.{length-packet, packet-payload, length-payload, payload-row, packet-bytes}
 use Rattle.record.specs.Mend.{payloadIn}
 use Rattle.code.specs.Search.{Repaired}

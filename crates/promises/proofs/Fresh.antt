@@ -1,36 +1,32 @@
 -- Demand 3 from a fresh record over a store with room: every packet is packed, open is accepted, and the demand does the rest.
 -- Assumes nothing.
 use mathlib.Core.Path.{_≡_, refl, ap, subst, _∙_}
-use mathlib.Core.Bool.{Bool, true, false, cond, not, _&&_, _||_}
-use mathlib.Core.List.{List, [], _∷_, _++_}
-use Prim.Native.Nat.{ℕ, _+_, _-_, _*_, _≤_, _<_}
+use mathlib.Core.Bool.{Bool, true, false, cond}
+use mathlib.Core.List.{List, _++_}
+use Prim.Native.Nat.{ℕ, _*_, _≤_, _<_}
 use native.Mathlib.Nat.{mul-assoc}
 use native.Mathlib.Omega.{arith}
-use borrow.Author.Tests.{ne-eqb, le-ltb, le-leb, lt-leb}
-use lib.Dec.{eqb, leb, ltb}
+use borrow.Author.Tests.{le-leb}
+use lib.Dec.{leb}
 use lib.ListN.{length, drop}
 use Rattle.refusals.specs.declared.Verdict.the-variants.{Accepted}
 use Rattle.ground.proofs.Listed.{ceil-positive}
 use Rattle.packet.specs.declared.Settings.{Settings}
-use Rattle.packet.specs.Settings.{settingsFit}
 use Rattle.packet.proofs.Laws.{settings-facts}
 use Rattle.pack.specs.declared.Packed.the-variants.{Written}
-use Rattle.pack.specs.Pack.{Packing, largestFile, countOf, codedLength, packetOf, written, packOf}
+use Rattle.pack.specs.Pack.{Packing, countOf, codedLength, packetOf}
 use Rattle.pack.proofs.Laws.{rows-positive, length-tables}
 use Rattle.pack.proofs.Plans.{pack-accepts}
 use Rattle.layout.specs.Layout.{tablesOf}
 use Rattle.layout.proofs.Coded.{tables-reach}
-use Rattle.places.specs.declared.Found.the-variants.{At, Nothing}
-use Rattle.places.specs.Places.{inUse, usable, names, coverOf, countFits, freshRecord, placeNamed, firstFrom, firstUnused}
-use Rattle.places.proofs.Facts.{usable-whole}
+use Rattle.places.specs.Places.{usable, coverOf, countFits, freshRecord, firstFrom}
 use Rattle.places.proofs.Keeping.{fresh-good}
-use Rattle.places.proofs.Named.{names-unused}
 use Rattle.places.proofs.Opened.{fresh-lowest}
-use Rattle.record.specs.Open.{take, planOf, Opening, openOf}
-use Rattle.record.proofs.PlanLaws.{Fitting, Taking, taking-plan, open-by}
-use Rattle.promises.specs.Calls.{Answer, State, step, run, fresh}
+use Rattle.record.specs.Open.{take, Opening}
+use Rattle.record.proofs.PlanLaws.{Taking, taking-plan, open-by}
+use Rattle.promises.specs.Calls.{Answer, State, step, fresh}
 use Rattle.promises.specs.Calls.Call.{packing, opening}
-use Rattle.promises.specs.Statements.{Protected, Carries, HandsOut, FreshHandsOut, FromFresh}
+use Rattle.promises.specs.Statements.{Protected, FromFresh}
 use Rattle.promises.proofs.Demand.{demand-3}
 
 module _ (g : Settings) (file : List ℕ) (p : Protected g file) where

@@ -2,8 +2,8 @@
 -- Assumes nothing.
 use mathlib.Core.Path.{_≡_, refl, sym, ap, ap₂, _∙_, subst}
 use mathlib.Core.Bool.{false}
-use mathlib.Core.List.{List, [], _∷_, flatten}
-use Prim.Native.Nat.{ℕ, _+_, _≤_, _<_}
+use mathlib.Core.List.{List, flatten}
+use Prim.Native.Nat.{ℕ, _<_}
 use native.Mathlib.Omega.{arith}
 use lib.ListN.{length}
 use Rattle.ground.specs.Lists.{listed}
@@ -17,7 +17,7 @@ use Rattle.places.proofs.Truth.{differ}
 use Rattle.record.specs.Offer.{judge}
 use Rattle.promises.specs.Calls.{Call, names}
 use Rattle.promises.specs.Calls.Call.{offering}
-use Rattle.promises.specs.Statements.{Protected, Copy, BringsNoOther, Fair, AllFair, Offers, Carries, NoSecondFile}
+use Rattle.promises.specs.Statements.{Protected, Copy, BringsNoOther, Fair, AllFair, Offers, NoSecondFile}
 use Rattle.promises.proofs.Judged.{copy-reads, copy-judged, copy-names, same-payload}
 
 -- an offer that is a copy for the one file, and fair for the other

@@ -20,14 +20,14 @@ use Rattle.places.specs.declared.Found.the-variants.{At, Nothing}
 use Rattle.places.specs.Places.{good, placeNamed}
 use Rattle.record.specs.declared.Kept.{Kept}
 use Rattle.record.specs.declared.Offered.{Offered}
-use Rattle.record.specs.Open.{Plan, refuse, take, planOf, carriedOut, Opening, openOf, closedAt, closeOf}
+use Rattle.record.specs.Open.{Plan, refuse, take, planOf, carriedOut, openOf, closedAt, closeOf}
 use Rattle.record.specs.Offer.{offerOf}
 use Rattle.readout.specs.Hand.{handOutOf}
 use Rattle.record.proofs.OfferLaws.{offer-unstored}
 use Rattle.readout.proofs.HandLaws.{hand-refused}
-use Rattle.promises.specs.Calls.{Call, Answer, State, step}
+use Rattle.promises.specs.Calls.{Answer, State, step}
 use Rattle.promises.specs.Calls.Call.{packing, opening, offering, asking, handing, closing}
-use Rattle.promises.specs.Statements.{refusedVerdict, refusal, Unchanged, RefusalsChangeNothing}
+use Rattle.promises.specs.Statements.{refusedVerdict, refusal, RefusalsChangeNothing}
 
 no : {A : Type 0} → false ≡ true → A
 no e = let z : _≡_ {A = ℕ} 0 1 = cc in absurd (omega arith)

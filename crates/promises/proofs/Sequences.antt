@@ -1,13 +1,12 @@
 -- Two sequences: two states with one record whose stores show the same at a resource's place answer every call about it alike, and stay so.
 -- Assumes nothing.
 use mathlib.Core.Path.{_≡_, refl, sym, ap, ap₂, _∙_, subst}
-use mathlib.Core.Logic.{_⊎_, inl, inr}
-use mathlib.Core.Bool.{Bool, true, false, cond, not, _&&_}
-use mathlib.Core.List.{List, [], _∷_}
-use Prim.Native.Nat.{ℕ, _+_, _≤_, _<_}
+use mathlib.Core.Bool.{Bool, true, false, cond, not}
+use mathlib.Core.List.{List, _∷_}
+use Prim.Native.Nat.{ℕ}
 use native.Mathlib.Omega.{arith}
-use borrow.Author.Tests.{eqb-true, eqb-false}
-use lib.Dec.{eqb, ltb}
+use borrow.Author.Tests.{eqb-true}
+use lib.Dec.{ltb}
 use lib.ListN.{length, getD, set}
 use Rattle.refusals.specs.declared.Refusal.{Refusal}
 use Rattle.refusals.specs.declared.Verdict.{Verdict}
@@ -19,7 +18,7 @@ use Rattle.places.specs.declared.Found.{Found}
 use Rattle.places.specs.declared.Found.the-variants.{At, Nothing}
 use Rattle.places.specs.Places.{unused, good, placeNamed, placeOf}
 use Rattle.places.proofs.Truth.{differ, and-both}
-use Rattle.contents.specs.Contents.{Slot as Content, contents}
+use Rattle.contents.specs.Contents.{contents}
 use Rattle.record.specs.declared.Kept.{Kept as Record-kept}
 use Rattle.record.specs.Open.{Plan, refuse, take, planOf, carriedOut, Opening, openOf, closedAt, closeOf}
 use Rattle.record.specs.Offer.{offerOf}
@@ -29,10 +28,10 @@ use Rattle.record.proofs.OpenLaws.{open-named, open-own, open-empty, open-keeps
 use Rattle.record.proofs.CloseLaws.{close-record, close-unknown, close-found, close-named}
 use Rattle.record.proofs.OfferLaws.{offer-length, alike-answer, alike-holds}
 use Rattle.readout.proofs.HandLaws.{status-same, hand-same}
-use Rattle.promises.specs.Calls.{Call, Answer, State, Outcome, step, run, fresh, names, about}
+use Rattle.promises.specs.Calls.{Call, Answer, State, step, fresh, names, about}
 use Rattle.promises.specs.Calls.Call.{packing, opening, offering, asking, handing, closing}
-use Rattle.promises.specs.Statements.{Alike, pick, told, TwoSequences}
-use Rattle.promises.proofs.Views.{Kept, offer-leaves, open-leaves, close-leaves, step-leaves, step-length}
+use Rattle.promises.specs.Statements.{Alike, told, TwoSequences}
+use Rattle.promises.proofs.Views.{Kept, offer-leaves, step-leaves, step-length}
 
 -- two stores of one length that show the same at r's place
 pub record Like (r : ℕ) (h : Record) (s t : List ℕ) : Type 0 where

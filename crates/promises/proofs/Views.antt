@@ -1,24 +1,21 @@
 -- What a call that is not about a resource leaves alone: the resource's place, and what its slots hold.
 -- Assumes nothing.
-use mathlib.Core.Path.{_≡_, refl, sym, ap, ap₂, _∙_, subst}
-use mathlib.Core.Bool.{Bool, true, false, cond, _&&_}
-use mathlib.Core.List.{List, [], _∷_}
-use Prim.Native.Nat.{ℕ, _+_, _≤_, _<_}
-use borrow.Author.Tests.{eqb-true, eqb-false, eq-eqb, lt-ltb}
-use lib.Dec.{eqb, ltb}
-use lib.ListN.{length, getD, set}
+use mathlib.Core.Path.{_≡_, refl, sym, ap, _∙_}
+use mathlib.Core.Bool.{Bool, true, false}
+use mathlib.Core.List.{List}
+use Prim.Native.Nat.{ℕ}
+use borrow.Author.Tests.{eqb-false, eq-eqb, lt-ltb}
+use lib.ListN.{length, getD}
 use Rattle.packet.specs.declared.Settings.{Settings}
 use Rattle.packet.specs.Packet.{resourceIn}
-use Rattle.places.specs.declared.Place.{Place}
 use Rattle.places.specs.declared.Record.{Record}
 use Rattle.places.specs.declared.Found.{Found}
 use Rattle.places.specs.declared.Found.the-variants.{At, Nothing}
-use Rattle.places.specs.Places.{unused, inUse, good, placeNamed, placeOf, meets}
+use Rattle.places.specs.Places.{unused, inUse, good, placeNamed}
 use Rattle.places.proofs.Truth.{differ, and-join}
 use Rattle.places.proofs.Named.{names-in-use, names-resource}
 use Rattle.places.proofs.Holders.{found-names, unused-at}
-use Rattle.contents.specs.Slots.{cleared, stored}
-use Rattle.contents.specs.Contents.{Slot as Content, contents, slotAt}
+use Rattle.contents.specs.Contents.{contents}
 use Rattle.record.specs.Open.{Plan, refuse, take, planOf, openOf, closeOf}
 use Rattle.record.specs.Offer.{offerOf}
 use Rattle.record.proofs.PlanLaws.{taking, open-by}

@@ -3,15 +3,14 @@
 use mathlib.Core.Path.{_≡_, refl, ap, _∙_}
 use mathlib.Core.Bool.{Bool, cond}
 use mathlib.Core.List.{List}
-use Prim.Native.Nat.{ℕ, _+_, _*_, _≤_, _<_}
+use Prim.Native.Nat.{ℕ, _≤_, _<_}
 use native.Mathlib.Omega.{arith}
 use borrow.Author.Tests.{ne-eqb}
-use lib.ListN.{length, getD, take, drop}
+use lib.ListN.{length, getD}
 use Rattle.ground.proofs.Listed.{ceil-upper}
 use Rattle.packet.specs.declared.Settings.{Settings}
 use Rattle.packet.specs.Settings.{rowsHeld}
 use Rattle.packet.proofs.Laws.{settings-facts}
-use Rattle.layout.specs.Layout.{codedFile}
 use Rattle.pack.specs.Pack.{countOf, codedLength, sentOf, payloadOf}
 use Rattle.pack.proofs.Laws.{rows-positive, sent-coded, length-sent, payload-some}
 use Rattle.places.specs.Places.{placeOf}
