@@ -246,7 +246,7 @@ module _ (g : Settings) (file : List ℕ) (p : Protected g file) (i start : ℕ)
       ap (λ (h : Handing). Answer.handed (h .answer) (h .output)) done
 
 -- a place just opened is one in which the file is collected
-opened-collecting : (g : Settings) (file : List ℕ) (p : Protected g file) (x : State) (i start : ℕ) → Taking (x .held) (length (x .store)) g (countOf g (length file)) i start
+pub opened-collecting : (g : Settings) (file : List ℕ) (p : Protected g file) (x : State) (i start : ℕ) → Taking (x .held) (length (x .store)) g (countOf g (length file)) i start
     → Collecting g file p i start (step (opening g (countOf g (length file))) x .state)
 unfolding step
 opened-collecting g file p x i start t =

@@ -21,10 +21,9 @@ use Rattle.record.specs.Mend.{payloadIn}
 use Rattle.code.specs.Search.{Repaired}
 use Rattle.code.proofs.Exact.{repair-coded}
 use Rattle.places.specs.declared.Record.{Record}
-use Rattle.places.specs.declared.Found.the-variants.{At}
 use Rattle.places.specs.declared.Place.{Place}
 use Rattle.places.proofs.Facts.{named-facts}
-use Rattle.places.specs.Places.{unused, endOf, good, placeNamed, placeOf, freshRecord}
+use Rattle.places.specs.Places.{endOf, good, placeOf, freshRecord}
 use Rattle.contents.specs.Contents.{Slot as Content, wrong, holding, contents, slotAt, slotOf}
 use Rattle.contents.proofs.Bytes.{length-stored}
 use Rattle.contents.proofs.Places.{reading-slots, storing-sets}
@@ -33,10 +32,10 @@ use Rattle.readout.specs.Hand.{Handing, handRows, handJoined, handContents, han
 use Rattle.refusals.specs.declared.Verdict.{Verdict}
 use Rattle.refusals.specs.declared.Verdict.the-variants.{Accepted}
 use Rattle.record.specs.Mend.{whole, behind}
-use Rattle.record.specs.Open.{take as take-plan, carriedOut, Opening, openOf}
+use Rattle.record.specs.Open.{take as take-plan, Opening, openOf}
 use Rattle.record.proofs.PlanLaws.{Taking, taking-plan, open-by}
-use Rattle.record.proofs.OpenLaws.{open-length, open-good, open-named, open-own, open-empty}
-use Rattle.promises.specs.Calls.{Answer, step}
+use Rattle.record.proofs.OpenLaws.{open-empty}
+use Rattle.promises.specs.Calls.{Answer, fresh, step}
 use Rattle.promises.specs.Calls.Call.{offering}
 use Rattle.promises.specs.Statements.{Protected, Copy, rowIn, Fair, AllFair, Offers, Carries, FromFresh, output}
 use Rattle.refusals.specs.declared.Refusal.the-variants.{Crc, Missing}
@@ -46,6 +45,7 @@ use Rattle.record.specs.Mend.{agrees}
 use Rattle.record.specs.Offer.{Offering, storing, putInto, put, refuse, judgeMended, offerJudged}
 use Rattle.promises.specs.Wrong.{firstRowOnly, firstJudged, firstOffer, mendingFirst}
 use Rattle.promises.proofs.Judged.{not-different, copy-reads}
+use Rattle.promises.proofs.Demand.{Collecting, opened-collecting}
 use Rattle.promises.proofs.Fresh.{takes}
 use Rattle.promises.proofs.Turned.{zero-row, wrong-row, wrong-bytes, zero-coded}
 
@@ -181,28 +181,21 @@ room = replicate 512 0
 opens-there : Taking freshRecord (length room) two 1 0 0
 opens-there = takes two zeros protected room (omega arith) (omega arith)
 
-opened-there : openOf freshRecord room two 1 ≡ carriedOut freshRecord room two 1 (take-plan 0 0)
-opened-there = open-by freshRecord room two 1 (take-plan 0 0) (taking-plan freshRecord (length room) two 1 0 0 opens-there)
-
 abbrev held : Record
 held = openOf freshRecord room two 1 .kept .«record»
 
 abbrev store : List ℕ
 store = openOf freshRecord room two 1 .store
 
-sound : good (length store) (held .places) ≡ true
-sound =
-    ap (λ (o : Opening). good (length (o .store)) (o .kept .«record» .places)) opened-there
-    ∙ ap (λ (n : ℕ). good n (set (freshRecord .places) 0 (placeOf two 1 0))) (open-length freshRecord room two 1 0 0 opens-there) ∙ open-good freshRecord (length room) two 1 0 0 opens-there
-
-named : placeNamed (held .places) 5 ≡ At 0
-named = ap (λ (o : Opening). placeNamed (o .kept .«record» .places) 5) opened-there ∙ open-named freshRecord (length room) two 1 0 0 opens-there
-
-place : getD (held .places) 0 unused ≡ placeOf two 1 0
-place = ap (λ (o : Opening). getD (o .kept .«record» .places) 0 unused) opened-there ∙ open-own freshRecord (length room) two 1 0 0 opens-there
+-- the file's own place, just opened
+begun : Collecting two zeros protected 0 0 (record { held = held; store = store })
+unfolding step
+begun = opened-collecting two zeros protected (fresh room) 0 0 opens-there
 
 empty : contents (placeOf two 1 0) store ≡ holding [] ∷ []
-empty = ap (λ (o : Opening). contents (placeOf two 1 0) (o .store)) opened-there ∙ open-empty freshRecord room two 1 0 0 opens-there
+empty =
+    ap (λ (o : Opening). contents (placeOf two 1 0) (o .store)) (open-by freshRecord room two 1 (take-plan 0 0) (taking-plan freshRecord (length room) two 1 0 0 opens-there))
+    ∙ open-empty freshRecord room two 1 0 0 opens-there
 
 first-mended : firstRowOnly 1 altered ≡ whole body
 unfolding firstRowOnly
@@ -215,13 +208,13 @@ judged-first =
 
 offered-first : firstOffer held store altered ≡ offerJudged (placeOf two 1 0) store (cond (agrees altered body) (put 0 body) (refuse Crc))
 unfolding firstOffer
-offered-first = rw (sound, copy-reads two zeros protected 0 (omega arith) altered copy, named, place) (ap (offerJudged (placeOf two 1 0) store) judged-first)
+offered-first = rw (begun .sound, copy-reads two zeros protected 0 (omega arith) altered copy, begun .named, begun .place) (ap (offerJudged (placeOf two 1 0) store) judged-first)
 
 -- what is handed out of a store, by what the slot holds
 handed-of : (t : List ℕ) (c : Content) → length t ≡ length store → contents (placeOf two 1 0) t ≡ c ∷ [] → (out : List ℕ)
     → handOutOf held t 5 478 out ≡ handContents (placeOf two 1 0) (c ∷ []) 478 out
 unfolding handOutOf
-handed-of t c l e out = rw (ap (λ (n : ℕ). good n (held .places)) l ∙ sound, named, place, e) refl
+handed-of t c l e out = rw (ap (λ (n : ℕ). good n (held .places)) l ∙ begun .sound, begun .named, begun .place, e) refl
 
 -- nothing came
 missing : handContents (placeOf two 1 0) (holding [] ∷ []) 478 zeros ≡ record { answer = Verdict.Refused (Missing 0); output = zeros }
@@ -252,7 +245,7 @@ first-row-breaks-demand-3 d = by (agrees altered body) refl
         let after : firstOffer held store altered .store ≡ stored store (slotAt (placeOf two 1 0) 0) body =
         ap (λ (o : Offering). o .store) (offered-first ∙ ap (λ (b : Bool). offerJudged (placeOf two 1 0) store (cond b (put 0 body) (refuse Crc))) e
         ∙ ap (λ (c : Content). storing store (slotAt (placeOf two 1 0) 0) body (putInto c body)) slot) in
-        let ends : endOf (placeOf two 1 0) ≤ length store = subst (λ (p : Place). endOf p ≤ length store) place (named-facts (length store) (held .places) sound 5 0 named .ends-within) in
+        let ends : endOf (placeOf two 1 0) ≤ length store = subst (λ (p : Place). endOf p ≤ length store) (begun .place) (named-facts (length store) (held .places) (begun .sound) 5 0 (begun .named) .ends-within) in
         let holds : contents (placeOf two 1 0) (stored store (slotAt (placeOf two 1 0) 0) body) ≡ holding body ∷ [] =
         storing-sets (placeOf two 1 0) store 0 body ends (omega arith) refl ∙ ap (λ (c : List Content). set c 0 (holding body)) empty in
         let f : Answer.handed (handContents (placeOf two 1 0) (holding body ∷ []) 478 zeros .answer) (handContents (placeOf two 1 0) (holding body ∷ []) 478 zeros .output)

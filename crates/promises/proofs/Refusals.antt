@@ -4,7 +4,6 @@ use mathlib.Core.Path.{_≡_, refl, sym, ap, _∙_}
 use mathlib.Core.Bool.{Bool, true, false, cond, not}
 use mathlib.Core.List.{List}
 use Prim.Native.Nat.{ℕ}
-use native.Mathlib.Omega.{arith}
 use lib.ListN.{length}
 use Rattle.refusals.specs.declared.Refusal.{Refusal}
 use Rattle.refusals.specs.declared.Verdict.{Verdict}
@@ -18,6 +17,7 @@ use Rattle.places.specs.declared.Record.{Record}
 use Rattle.places.specs.declared.Found.{Found}
 use Rattle.places.specs.declared.Found.the-variants.{At, Nothing}
 use Rattle.places.specs.Places.{good, placeNamed}
+use Rattle.places.proofs.Truth.{differ}
 use Rattle.record.specs.declared.Kept.{Kept}
 use Rattle.record.specs.declared.Offered.{Offered}
 use Rattle.record.specs.Open.{Plan, refuse, take, planOf, carriedOut, openOf, closedAt, closeOf}
@@ -29,9 +29,6 @@ use Rattle.promises.specs.Calls.{Answer, State, step}
 use Rattle.promises.specs.Calls.Call.{packing, opening, offering, asking, handing, closing}
 use Rattle.promises.specs.Statements.{refusedVerdict, refusal, RefusalsChangeNothing}
 
-no : {A : Type 0} → false ≡ true → A
-no e = let z : _≡_ {A = ℕ} 0 1 = cc in absurd (omega arith)
-
 same-state : (x : State) (h : Record) (s : List ℕ) → h ≡ x .held → s ≡ x .store → _≡_ {A = State} record { held = h; store = s } x
 same-state x h s d e i = record { held = d i; store = e i }
 
@@ -42,34 +39,34 @@ pack-keeps : (file : List ℕ) (g : Settings) (n : ℕ) (out : List ℕ)
 pack-keeps file g n out = by (packOf file g n out .answer) refl
   where
     by : (a : Packed) → packOf file g n out .answer ≡ a → refusal (Answer.packed a (packOf file g n out .output)) ≡ true → packOf file g n out .output ≡ out
-    by (Written k) z e = no e
+    by (Written k) z e = differ (sym e)
     by (Packed.Refused t) z e = pack-refused file g n out t z
 
 hand-keeps : (h : Record) (s : List ℕ) (r n : ℕ) (out : List ℕ) → refusedVerdict (handOutOf h s r n out .answer) ≡ true → handOutOf h s r n out .output ≡ out
 hand-keeps h s r n out = by (handOutOf h s r n out .answer) refl
   where
     by : (v : Verdict) → handOutOf h s r n out .answer ≡ v → refusedVerdict v ≡ true → handOutOf h s r n out .output ≡ out
-    by Accepted z e = no e
+    by Accepted z e = differ (sym e)
     by (Refused t) z e = hand-refused out h s r n t z
 
 -- ---- offer: the store
 
 offer-keeps : (h : Record) (s q : List ℕ) → refusal (Answer.offered (offerOf h s q .answer)) ≡ true → offerOf h s q .store ≡ s
-offer-keeps h s q e = offer-unstored h s q (λ z. no (sym (ap (λ (a : Offered). refusal (Answer.offered a)) z) ∙ e))
+offer-keeps h s q e = offer-unstored h s q (λ z. differ (sym e ∙ ap (λ (a : Offered). refusal (Answer.offered a)) z))
 
 -- ---- open and close: the record and the store
 
 open-keeps : (h : Record) (s : List ℕ) (g : Settings) (count : ℕ) (p : Plan) → refusedVerdict (carriedOut h s g count p .kept .verdict) ≡ true
     → (carriedOut h s g count p .kept .«record» ≡ h) × (carriedOut h s g count p .store ≡ s)
 open-keeps h s g count (refuse r) e = (refl, refl)
-open-keeps h s g count (take i start) e = no e
+open-keeps h s g count (take i start) e = differ (sym e)
 
 abbrev CloseKeeps : Record → Kept → Type 0
 CloseKeeps h k = refusedVerdict (k .verdict) ≡ true → k .«record» ≡ h
 
 close-by : (b : Bool) (h : Record) (f : Found) → CloseKeeps h (cond b (record { «record» = h; verdict = Refused Refusal.Record }) (closedAt h f))
 close-by true h f e = refl
-close-by false h (At i) e = no e
+close-by false h (At i) e = differ (sym e)
 close-by false h Nothing e = refl
 
 close-keeps : (h : Record) (s : List ℕ) (r : ℕ) → CloseKeeps h (closeOf h s r)
