@@ -1,4 +1,6 @@
 // The calls of the library, and whether a refused one changed what it was lent.
+use crate::commands;
+use crate::digests;
 use crate::memory;
 use crate::transmission;
 use crate::words;
@@ -12,12 +14,12 @@ pub(crate) struct Answer {
     pub(crate) changed: bool,
 }
 
-// An answer that the library gave as one number, with the bits that the call changed: only a refused one must change none.
-pub(crate) fn answer_of(code: u64, bits: u8) -> Answer {
+// An answer that the library gave as one number. Only a refused call must change nothing.
+pub(crate) fn answer_of(code: u64, changed: bool) -> Answer {
     Answer {
         number: code % 256,
         value: code / 256,
-        changed: code % 256 != 0 && bits != 0,
+        changed: changed && code % 256 != 0,
     }
 }
 
@@ -56,6 +58,7 @@ fn read(line: &[u8], bytes: &[u8], fields: &mut [u32], out: &mut [u8]) -> u64 {
     answer
 }
 
+// Packet number word 1 of the file.
 fn pack(line: &[u8], file: &[u8], s: Settings, out: &mut [u8]) -> u64 {
     brithelva::bh_pack(
         file,
@@ -71,27 +74,35 @@ fn pack(line: &[u8], file: &[u8], s: Settings, out: &mut [u8]) -> u64 {
 }
 
 // The calls that take no record.
-fn call_plain(line: &[u8], file: &[u8], s: Settings, bytes: &[u8], out: &mut [u8]) -> u64 {
-    if words::is(line, 0, b"crc") {
+fn call_plain(
+    command: u8,
+    line: &[u8],
+    file: &[u8],
+    s: Settings,
+    bytes: &[u8],
+    out: &mut [u8],
+) -> u64 {
+    if command == commands::CRC {
         return crc(bytes, out);
     }
-    if words::is(line, 0, b"encode") {
+    if command == commands::ENCODE {
         return brithelva::bh_encode_row(bytes, out);
     }
-    if words::is(line, 0, b"repair") {
+    if command == commands::REPAIR {
         return brithelva::bh_repair_row(bytes, out);
     }
-    if words::is(line, 0, b"read") {
+    if command == commands::READ {
         let mut fields = [0u32; 9];
         return read(line, bytes, &mut fields, out);
     }
-    if words::is(line, 0, b"pack") {
+    if command == commands::PACK {
         return pack(line, file, s, out);
     }
     let n = words::number32(line, 1);
     brithelva::bh_pack_house(file, s.resource, s.kind, s.update, n, out)
 }
 
+// Opens with the count in word 1.
 fn open(line: &[u8], held: &mut [u8], store: &mut [u8], s: Settings) -> u64 {
     brithelva::bh_open(
         held,
@@ -108,6 +119,7 @@ fn open(line: &[u8], held: &mut [u8], store: &mut [u8], s: Settings) -> u64 {
 
 // The calls that take a record.
 fn call_record(
+    command: u8,
     line: &[u8],
     held: &mut [u8],
     store: &mut [u8],
@@ -115,27 +127,29 @@ fn call_record(
     bytes: &[u8],
     out: &mut [u8],
 ) -> u64 {
-    if words::is(line, 0, b"open") {
+    if command == commands::OPEN {
         return open(line, held, store, s);
     }
-    if words::is(line, 0, b"open-house") {
+    if command == commands::OPEN_HOUSE {
         let count = words::number32(line, 1);
         return brithelva::bh_open_house(held, store, s.resource, s.kind, s.update, count);
     }
-    if words::is(line, 0, b"offer") {
+    if command == commands::OFFER {
         return brithelva::bh_offer(held, store, bytes);
     }
     let resource = words::number16(line, 1);
-    if words::is(line, 0, b"status") {
+    if command == commands::STATUS {
         return brithelva::bh_status(held, store, resource);
     }
-    if words::is(line, 0, b"hand") {
+    if command == commands::HAND {
         return brithelva::bh_hand_out(held, store, resource, words::number(line, 2), out);
     }
     brithelva::bh_close(held, store, resource)
 }
 
+// One call.
 fn call_any(
+    command: u8,
     line: &[u8],
     file: &[u8],
     held: &mut [u8],
@@ -144,37 +158,15 @@ fn call_any(
     bytes: &[u8],
     out: &mut [u8],
 ) -> u64 {
-    if words::names(line, b"open open-house offer status hand close") {
-        return call_record(line, held, store, s, bytes, out);
+    if command < commands::OPEN {
+        return call_plain(command, line, file, s, bytes, out);
     }
-    call_plain(line, file, s, bytes, out)
+    call_record(command, line, held, store, s, bytes, out)
 }
 
-// One call, with what it may change compared with what it was if it is refused.
-fn watch(
-    line: &[u8],
-    file: &[u8],
-    held: &mut [u8],
-    store: &mut [u8],
-    s: Settings,
-    bytes: &[u8],
-    out: &mut [u8],
-) -> Answer {
-    let mut old_held = [0u8; 256];
-    let mut old_store = [0u8; 262144];
-    let mut old_out = [0u8; 131072];
-    memory::copy(held, &mut old_held);
-    memory::copy(store, &mut old_store);
-    memory::copy(out, &mut old_out);
-    let code = call_any(line, file, held, store, s, bytes, out);
-    let held_bits = memory::difference(held, &old_held);
-    let store_bits = memory::difference(store, &old_store);
-    let out_bits = memory::difference(out, &old_out);
-    answer_of(code, held_bits | store_bits | out_bits)
-}
-
-// The answer after a line: that of its call, or the one before.
+// The answer after a line: that of its call, or the one before. What a call may change is compared with what it was.
 pub(crate) fn call(
+    command: u8,
     line: &[u8],
     file: &[u8],
     held: &mut [u8],
@@ -184,13 +176,16 @@ pub(crate) fn call(
     out: &mut [u8],
     before: Answer,
 ) -> Answer {
-    if words::is(line, 0, b"send") {
+    if command == commands::SEND {
         return transmission::send(line, file, held, store, s);
     }
-    if words::names(line, b"crc encode repair read pack pack-house")
-        || words::names(line, b"open open-house offer status hand close")
-    {
-        return watch(line, file, held, store, s, bytes, out);
+    if command < commands::CRC {
+        return before;
     }
-    before
+    if commands::CLOSE < command {
+        return before;
+    }
+    let mark = digests::mark(held, store, out);
+    let code = call_any(command, line, file, held, store, s, bytes, out);
+    answer_of(code, digests::mark(held, store, out) != mark)
 }

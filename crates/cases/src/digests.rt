@@ -13,15 +13,23 @@ fn times_prime(h: u64) -> u64 {
     std::num::wrapping_add_u64(std::num::wrapping_add_u64(h << 40, high << 32), low)
 }
 
-// FNV-1a.
-fn fnv(bytes: &[u8]) -> u64 {
-    let mut h: u64 = 14695981039346656037;
+// What FNV-1a starts from.
+const START: u64 = 14695981039346656037;
+
+// FNV-1a, going on from h.
+fn fnv(h: u64, bytes: &[u8]) -> u64 {
+    let mut next = h;
     let mut i: usize = 0;
     while i < bytes.len() {
-        h = times_prime(h ^ wide(bytes[i]));
+        next = times_prime(next ^ wide(bytes[i]));
         i += 1;
     }
-    h
+    next
+}
+
+// One number for all that a call may change.
+pub(crate) fn mark(held: &[u8], store: &[u8], out: &[u8]) -> u64 {
+    fnv(fnv(fnv(START, held), store), out)
 }
 
 pub(crate) fn wide(b: u8) -> u64 {
@@ -32,7 +40,7 @@ pub(crate) fn digest_of(bytes: &[u8]) -> Digest {
     Digest {
         length: bytes.len() as u64,
         crc: brithelva::bh_crc32(bytes) as u64,
-        fnv: fnv(bytes),
+        fnv: fnv(START, bytes),
     }
 }
 

@@ -1,9 +1,35 @@
 // The cases: each compares what is got with what is expected, writes one line, and counts.
 use crate::calls::Answer;
+use crate::commands;
 use crate::digests;
 use crate::digests::Digest;
 use crate::memory;
 use crate::words;
+
+// The kinds of cases.
+const ACCEPTED: u8 = 0;
+
+const REFUSED: u8 = 1;
+
+const BYTES: u8 = 2;
+
+const OUT: u8 = 3;
+
+const STORE: u8 = 4;
+
+const HELD: u8 = 5;
+
+const PACKET: u8 = 6;
+
+const FILE: u8 = 7;
+
+// The kind of case that a line names; a number above all of these if it names none.
+fn kind_of(line: &[u8]) -> u8 {
+    words::order(
+        words::word(line, 2),
+        b"accepted refused bytes out store held packet file",
+    )
+}
 
 // How many cases there were, and how many of them were wrong.
 pub(crate) struct Tally {
@@ -83,9 +109,9 @@ fn print_pairs(bytes: &[u8]) {
     }
 }
 
-// The pairs from word 4 on with as many bytes of the output, from the position in word 3 on.
+// The pairs from word 4 on, of which there are at most 8,192, with as many bytes of the output, from the position in word 3 on.
 fn judge_bytes(line: &[u8], out: &[u8], tally: Tally) -> Tally {
-    let mut expected = [0u8; 131072];
+    let mut expected = [0u8; 8192];
     let n = memory::fit(words::put_pairs(line, 4, &mut expected), &expected);
     let from = memory::fit(words::number(line, 3) as usize, out);
     let to = from + memory::least(n, out.len() - from);
@@ -107,6 +133,7 @@ fn expected(line: &[u8]) -> Digest {
 
 // Judges the bytes that word 2 names.
 fn judge_memory(
+    kind: u8,
     line: &[u8],
     file: &[u8],
     held: &[u8],
@@ -115,22 +142,22 @@ fn judge_memory(
     out: &[u8],
     tally: Tally,
 ) -> Tally {
-    if words::is(line, 2, b"bytes") {
+    if kind == BYTES {
         return judge_bytes(line, out, tally);
     }
-    if words::is(line, 2, b"out") {
+    if kind == OUT {
         return judge_digest(line, expected(line), digests::digest_of(out), tally);
     }
-    if words::is(line, 2, b"store") {
+    if kind == STORE {
         return judge_digest(line, expected(line), digests::digest_of(store), tally);
     }
-    if words::is(line, 2, b"held") {
+    if kind == HELD {
         return judge_digest(line, expected(line), digests::digest_of(held), tally);
     }
-    if words::is(line, 2, b"packet") {
+    if kind == PACKET {
         return judge_digest(line, expected(line), digests::digest_of(bytes), tally);
     }
-    if words::is(line, 2, b"file") {
+    if kind == FILE {
         let n = memory::fit(file.len(), out);
         return judge_digest(
             line,
@@ -144,6 +171,7 @@ fn judge_memory(
 
 // The tally after a line.
 pub(crate) fn judge(
+    command: u8,
     line: &[u8],
     file: &[u8],
     held: &[u8],
@@ -153,10 +181,11 @@ pub(crate) fn judge(
     got: Answer,
     tally: Tally,
 ) -> Tally {
-    if !words::is(line, 0, b"case") {
+    if command != commands::CASE {
         return tally;
     }
-    if words::is(line, 2, b"accepted") {
+    let kind = kind_of(line);
+    if kind == ACCEPTED {
         let expected = Answer {
             number: 0,
             value: words::number(line, 3),
@@ -164,7 +193,7 @@ pub(crate) fn judge(
         };
         return judge_answer(line, expected, got, tally);
     }
-    if words::is(line, 2, b"refused") {
+    if kind == REFUSED {
         let expected = Answer {
             number: words::number(line, 3),
             value: words::number(line, 4),
@@ -172,5 +201,5 @@ pub(crate) fn judge(
         };
         return judge_answer(line, expected, got, tally);
     }
-    judge_memory(line, file, held, store, bytes, out, tally)
+    judge_memory(kind, line, file, held, store, bytes, out, tally)
 }

@@ -2,8 +2,10 @@
 use calls::Answer;
 use judging::Tally;
 use packet::Settings;
+use setting::Lengths;
 
 mod calls;
+mod commands;
 mod digests;
 mod generator;
 mod judging;
@@ -11,15 +13,6 @@ mod memory;
 mod setting;
 mod transmission;
 mod words;
-
-// How many bytes of each buffer are at hand.
-struct Lengths {
-    file: usize,
-    held: usize,
-    store: usize,
-    bytes: usize,
-    out: usize,
-}
 
 // What stays from line to line, beside the bytes.
 struct State {
@@ -29,6 +22,7 @@ struct State {
     tally: Tally,
 }
 
+// What is at hand at the start: nothing.
 fn start() -> State {
     State {
         lengths: Lengths {
@@ -57,111 +51,26 @@ fn start() -> State {
 
 // What a line sets.
 fn set(
+    command: u8,
     line: &[u8],
     file: &mut [u8],
     held: &mut [u8],
     store: &mut [u8],
     bytes: &mut [u8],
     out: &mut [u8],
-    l: Lengths,
-) -> Lengths {
-    let n = memory::fit(l.out, out);
-    let bytes_length = setting::bytes(line, bytes, l.bytes, &out[..n]);
-    let h = memory::fit(l.held, held);
-    let s = memory::fit(l.store, store);
-    let out_length = setting::out(line, out, l.out, &held[..h], &store[..s]);
-    Lengths {
-        file: setting::file(line, file, l.file),
-        held: setting::held(line, held, l.held),
-        store: setting::store(line, store, l.store),
-        bytes: bytes_length,
-        out: out_length,
-    }
-}
-
-// What a line calls.
-fn call(
-    line: &[u8],
-    file: &[u8],
-    held: &mut [u8],
-    store: &mut [u8],
-    bytes: &[u8],
-    out: &mut [u8],
-    l: Lengths,
-    settings: Settings,
-    before: Answer,
-) -> Answer {
-    let f = memory::fit(l.file, file);
-    let h = memory::fit(l.held, held);
-    let s = memory::fit(l.store, store);
-    let b = memory::fit(l.bytes, bytes);
-    let o = memory::fit(l.out, out);
-    calls::call(
-        line,
-        &file[..f],
-        &mut held[..h],
-        &mut store[..s],
-        settings,
-        &bytes[..b],
-        &mut out[..o],
-        before,
-    )
-}
-
-// What a line judges.
-fn judge(
-    line: &[u8],
-    file: &[u8],
-    held: &[u8],
-    store: &[u8],
-    bytes: &[u8],
-    out: &[u8],
-    l: Lengths,
-    answer: Answer,
-    tally: Tally,
-) -> Tally {
-    let f = memory::fit(l.file, file);
-    let h = memory::fit(l.held, held);
-    let s = memory::fit(l.store, store);
-    let b = memory::fit(l.bytes, bytes);
-    let o = memory::fit(l.out, out);
-    judging::judge(
-        line,
-        &file[..f],
-        &held[..h],
-        &store[..s],
-        &bytes[..b],
-        &out[..o],
-        answer,
-        tally,
-    )
-}
-
-// What a line calls and judges.
-fn act(
-    line: &[u8],
-    file: &[u8],
-    held: &mut [u8],
-    store: &mut [u8],
-    bytes: &[u8],
-    out: &mut [u8],
-    lengths: Lengths,
-    settings: Settings,
-    before: State,
+    s: State,
 ) -> State {
-    let last = before.answer;
-    let answer = call(line, file, held, store, bytes, out, lengths, settings, last);
-    let tally = judge(
-        line,
-        file,
-        held,
-        store,
-        bytes,
-        out,
-        lengths,
-        answer,
-        before.tally,
-    );
+    let l = s.lengths;
+    let lengths = Lengths {
+        file: setting::set_file(command, line, file, l.file),
+        held: setting::set_held(command, line, held, l.held),
+        store: setting::set_store(command, line, store, l.store),
+        bytes: setting::set_bytes(command, line, bytes, out, l),
+        out: setting::set_out(command, line, out, held, store, l),
+    };
+    let settings = setting::set_settings(command, line, s.settings);
+    let answer = s.answer;
+    let tally = s.tally;
     State {
         lengths,
         settings,
@@ -170,7 +79,86 @@ fn act(
     }
 }
 
-// One line.
+// What a line calls.
+fn call(
+    command: u8,
+    line: &[u8],
+    file: &[u8],
+    held: &mut [u8],
+    store: &mut [u8],
+    bytes: &[u8],
+    out: &mut [u8],
+    s: State,
+) -> Answer {
+    let l = s.lengths;
+    let f = memory::fit(l.file, file);
+    let h = memory::fit(l.held, held);
+    let n = memory::fit(l.store, store);
+    let b = memory::fit(l.bytes, bytes);
+    let o = memory::fit(l.out, out);
+    calls::call(
+        command,
+        line,
+        &file[..f],
+        &mut held[..h],
+        &mut store[..n],
+        s.settings,
+        &bytes[..b],
+        &mut out[..o],
+        s.answer,
+    )
+}
+
+// What a line judges.
+fn judge(
+    command: u8,
+    line: &[u8],
+    file: &[u8],
+    held: &[u8],
+    store: &[u8],
+    bytes: &[u8],
+    out: &[u8],
+    s: State,
+) -> Tally {
+    let l = s.lengths;
+    let f = memory::fit(l.file, file);
+    let h = memory::fit(l.held, held);
+    let n = memory::fit(l.store, store);
+    let b = memory::fit(l.bytes, bytes);
+    let o = memory::fit(l.out, out);
+    judging::judge(
+        command,
+        line,
+        &file[..f],
+        &held[..h],
+        &store[..n],
+        &bytes[..b],
+        &out[..o],
+        s.answer,
+        s.tally,
+    )
+}
+
+// What a line calls and judges.
+fn act(
+    command: u8,
+    line: &[u8],
+    file: &[u8],
+    held: &mut [u8],
+    store: &mut [u8],
+    bytes: &[u8],
+    out: &mut [u8],
+    s: State,
+) -> State {
+    let mut next = s;
+    let answer = call(command, line, file, held, store, bytes, out, s);
+    next.answer = answer;
+    let tally = judge(command, line, file, held, store, bytes, out, next);
+    next.tally = tally;
+    next
+}
+
+// One line. Of an empty one, a comment and an unknown command the first word is no command's name, and nothing is done.
 fn obey(
     line: &[u8],
     file: &mut [u8],
@@ -178,21 +166,11 @@ fn obey(
     store: &mut [u8],
     bytes: &mut [u8],
     out: &mut [u8],
-    before: State,
+    s: State,
 ) -> State {
-    let lengths = set(line, file, held, store, bytes, out, before.lengths);
-    let settings = setting::settings(line, before.settings);
-    act(
-        line,
-        file,
-        held,
-        store,
-        bytes,
-        out,
-        lengths,
-        settings,
-        before,
-    )
+    let command = commands::command_of(line);
+    let next = set(command, line, file, held, store, bytes, out, s);
+    act(command, line, file, held, store, bytes, out, next)
 }
 
 // All lines of the first n bytes of the text.

@@ -43,17 +43,6 @@ pub(crate) fn flip(out: &mut [u8], at: usize, mask: u8) {
     }
 }
 
-// The bits in which some byte differs from that at its place in the other, as far as both go: 0 if all agree.
-pub(crate) fn difference(a: &[u8], b: &[u8]) -> u8 {
-    let mut bits: u8 = 0;
-    let mut i: usize = 0;
-    while i < a.len() && i < b.len() {
-        bits = bits | (a[i] ^ b[i]);
-        i += 1;
-    }
-    bits
-}
-
 // A number's four bytes, most significant first.
 pub(crate) fn four(n: u32) -> [u8; 4] {
     [

@@ -1,8 +1,18 @@
-// The commands that set what is at hand. Each function knows the commands for one thing, leaves it alone under any other, and answers its length.
+// The commands that set what is at hand. Each `set_` function knows the commands for one thing, leaves it alone under any other, and answers its length.
+use crate::commands;
 use crate::generator;
 use crate::memory;
 use crate::words;
 use packet::Settings;
+
+// How many bytes of each buffer are at hand.
+pub(crate) struct Lengths {
+    pub(crate) file: usize,
+    pub(crate) held: usize,
+    pub(crate) store: usize,
+    pub(crate) bytes: usize,
+    pub(crate) out: usize,
+}
 
 // Pairs from word 2 on, from the position in word 1 on; what falls beyond the end is dropped.
 fn overwrite(line: &[u8], out: &mut [u8], length: usize) {
@@ -37,21 +47,21 @@ fn show(line: &[u8], source: &[u8], out: &mut [u8]) -> usize {
     memory::copy(&source[from..], &mut out[..n])
 }
 
-pub(crate) fn file(line: &[u8], file: &mut [u8], length: usize) -> usize {
-    if words::is(line, 0, b"file") {
+pub(crate) fn set_file(command: u8, line: &[u8], file: &mut [u8], length: usize) -> usize {
+    if command == commands::FILE {
         return generate(line, file);
     }
-    if words::is(line, 0, b"file-put") {
+    if command == commands::FILE_PUT {
         overwrite(line, file, length);
     }
     length
 }
 
-pub(crate) fn store(line: &[u8], store: &mut [u8], length: usize) -> usize {
-    if words::is(line, 0, b"store") {
+pub(crate) fn set_store(command: u8, line: &[u8], store: &mut [u8], length: usize) -> usize {
+    if command == commands::STORE {
         return fill(line, store);
     }
-    if words::is(line, 0, b"poke") {
+    if command == commands::POKE {
         overwrite(line, store, length);
     }
     length
@@ -83,13 +93,13 @@ fn place(line: &[u8]) -> [u8; 16] {
     ]
 }
 
-pub(crate) fn held(line: &[u8], held: &mut [u8], length: usize) -> usize {
-    if words::is(line, 0, b"held") {
+pub(crate) fn set_held(command: u8, line: &[u8], held: &mut [u8], length: usize) -> usize {
+    if command == commands::HELD {
         let n = memory::fit(words::number(line, 1) as usize, held);
         memory::fill(&mut held[..n], 0);
         return n;
     }
-    if words::is(line, 0, b"place") {
+    if command == commands::PLACE {
         let end = memory::fit(length, held);
         let i = words::number(line, 1);
         if i < 8 {
@@ -102,17 +112,26 @@ pub(crate) fn held(line: &[u8], held: &mut [u8], length: usize) -> usize {
     length
 }
 
-pub(crate) fn out(line: &[u8], out: &mut [u8], length: usize, held: &[u8], store: &[u8]) -> usize {
-    if words::is(line, 0, b"out") {
+pub(crate) fn set_out(
+    command: u8,
+    line: &[u8],
+    out: &mut [u8],
+    held: &[u8],
+    store: &[u8],
+    l: Lengths,
+) -> usize {
+    if command == commands::OUT {
         return fill(line, out);
     }
-    if words::is(line, 0, b"show-held") {
-        return show(line, held, out);
+    if command == commands::SHOW_HELD {
+        let n = memory::fit(l.held, held);
+        return show(line, &held[..n], out);
     }
-    if words::is(line, 0, b"show-store") {
-        return show(line, store, out);
+    if command == commands::SHOW_STORE {
+        let n = memory::fit(l.store, store);
+        return show(line, &store[..n], out);
     }
-    length
+    l.out
 }
 
 // Zeros behind, up to the length in word 1.
@@ -127,11 +146,10 @@ fn grow(line: &[u8], bytes: &mut [u8], length: usize) -> usize {
 }
 
 // The first bytes of the output, as many as word 1 says, behind those that are there.
-fn append(line: &[u8], bytes: &mut [u8], length: usize, out: &[u8]) -> usize {
+fn append(line: &[u8], bytes: &mut [u8], length: usize, out: &[u8], size: usize) -> usize {
     let from = memory::fit(length, bytes);
-    let n = memory::fit(words::number(line, 1) as usize, out);
-    let more = memory::least(n, bytes.len() - from);
-    let to = from + more;
+    let n = memory::fit(memory::least(words::number(line, 1) as usize, size), out);
+    let to = from + memory::least(n, bytes.len() - from);
     memory::copy(&out[..n], &mut bytes[from..to]);
     to
 }
@@ -147,13 +165,13 @@ fn seal(bytes: &mut [u8]) {
 }
 
 // The commands that alter bytes, and keep their length.
-fn alter(line: &[u8], bytes: &mut [u8]) {
-    if words::is(line, 0, b"put") {
+fn alter(command: u8, line: &[u8], bytes: &mut [u8]) {
+    if command == commands::PUT {
         let n = bytes.len();
         overwrite(line, bytes, n);
         return;
     }
-    if words::is(line, 0, b"flip") {
+    if command == commands::FLIP {
         memory::flip(
             bytes,
             words::number(line, 1) as usize,
@@ -161,44 +179,50 @@ fn alter(line: &[u8], bytes: &mut [u8]) {
         );
         return;
     }
-    if words::is(line, 0, b"seal") {
+    if command == commands::SEAL {
         seal(bytes);
         return;
     }
-    if words::is(line, 0, b"damage") {
+    if command == commands::DAMAGE {
         generator::damage(bytes, words::number(line, 1), words::number32(line, 2));
     }
 }
 
-pub(crate) fn bytes(line: &[u8], bytes: &mut [u8], length: usize, out: &[u8]) -> usize {
-    if words::is(line, 0, b"bytes") {
+pub(crate) fn set_bytes(
+    command: u8,
+    line: &[u8],
+    bytes: &mut [u8],
+    out: &[u8],
+    l: Lengths,
+) -> usize {
+    if command == commands::BYTES {
         return words::put_pairs(line, 1, bytes);
     }
-    if words::is(line, 0, b"random") {
+    if command == commands::RANDOM {
         return generate(line, bytes);
     }
-    if words::is(line, 0, b"fill") {
+    if command == commands::FILL {
         return fill(line, bytes);
     }
-    if words::is(line, 0, b"cut") {
-        return memory::least(length, words::number(line, 1) as usize);
+    if command == commands::CUT {
+        return memory::least(l.bytes, words::number(line, 1) as usize);
     }
-    if words::is(line, 0, b"grow") {
-        return grow(line, bytes, length);
+    if command == commands::GROW {
+        return grow(line, bytes, l.bytes);
     }
-    if words::is(line, 0, b"take") {
-        return append(line, bytes, 0, out);
+    if command == commands::TAKE {
+        return append(line, bytes, 0, out, l.out);
     }
-    if words::is(line, 0, b"append") {
-        return append(line, bytes, length, out);
+    if command == commands::APPEND {
+        return append(line, bytes, l.bytes, out, l.out);
     }
-    let n = memory::fit(length, bytes);
-    alter(line, &mut bytes[..n]);
-    length
+    let n = memory::fit(l.bytes, bytes);
+    alter(command, line, &mut bytes[..n]);
+    n
 }
 
-pub(crate) fn settings(line: &[u8], settings: Settings) -> Settings {
-    if words::is(line, 0, b"settings") {
+pub(crate) fn set_settings(command: u8, line: &[u8], settings: Settings) -> Settings {
+    if command == commands::SETTINGS {
         return Settings {
             resource: words::number16(line, 1),
             kind: words::number8(line, 2),

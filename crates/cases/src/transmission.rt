@@ -82,7 +82,7 @@ pub(crate) fn send(line: &[u8], file: &[u8], held: &[u8], store: &mut [u8], s: S
     while i < turns && 0 < count {
         let code = take_turn(line, file, held, store, s, number, seed);
         if code % 256 != 0 {
-            return calls::answer_of(code, 0);
+            return calls::answer_of(code, false);
         }
         stored = std::num::wrapping_add_u64(stored, code / 256);
         number = later(number, words::number(line, 2), count);

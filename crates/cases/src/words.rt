@@ -50,22 +50,16 @@ pub(crate) fn word(line: &[u8], k: u8) -> &[u8] {
     &line[from..to]
 }
 
-// Whether word k is this one.
-pub(crate) fn is(line: &[u8], k: u8, name: &[u8]) -> bool {
-    check::same(word(line, k), name)
-}
-
-// Whether word 0 is one of the first eight of these names.
-pub(crate) fn names(line: &[u8], of: &[u8]) -> bool {
-    let name = word(line, 0);
+// Which of the names it is, counted from 0; 40 if it is none of the first 40.
+pub(crate) fn order(name: &[u8], names: &[u8]) -> u8 {
     let mut k: u8 = 0;
-    while k < 8 && 0 < name.len() {
-        if check::same(word(of, k), name) {
-            return true;
+    while k < 40 {
+        if check::same(word(names, k), name) {
+            return k;
         }
         k += 1;
     }
-    false
+    k
 }
 
 // What a digit stands for, decimal or hexadecimal.

@@ -1,8 +1,8 @@
--- Eight turns; a callee keeps the row's length.
+-- Eight turns. Invariant: the row keeps its length.
 use mathlib.Core.Path.{_≡_}
 use Prim.Native.Nat.{_-_}
 use lib.ListN.{length}
-use borrow.Author.Needs.{needs}
+use native.Mathlib.Omega.{arith}
 use Rattle.cases.proofs.generator.damage_row.Statement.{statement}
 use Rattle.cases.proofs.generator.damage_row.Tie as tie
 
@@ -13,40 +13,40 @@ abbrev μ-loop : tie.MeasureT-loop
 μ-loop row₀ family seed x₀ j₀ row x j = 8 - j
 
 loop-holds : tie.Need-loop-holds Inv-loop μ-loop
-loop-holds c = search needs
+loop-holds c = omega arith
 
 draw-requires : tie.Need-draw-requires Inv-loop μ-loop
-draw-requires c κs = search needs
+draw-requires c κs = tt
 
 step-requires : tie.Need-step-requires Inv-loop μ-loop
-step-requires c κs = search needs
+step-requires c κs = tt
 
 top-requires : tie.Need-top-requires Inv-loop μ-loop
-top-requires c κs = search needs
+top-requires c κs = tt
 
 position-requires : tie.Need-position-requires Inv-loop μ-loop
-position-requires c κs = search needs
+position-requires c κs = omega arith
 
 top-requires-2 : tie.Need-top-requires-2 Inv-loop μ-loop
-top-requires-2 c κs = search needs
+top-requires-2 c κs = tt
 
 flip-requires : tie.Need-flip-requires Inv-loop μ-loop
-flip-requires c κs = search needs
+flip-requires c κs = tt
 
 add-j : tie.Need-add-j Inv-loop μ-loop
-add-j c = search needs
+add-j c = omega arith
 
 loop-less : tie.Need-loop-less Inv-loop μ-loop
-loop-less c = search needs
+loop-less c = omega arith
 
 loop-again : tie.Need-loop-again Inv-loop μ-loop
-loop-again c = search needs
+loop-again c = omega arith
 
 same-length : tie.Need-same-length Inv-loop μ-loop
-same-length c = search needs
+same-length c = omega arith
 
 returns : tie.Need-returns Inv-loop μ-loop
-returns c = search needs
+returns c = tt
 
 pub damage-row-spec : {M : Type 1} → statement M
 damage-row-spec =

@@ -1,5 +1,4 @@
 -- A number that is at most a length counts bytes at the start.
-use lib.ListN.{length}
 use mathlib.Core.Path.{sym}
 use lib.Seq.{length-take-le}
 use borrow.Author.Needs.{needs}
@@ -7,7 +6,7 @@ use Rattle.cases.proofs.memory.fit.Statement.{statement}
 use Rattle.cases.proofs.memory.fit.Tie as tie
 
 least-requires : tie.Need-least-requires
-least-requires c κs = search needs
+least-requires c κs = tt
 
 returns : tie.Need-returns
 returns c = (search needs, sym (length-take-le _ _ (search needs)))

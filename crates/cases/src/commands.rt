@@ -1,0 +1,80 @@
+// The commands by number: reference/README.md says what each does. Those of one kind stand together, so that a range of numbers names the kind.
+use crate::words;
+
+pub(crate) const FILE: u8 = 0;
+
+pub(crate) const FILE_PUT: u8 = 1;
+
+pub(crate) const BYTES: u8 = 2;
+
+pub(crate) const RANDOM: u8 = 3;
+
+pub(crate) const FILL: u8 = 4;
+
+pub(crate) const PUT: u8 = 5;
+
+pub(crate) const FLIP: u8 = 6;
+
+pub(crate) const CUT: u8 = 7;
+
+pub(crate) const GROW: u8 = 8;
+
+pub(crate) const TAKE: u8 = 9;
+
+pub(crate) const APPEND: u8 = 10;
+
+pub(crate) const SEAL: u8 = 11;
+
+pub(crate) const DAMAGE: u8 = 12;
+
+pub(crate) const OUT: u8 = 13;
+
+pub(crate) const STORE: u8 = 14;
+
+pub(crate) const POKE: u8 = 15;
+
+pub(crate) const HELD: u8 = 16;
+
+pub(crate) const PLACE: u8 = 17;
+
+pub(crate) const SETTINGS: u8 = 18;
+
+pub(crate) const SHOW_HELD: u8 = 19;
+
+pub(crate) const SHOW_STORE: u8 = 20;
+
+pub(crate) const CRC: u8 = 21;
+
+pub(crate) const ENCODE: u8 = 22;
+
+pub(crate) const REPAIR: u8 = 23;
+
+pub(crate) const READ: u8 = 24;
+
+pub(crate) const PACK: u8 = 25;
+
+pub(crate) const PACK_HOUSE: u8 = 26;
+
+pub(crate) const OPEN: u8 = 27;
+
+pub(crate) const OPEN_HOUSE: u8 = 28;
+
+pub(crate) const OFFER: u8 = 29;
+
+pub(crate) const STATUS: u8 = 30;
+
+pub(crate) const HAND: u8 = 31;
+
+pub(crate) const CLOSE: u8 = 32;
+
+pub(crate) const SEND: u8 = 33;
+
+pub(crate) const CASE: u8 = 34;
+
+// The command that a line names; a number above all of these if it names none.
+pub(crate) fn command_of(line: &[u8]) -> u8 {
+    words::order(
+        words::word(line, 0),
+        b"file file-put bytes random fill put flip cut grow take append seal damage out store poke held place settings show-held show-store crc encode repair read pack pack-house open open-house offer status hand close send case",
+    )
+}
