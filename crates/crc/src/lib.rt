@@ -1,6 +1,6 @@
 // CRC-32 of source document 000, Annex C, as document 01, section 2, takes it: the whole at once, in parts, and with a table that the caller lends.
 // The table has an entry for each half byte at each of 32 places: sixteen bytes go in at once, and yet it is small enough to be made anew for a call.
-mod rows;
+mod halfbytes;
 
 ghost use mathlib.Core.Path.{_≡_};
 ghost use mathlib.Core.List.{[], _∷_};
@@ -45,7 +45,7 @@ pub fn finish(register: u32) -> u32
 pub fn table() -> [u32; 512]
     ensures { λ r. ⌜ Rule 32 0x04C11DB7 32 r ⌝ }
 {
-    rows::ROWS
+    halfbytes::ROWS
 }
 
 // What `feed` gives, where the table is the one of `table`. Any other table is walked over in the same way.
