@@ -4,7 +4,7 @@ use mathlib.Core.Path.{_≡_}
 use mathlib.Core.Bool.{Bool, true, false, cond}
 use mathlib.Core.List.{List, [], _∷_, _++_}
 use Prim.Native.Nat.{ℕ, _+_, _-_, _*_, _≤_, _<_}
-use lib.ListN.{length, take, drop}
+use lib.ListN.{length, take, drop, replicate}
 use Rattle.refusals.specs.declared.Verdict.{Verdict}
 use Rattle.refusals.specs.declared.Verdict.the-variants.{Accepted, Refused}
 use Rattle.code.specs.Code.{Bytes, distance}
@@ -115,6 +115,12 @@ abbrev pub NoSecondFile : Type 0
 NoSecondFile =
     (g : Settings) (a b : List ℕ) → Protected g a → Protected g b → length a ≡ length b
     → (cs : List Call) → Carries g a cs → Carries g b cs → a ≡ b
+
+-- nor one of another length, but with zeros behind: of two files with equally many packets that the same calls carry, the longer is the shorter followed by zeros
+abbrev pub NoSecondLength : Type 0
+NoSecondLength =
+    (g : Settings) (a b : List ℕ) → Protected g a → Protected g b → countOf g (length a) ≡ countOf g (length b) → length a ≤ length b
+    → (cs : List Call) → Carries g a cs → Carries g b cs → b ≡ a ++ replicate (length b - length a) 0
 
 -- ---- two sequences
 
