@@ -1,3 +1,4 @@
 pub mod Pack
 pub mod Inner
 pub mod Cases
+pub mod Told

@@ -1,2 +1,3 @@
 pub mod Hand
 pub mod Passes
+pub mod Told

@@ -3,3 +3,4 @@ pub mod Open
 pub mod Offer
 pub mod Inner
 pub mod InnerOffer
+pub mod Told

@@ -1,6 +1,8 @@
--- Each refusal's number and extra value: document 01, section 6.
+-- Each refusal's number and values, and what a verdict tells: document 01, section 6.
 -- Assumes nothing.
+use mathlib.Core.List.{List, [], _∷_}
 use Prim.Native.Nat.{ℕ}
+use lib.ListN.{getD}
 use Rattle.refusals.specs.declared.Refusal.{Refusal}
 use Rattle.refusals.specs.declared.Refusal.the-variants.{Short, Mark, Length, «Type», Protection, Number, Rows, Resource, Record, Unknown, Other, Wide, Repair, Crc, Slot, Conflict, Field, Held, Full, Room, Missing, Shape, Size, Padding, Count, Output}
 
@@ -33,31 +35,35 @@ numberOf Padding = 24
 numberOf Count = 25
 numberOf Output = 26
 
--- its extra value: of Repair the first row that has no coded row within eight bytes, of Missing the lowest empty slot, of the others 0
+-- the values that it returns beside its number: of Repair the first row that has no coded row within eight bytes, of Missing the lowest empty slot; the others have none
+abbrev pub valuesOf : Refusal → List ℕ
+valuesOf Short = []
+valuesOf Mark = []
+valuesOf Length = []
+valuesOf «Type» = []
+valuesOf Protection = []
+valuesOf Number = []
+valuesOf Rows = []
+valuesOf Resource = []
+valuesOf Record = []
+valuesOf Unknown = []
+valuesOf Other = []
+valuesOf Wide = []
+valuesOf (Repair v) = v ∷ []
+valuesOf Crc = []
+valuesOf Slot = []
+valuesOf Conflict = []
+valuesOf Field = []
+valuesOf Held = []
+valuesOf Full = []
+valuesOf Room = []
+valuesOf (Missing v) = v ∷ []
+valuesOf Shape = []
+valuesOf Size = []
+valuesOf Padding = []
+valuesOf Count = []
+valuesOf Output = []
+
+-- its extra value, 0 where none is named
 abbrev pub valueOf : Refusal → ℕ
-valueOf Short = 0
-valueOf Mark = 0
-valueOf Length = 0
-valueOf «Type» = 0
-valueOf Protection = 0
-valueOf Number = 0
-valueOf Rows = 0
-valueOf Resource = 0
-valueOf Record = 0
-valueOf Unknown = 0
-valueOf Other = 0
-valueOf Wide = 0
-valueOf (Repair v) = v
-valueOf Crc = 0
-valueOf Slot = 0
-valueOf Conflict = 0
-valueOf Field = 0
-valueOf Held = 0
-valueOf Full = 0
-valueOf Room = 0
-valueOf (Missing v) = v
-valueOf Shape = 0
-valueOf Size = 0
-valueOf Padding = 0
-valueOf Count = 0
-valueOf Output = 0
+valueOf r = getD (valuesOf r) 0 0
