@@ -4,3 +4,4 @@ pub mod Repair
 pub mod Register
 pub mod Value
 pub mod Cases
+pub mod Mend

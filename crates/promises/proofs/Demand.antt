@@ -25,7 +25,7 @@ use Rattle.places.proofs.Truth.{and-both}
 use Rattle.contents.specs.Contents.{Slot as Content, wrong, holding, contents}
 use Rattle.contents.proofs.Places.{length-contents}
 use Rattle.record.specs.Open.{Plan, refuse, take as taken, planOf, carriedOut, Opening, openOf}
-use Rattle.record.specs.Offer.{Offering, Judged, refuse as refuse-packet, put, judge, differs, offerJudged, offerOf}
+use Rattle.record.specs.Offer.{Offering, Judged, refuse as refuse-packet, put, judge, differs, offerJudged, offerOf, judgeBy}
 use Rattle.readout.specs.Hand.{Handing, handContents, handOutOf}
 use Rattle.record.proofs.PlanLaws.{Taking, taking, taking-plan, open-by}
 use Rattle.record.proofs.OpenLaws.{open-named, open-own, open-empty, open-keeps, open-keeps-length, accepted-plan, refused-record, refused-store}
@@ -64,7 +64,7 @@ module _ (g : Settings) (file : List ℕ) (p : Protected g file) (i start : ℕ)
 
   -- the start of a place does not count in the judgement
   judge-start : (f : Packet) (q : List ℕ) → judge (placeOf g (countOf g (length file)) 0) f q ≡ judge own f q
-  unfolding judge differs
+  unfolding judgeBy differs
   judge-start f q = refl
 
   -- what slot k of it holds

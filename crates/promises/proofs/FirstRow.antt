@@ -31,7 +31,7 @@ use Rattle.contents.specs.Slots.{stored}
 use Rattle.readout.specs.Hand.{Handing, handRows, handJoined, handContents, handOutOf}
 use Rattle.refusals.specs.declared.Verdict.{Verdict}
 use Rattle.refusals.specs.declared.Verdict.the-variants.{Accepted}
-use Rattle.record.specs.Mend.{whole, behind}
+use Rattle.code.specs.Mend.{whole, behind}
 use Rattle.record.specs.Open.{take as take-plan, Opening, openOf}
 use Rattle.record.proofs.PlanLaws.{Taking, taking-plan, open-by}
 use Rattle.record.proofs.OpenLaws.{open-empty}
@@ -42,8 +42,8 @@ use Rattle.refusals.specs.declared.Refusal.the-variants.{Crc, Missing}
 use lib.Dec.{ltb}
 use Rattle.pack.proofs.Laws.{fieldsOf}
 use Rattle.record.specs.Mend.{agrees}
-use Rattle.record.specs.Offer.{Offering, storing, putInto, put, refuse, judgeMended, offerJudged}
-use Rattle.promises.specs.Wrong.{firstRowOnly, firstJudged, firstOffer, mendingFirst}
+use Rattle.record.specs.Offer.{Offering, storing, putInto, put, refuse, judgeMended, judgeBy, offerJudged, offerBy}
+use Rattle.promises.specs.Wrong.{firstRowOnly, mendingFirst}
 use Rattle.promises.proofs.Judged.{not-different, copy-reads}
 use Rattle.promises.proofs.Demand.{Collecting, opened-collecting}
 use Rattle.promises.proofs.Fresh.{takes}
@@ -201,13 +201,14 @@ first-mended : firstRowOnly 1 altered ≡ whole body
 unfolding firstRowOnly
 first-mended = rw altered-payload (ap (λ (a : Repaired). behind a 0 (whole wrong-row)) (repair-coded zero-row zero-coded))
 
-judged-first : firstJudged (placeOf two 1 0) (fieldsOf two zeros 0) altered ≡ cond (agrees altered body) (put 0 body) (refuse Crc)
+judged-first : judgeBy firstRowOnly (placeOf two 1 0) (fieldsOf two zeros 0) altered ≡ cond (agrees altered body) (put 0 body) (refuse Crc)
+unfolding judgeBy
 judged-first =
     let narrow : ltb 510 (length (payloadIn altered)) ≡ false = ap (λ (l : List ℕ). ltb 510 (length l)) altered-payload in
     rw (not-different two zeros 0 0, narrow) (ap (judgeMended 0 altered) first-mended)
 
-offered-first : firstOffer held store altered ≡ offerJudged (placeOf two 1 0) store (cond (agrees altered body) (put 0 body) (refuse Crc))
-unfolding firstOffer
+offered-first : offerBy firstRowOnly held store altered ≡ offerJudged (placeOf two 1 0) store (cond (agrees altered body) (put 0 body) (refuse Crc))
+unfolding offerBy
 offered-first = rw (begun .sound, copy-reads two zeros protected 0 (omega arith) altered copy, begun .named, begun .place) (ap (offerJudged (placeOf two 1 0) store) judged-first)
 
 -- what is handed out of a store, by what the slot holds
@@ -236,13 +237,13 @@ pub first-row-breaks-demand-3 : FromFresh mendingFirst → ⊥
 unfolding mendingFirst step
 first-row-breaks-demand-3 d = by (agrees altered body) refl
   where
-    told : handed-answer (firstOffer held store altered .store) ≡ Answer.handed Accepted (zeros ++ drop 478 zeros)
+    told : handed-answer (offerBy firstRowOnly held store altered .store) ≡ Answer.handed Accepted (zeros ++ drop 478 zeros)
     told = d two zeros protected room (omega arith) (omega arith) (offering altered ∷ []) carried .hands zeros (omega arith)
 
     by : (b : Bool) → agrees altered body ≡ b → ⊥
     by true e =
         let slot : slotOf (placeOf two 1 0) store 0 ≡ holding [] = sym (reading-slots (placeOf two 1 0) store 0 (omega arith)) ∙ ap (λ (c : List Content). getD c 0 wrong) empty in
-        let after : firstOffer held store altered .store ≡ stored store (slotAt (placeOf two 1 0) 0) body =
+        let after : offerBy firstRowOnly held store altered .store ≡ stored store (slotAt (placeOf two 1 0) 0) body =
         ap (λ (o : Offering). o .store) (offered-first ∙ ap (λ (b : Bool). offerJudged (placeOf two 1 0) store (cond b (put 0 body) (refuse Crc))) e
         ∙ ap (λ (c : Content). storing store (slotAt (placeOf two 1 0) 0) body (putInto c body)) slot) in
         let ends : endOf (placeOf two 1 0) ≤ length store = subst (λ (p : Place). endOf p ≤ length store) (begun .place) (named-facts (length store) (held .places) (begun .sound) 5 0 (begun .named) .ends-within) in
@@ -255,7 +256,7 @@ first-row-breaks-demand-3 d = by (agrees altered body) refl
         let z : _≡_ {A = ℕ} 1 0 = sym wrong-file ∙ ap (λ (a : Answer). getD (output a) 239 0) f in
         omega arith
     by false e =
-        let kept : firstOffer held store altered .store ≡ store = ap (λ (o : Offering). o .store) (offered-first ∙ ap (λ (b : Bool). offerJudged (placeOf two 1 0) store (cond b (put 0 body) (refuse Crc))) e) in
+        let kept : offerBy firstRowOnly held store altered .store ≡ store = ap (λ (o : Offering). o .store) (offered-first ∙ ap (λ (b : Bool). offerJudged (placeOf two 1 0) store (cond b (put 0 body) (refuse Crc))) e) in
         let f : Answer.handed (Verdict.Refused (Missing 0)) zeros ≡ Answer.handed Accepted (zeros ++ drop 478 zeros) =
         ap (λ (h : Handing). Answer.handed (h .answer) (h .output)) (sym (handed-of store (holding []) refl empty zeros ∙ missing))
         ∙ ap handed-answer (sym kept) ∙ told in

@@ -21,7 +21,8 @@ use Rattle.places.specs.Places.{unused}
 use Rattle.contents.specs.Contents.{holding}
 use Rattle.record.specs.declared.Offered.{Offered}
 use Rattle.record.specs.declared.Offered.the-variants.{Stored}
-use Rattle.record.specs.Mend.{whole, behind, mendRows, payloadIn, mendedIn, agrees}
+use Rattle.code.specs.Mend.{whole, behind, mendRows}
+use Rattle.record.specs.Mend.{payloadIn, mendedIn, agrees}
 use Rattle.record.specs.Offer.{putInto}
 use Rattle.readout.specs.Hand.{handJoined}
 use Rattle.promises.proofs.Turned.{zero-row, wrong-row, wrong-near, wrong-bytes}

@@ -31,8 +31,9 @@ use Rattle.record.specs.declared.Offered.{Offered}
 use Rattle.record.specs.declared.Offered.the-variants.{Stored}
 use Rattle.readout.specs.declared.Standing.{Standing}
 use Rattle.readout.specs.declared.Standing.the-variants.{Filled}
-use Rattle.record.specs.Mend.{whole, behind, mendRows, mendedIn}
-use Rattle.record.specs.Offer.{offerOf}
+use Rattle.code.specs.Mend.{whole, behind, mendRows}
+use Rattle.record.specs.Mend.{mendedIn}
+use Rattle.record.specs.Offer.{offerOf, offerBy}
 use Rattle.record.specs.Open.{take as take-plan, carriedOut, openOf}
 use Rattle.readout.specs.Hand.{Handing, statusOf, handContents, handOutOf}
 use Rattle.record.proofs.PlanLaws.{Taking, taking-plan, open-by}
@@ -121,7 +122,7 @@ losing-turned d =
 -- ---- one that answers Stored always: the empty packet is refused as too short
 
 short-said : step (offering []) (fresh []) .answer ≡ Answer.offered (Offered.Refused Short)
-unfolding step offerOf readOf
+unfolding step offerBy readOf
 short-said = rw (fresh-good 0) refl
 
 pub boasting-turned : Meets boasting → ⊥

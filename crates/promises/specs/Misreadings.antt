@@ -12,7 +12,8 @@ use Rattle.layout.specs.Layout.{tablesOf, infoOf}
 use Rattle.contents.specs.Contents.{Slot, wrong, holding}
 use Rattle.record.specs.declared.Offered.{Offered}
 use Rattle.record.specs.declared.Offered.the-variants.{Stored}
-use Rattle.record.specs.Mend.{Mended, whole, payloadIn, mendedIn, crcIn, agrees}
+use Rattle.code.specs.Mend.{Mended, whole}
+use Rattle.record.specs.Mend.{payloadIn, mendedIn, crcIn, agrees}
 
 -- tables filled row by row
 unfoldable pub infoByRows : ℕ → List ℕ → ℕ → ℕ → List ℕ

@@ -2,31 +2,23 @@
 -- Assumes nothing.
 use mathlib.Core.Path.{_≡_}
 use mathlib.Core.Bool.{cond}
-use mathlib.Core.List.{List, [], _∷_}
+use mathlib.Core.List.{List}
 use Prim.Native.Nat.{ℕ}
-use lib.Dec.{eqb, ltb}
-use lib.ListN.{length, getD, take, drop}
-use Rattle.refusals.specs.declared.Refusal.{Refusal}
-use Rattle.refusals.specs.declared.Refusal.the-variants.{Unknown, Field, Other, Wide}
+use lib.Dec.{eqb}
+use lib.ListN.{take, drop}
+use Rattle.refusals.specs.declared.Refusal.the-variants.{Unknown, Field}
 use Rattle.refusals.specs.declared.Verdict.the-variants.{Refused}
 use Rattle.code.specs.Repair.{repairOf}
-use Rattle.packet.specs.declared.Packet.{Packet}
-use Rattle.packet.specs.declared.Reading.{Reading}
-use Rattle.packet.specs.declared.Reading.the-variants.{Sent}
-use Rattle.packet.specs.Packet.{readOf}
 use Rattle.pack.specs.declared.Packed.{Packed}
-use Rattle.places.specs.declared.Place.{Place}
-use Rattle.places.specs.declared.Record.{Record}
-use Rattle.places.specs.declared.Found.{Found}
-use Rattle.places.specs.declared.Found.the-variants.{At, Nothing}
-use Rattle.places.specs.Places.{unused, good, placeNamed}
+use Rattle.places.specs.declared.Found.the-variants.{Nothing}
 use Rattle.record.specs.declared.Offered.{Offered}
 use Rattle.record.specs.declared.Offered.the-variants.{Stored}
 use Rattle.readout.specs.declared.Standing.{Standing}
 use Rattle.readout.specs.declared.Standing.the-variants.{Filled}
-use Rattle.record.specs.Mend.{Mended, whole, behind, payloadIn, mendedIn}
-use Rattle.record.specs.Offer.{Offering, Judged, refuse, differs, judgeMended, offerJudged}
-use Rattle.promises.specs.Calls.{Call, State, Outcome, Program, step}
+use Rattle.code.specs.Mend.{Mended, whole, behind}
+use Rattle.record.specs.Mend.{payloadIn, mendedIn}
+use Rattle.record.specs.Offer.{offerBy}
+use Rattle.promises.specs.Calls.{Call, State, Program, step}
 use Rattle.promises.specs.Calls.Call.{packing, opening, offering, asking, handing, closing}
 use Rattle.promises.specs.Calls.Answer.{packed, opened, offered, asked, handed, closed}
 
@@ -80,29 +72,12 @@ abbrev pub MendsEveryRow : (ℕ → List ℕ → Mended) → Type 0
 MendsEveryRow mend = (protection : ℕ) (q : List ℕ) → mend protection q ≡ mendedIn protection q
 
 -- a program that offers so: all else is as it should be
-abbrev pub firstJudged : Place → Packet → List ℕ → Judged
-firstJudged p f q =
-    cond (differs p f) (refuse Other)
-    (cond (ltb (p .slot) (length (payloadIn q))) (refuse Wide) (judgeMended (f .number) q (firstRowOnly (f .protection) q)))
-
-abbrev pub firstFound : Record → List ℕ → Packet → List ℕ → Found → Offering
-firstFound h s f q (At i) = offerJudged (getD (h .places) i unused) s (firstJudged (getD (h .places) i unused) f q)
-firstFound h s f q Nothing = record { answer = Offered.Refused Unknown; store = s }
-
-abbrev pub firstRead : Record → List ℕ → List ℕ → Reading → Offering
-firstRead h s q (Sent f) = firstFound h s f q (placeNamed (h .places) (f .resource))
-firstRead h s q (Reading.Refused r) = record { answer = Offered.Refused r; store = s }
-
-unfoldable pub firstOffer : Record → List ℕ → List ℕ → Offering
-firstOffer h s q =
-    cond (good (length s) (h .places)) (firstRead h s q (readOf q)) (record { answer = Offered.Refused Refusal.Record; store = s })
-
 unfoldable pub mendingFirst : Program
 mendingFirst (packing file g n out) x = step (packing file g n out) x
 mendingFirst (opening g count) x = step (opening g count) x
 mendingFirst (offering q) x = record {
-  answer = offered (firstOffer (x .held) (x .store) q .answer);
-  state = record { held = x .held; store = firstOffer (x .held) (x .store) q .store };
+  answer = offered (offerBy firstRowOnly (x .held) (x .store) q .answer);
+  state = record { held = x .held; store = offerBy firstRowOnly (x .held) (x .store) q .store };
 }
 mendingFirst (asking r) x = step (asking r) x
 mendingFirst (handing r n out) x = step (handing r n out) x

@@ -18,7 +18,8 @@ use Rattle.code.proofs.Lists.{bytes-parts}
 use Rattle.code.proofs.Exact.{repair-near, repair-found}
 use Rattle.packet.specs.Packet.{readOf}
 use Rattle.packet.proofs.Laws.{fields-first}
-use Rattle.record.specs.Mend.{Mended, whole, broken, behind, mendRows, payloadIn, mendedIn, crcIn, agrees}
+use Rattle.code.specs.Mend.{Mended, whole, broken, behind, mendRows}
+use Rattle.record.specs.Mend.{payloadIn, mendedIn, crcIn, agrees}
 use Rattle.record.proofs.OfferCases.{payload-length, mended-plain, mended-rows}
 
 -- row j of some bytes

@@ -21,7 +21,8 @@ use Rattle.code.specs.Search.Repaired.{found, none}
 use Rattle.code.specs.Repair.{repairOf}
 use Rattle.rows.specs.declared.Mended.{Mended as Row}
 use Rattle.rows.specs.Rows.{mendedAs, mendOf}
-use Rattle.record.specs.Mend.{Mended, whole, broken, before, behind, mendRows, crcIn, agrees}
+use Rattle.code.specs.Mend.{Mended, whole, broken, before, behind, mendRows}
+use Rattle.record.specs.Mend.{crcIn, agrees}
 
 -- ---- one row
 

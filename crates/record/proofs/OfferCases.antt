@@ -24,8 +24,9 @@ use Rattle.contents.proofs.Bytes.{length-bytes}
 use Rattle.contents.proofs.Slots.{slot-holds, slot-wrong, slot-empty}
 use Rattle.record.specs.declared.Offered.{Offered}
 use Rattle.record.specs.declared.Offered.the-variants.{Stored, Repeat, Refused}
-use Rattle.record.specs.Mend.{Mended, whole, broken, payloadIn, mendRows, mendedIn, agrees}
-use Rattle.record.specs.Offer.{differs, refuse, put, judgeMended, judge, same, Offering, storing, offerJudged, offerOf}
+use Rattle.code.specs.Mend.{Mended, whole, broken, mendRows}
+use Rattle.record.specs.Mend.{payloadIn, mendedIn, agrees}
+use Rattle.record.specs.Offer.{differs, refuse, put, judgeMended, judge, same, Offering, storing, offerJudged, offerOf, judgeBy, offerBy}
 use Rattle.record.specs.declared.mend.Mending.{Mending}
 use Rattle.record.specs.declared.mend.Mending.the-variants.{Whole, Broken}
 use Rattle.record.specs.InnerOffer.{mendedBy, Comes, refusalIn}
@@ -134,16 +135,16 @@ module _ (q l : List ℕ) (r : Mending) (e : mendRows (length (cut q) / 255) 0 (
 
 module _ (p : Place) (f : Packet) (q : List ℕ) where
   pub judge-other : differs p f ≡ true → judge p f q ≡ refuse Other
-  unfolding judge
+  unfolding judgeBy
   judge-other h = rw h refl
 
   module _ (d : differs p f ≡ false) where
     pub judge-wide : p .slot < length (payloadIn q) → judge p f q ≡ refuse Wide
-    unfolding judge
+    unfolding judgeBy
     judge-wide h = rw (d, lt-ltb (p .slot) (length (payloadIn q)) h) refl
 
     pub judge-mended : length (payloadIn q) ≤ p .slot → judge p f q ≡ judgeMended (f .number) q (mendedIn (f .protection) q)
-    unfolding judge
+    unfolding judgeBy
     judge-mended h = rw (d, le-ltb (p .slot) (length (payloadIn q)) h) refl
 
     -- what is put is the repaired payload, where its CRC agrees
@@ -167,20 +168,20 @@ refusal-read x r t e d = e ∙ ap Reading.Refused (sym (d ∙ ap refusalIn e))
 
 module _ (h : Record) (s q : List ℕ) where
   pub offer-bad : good (length s) (h .places) ≡ false → offerOf h s q ≡ said (Refused Refusal.Record) s
-  unfolding offerOf
+  unfolding offerBy
   offer-bad g = rw g refl
 
   module _ (g : good (length s) (h .places) ≡ true) where
     pub offer-unread : (r : Refusal) → readOf q ≡ Reading.Refused r → offerOf h s q ≡ said (Refused r) s
-    unfolding offerOf
+    unfolding offerBy
     offer-unread r e = rw (g, e) refl
 
     module _ (f : Packet) (e : readOf q ≡ Sent f) where
       pub offer-unknown : placeNamed (h .places) (f .resource) ≡ Nothing → offerOf h s q ≡ said (Refused Unknown) s
-      unfolding offerOf
+      unfolding offerBy
       offer-unknown w = rw (g, e, w) refl
 
       pub offer-placed : (i : ℕ) → placeNamed (h .places) (f .resource) ≡ At i
           → offerOf h s q ≡ offerJudged (getD (h .places) i unused) s (judge (getD (h .places) i unused) f q)
-      unfolding offerOf
+      unfolding offerBy
       offer-placed i w = rw (g, e, w) refl

@@ -31,8 +31,9 @@ use Rattle.contents.proofs.Slots.{fits-made, fits-room}
 use Rattle.contents.proofs.Places.{reading-slots, storing-sets, storing-leaves, apart-meets}
 use Rattle.record.specs.declared.Offered.{Offered}
 use Rattle.record.specs.declared.Offered.the-variants.{Stored, Repeat, Refused}
-use Rattle.record.specs.Mend.{Mended, whole, broken, payloadIn, mendedIn, agrees}
-use Rattle.record.specs.Offer.{differs, Judged, refuse, put, judgeMended, judge, same, putInto, Offering, storing, offerJudged, offerOf}
+use Rattle.code.specs.Mend.{Mended, whole, broken}
+use Rattle.record.specs.Mend.{payloadIn, mendedIn, agrees}
+use Rattle.record.specs.Offer.{differs, Judged, refuse, put, judgeMended, judge, same, putInto, Offering, storing, offerJudged, offerOf, judgeBy}
 use Rattle.record.proofs.OfferCases.{said, payload-length, judge-puts, offer-bad, offer-unread, offer-unknown, offer-placed}
 use Rattle.record.proofs.OfferFacts.{Read, read-known, read-resource, SameFile, same-file, same-serves, slot-below}
 use Rattle.record.proofs.MendLaws.{mended-length, Altered, Intact, agrees-copy, mended-copy}
@@ -80,7 +81,7 @@ module _ (n : ℕ) (p : Place) (f : Packet) (q : List ℕ) (w : PlaceFacts n p) 
         by false = tt
 
   pub judge-sound : Sound p f (judge p f q)
-  unfolding judge
+  unfolding judgeBy
   judge-sound = other (differs p f) refl
     where
       wide : differs p f ≡ false → (t : Bool) → ltb (p .slot) (length (payloadIn q)) ≡ t

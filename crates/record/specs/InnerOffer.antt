@@ -11,7 +11,7 @@ use Rattle.packet.specs.declared.Reading.the-variants.{Sent, Refused}
 use Rattle.record.specs.declared.Offered.{Offered}
 use Rattle.record.specs.declared.mend.Mending.{Mending}
 use Rattle.record.specs.declared.mend.Mending.the-variants.{Whole, Broken}
-use Rattle.record.specs.Mend.{Mended, whole, broken}
+use Rattle.code.specs.Mend.{Mended, whole, broken}
 use Rattle.record.specs.Offer.{Offering}
 
 -- what repairing a payload came to: n bytes at the front of a buffer, or the row that is broken

@@ -1,32 +1,12 @@
 -- A packet's payload, repaired row by row, and its CRC: document 01, section 5, Offer.
 -- Assumes nothing.
 use mathlib.Core.Bool.{Bool, cond}
-use mathlib.Core.List.{List, [], _++_}
-use Prim.Native.Nat.{ℕ, zero, suc, _+_, _-_, _*_, _/_}
+use mathlib.Core.List.{List, _++_}
+use Prim.Native.Nat.{ℕ, _+_, _-_, _*_, _/_}
 use lib.Dec.{eqb}
 use lib.ListN.{length, getD, take, drop}
 use Rattle.crc.specs.Crc.{crc32Of}
-use Rattle.code.specs.Search.{Repaired}
-use Rattle.code.specs.Search.Repaired.{found, none}
-use Rattle.code.specs.Repair.{repairOf}
-
--- a repaired payload, or the first row that has no coded row within eight bytes
-pub data Mended : Type 0 where
-  whole : List ℕ → Mended
-  broken : ℕ → Mended
-
-abbrev pub before : List ℕ → Mended → Mended
-before s (whole b) = whole (s ++ b)
-before s (broken i) = broken i
-
-abbrev pub behind : Repaired → ℕ → Mended → Mended
-behind (found s) i later = before s later
-behind none i later = broken i
-
--- n rows of 255 bytes, the first being row i
-unfoldable pub mendRows : ℕ → ℕ → List ℕ → Mended
-mendRows zero i b = whole []
-mendRows (suc n) i b = behind (repairOf (take 255 b)) i (mendRows n (suc i) (drop 255 b))
+use Rattle.code.specs.Mend.{Mended, whole, mendRows}
 
 -- the payload of a packet: what stands between the fourteen bytes of its header and the four of its CRC
 abbrev pub payloadIn : List ℕ → List ℕ

@@ -20,7 +20,8 @@ use Rattle.contents.specs.Slots.{stored}
 use Rattle.contents.specs.Contents.{Slot as Content, wrong, holding, slotAt, slotOf}
 use Rattle.record.specs.declared.Offered.{Offered}
 use Rattle.record.specs.declared.Offered.the-variants.{Stored, Repeat}
-use Rattle.record.specs.Mend.{Mended, whole, broken, payloadIn, mendedIn, agrees}
+use Rattle.code.specs.Mend.{Mended, whole, broken}
+use Rattle.record.specs.Mend.{payloadIn, mendedIn, agrees}
 
 -- type, update, count, protection, or M under protection 1, differs from the place
 unfoldable pub differs : Place → Packet → Bool
@@ -37,10 +38,14 @@ abbrev pub judgeMended : ℕ → List ℕ → Mended → Judged
 judgeMended number q (broken i) = refuse (Repair i)
 judgeMended number q (whole b) = cond (agrees q b) (put number b) (refuse Crc)
 
-unfoldable pub judge : Place → Packet → List ℕ → Judged
-judge p f q =
+-- by any mending of packets; ours is `mendedIn`
+unfoldable pub judgeBy : (ℕ → List ℕ → Mended) → Place → Packet → List ℕ → Judged
+judgeBy mend p f q =
     cond (differs p f) (refuse Other)
-    (cond (ltb (p .slot) (length (payloadIn q))) (refuse Wide) (judgeMended (f .number) q (mendedIn (f .protection) q)))
+    (cond (ltb (p .slot) (length (payloadIn q))) (refuse Wide) (judgeMended (f .number) q (mend (f .protection) q)))
+
+abbrev pub judge : Place → Packet → List ℕ → Judged
+judge = judgeBy mendedIn
 
 abbrev pub same : List ℕ → List ℕ → Bool
 same [] [] = true
@@ -69,14 +74,18 @@ abbrev pub offerJudged : Place → List ℕ → Judged → Offering
 offerJudged p s (refuse r) = record { answer = Offered.Refused r; store = s }
 offerJudged p s (put k b) = storing s (slotAt p k) b (putInto (slotOf p s k) b)
 
-abbrev pub offerFound : Record → List ℕ → Packet → List ℕ → Found → Offering
-offerFound h s f q (At i) = offerJudged (getD (h .places) i unused) s (judge (getD (h .places) i unused) f q)
-offerFound h s f q Nothing = record { answer = Offered.Refused Unknown; store = s }
+module _ (mend : ℕ → List ℕ → Mended) where
+  abbrev pub offerFound : Record → List ℕ → Packet → List ℕ → Found → Offering
+  offerFound h s f q (At i) = offerJudged (getD (h .places) i unused) s (judgeBy mend (getD (h .places) i unused) f q)
+  offerFound h s f q Nothing = record { answer = Offered.Refused Unknown; store = s }
 
-abbrev pub offerRead : Record → List ℕ → List ℕ → Reading → Offering
-offerRead h s q (Sent f) = offerFound h s f q (placeNamed (h .places) (f .resource))
-offerRead h s q (Refused r) = record { answer = Offered.Refused r; store = s }
+  abbrev pub offerRead : Record → List ℕ → List ℕ → Reading → Offering
+  offerRead h s q (Sent f) = offerFound h s f q (placeNamed (h .places) (f .resource))
+  offerRead h s q (Refused r) = record { answer = Offered.Refused r; store = s }
 
-unfoldable pub offerOf : Record → List ℕ → List ℕ → Offering
-offerOf h s q =
-    cond (good (length s) (h .places)) (offerRead h s q (readOf q)) (record { answer = Offered.Refused Refusal.Record; store = s })
+  unfoldable pub offerBy : Record → List ℕ → List ℕ → Offering
+  offerBy h s q =
+      cond (good (length s) (h .places)) (offerRead h s q (readOf q)) (record { answer = Offered.Refused Refusal.Record; store = s })
+
+abbrev pub offerOf : Record → List ℕ → List ℕ → Offering
+offerOf = offerBy mendedIn

@@ -3,7 +3,8 @@
 ghost use mathlib.Core.Path.{_≡_};
 ghost use Prim.Native.Nat.{_+_, _/_, _%_, _≤_};
 ghost use lib.ListN.{length, take, drop};
-ghost use Rattle.record.specs.Mend.{mendRows, crcIn, agrees};
+ghost use Rattle.code.specs.Mend.{mendRows};
+ghost use Rattle.record.specs.Mend.{crcIn, agrees};
 ghost use Rattle.record.specs.InnerOffer.{mendedBy};
 use packet::Packet;
 use refusals::Verdict;

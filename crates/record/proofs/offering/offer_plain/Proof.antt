@@ -3,7 +3,7 @@ use mathlib.Core.Path.{sym, ap, _∙_}
 use native.Mathlib.Omega.{arith}
 use borrow.Author.Needs.{needs}
 use borrow.Author.Tests.{not-true, not-false}
-use Rattle.record.specs.Mend.{whole}
+use Rattle.code.specs.Mend.{whole}
 use Rattle.record.proofs.OfferCases.{told, come, payload-cut, mended-wrong, mended-right}
 use Rattle.record.proofs.offering.offer_plain.Statement.{statement}
 use Rattle.record.proofs.offering.offer_plain.Tie as tie

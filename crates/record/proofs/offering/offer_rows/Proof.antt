@@ -5,7 +5,7 @@ use borrow.Author.Needs.{needs}
 use borrow.Author.Tests.{not-true, not-false}
 use lib.ListN.{length}
 use lib.Seq.{length-take-le}
-use Rattle.record.specs.Mend.{Mended}
+use Rattle.code.specs.Mend.{Mended}
 use Rattle.record.specs.Offer.{judgeMended, offerJudged}
 use Rattle.record.proofs.OfferCases.{told, come, cut, cut-length, rows-broken, rows-whole, mended-wrong, mended-right}
 use Rattle.record.proofs.offering.offer_rows.Statement.{statement}
