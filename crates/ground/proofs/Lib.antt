@@ -4,3 +4,4 @@ pub mod Sweep
 pub mod OneResult
 pub mod Listed
 pub mod Writing
+pub mod Pieces

@@ -1,7 +1,7 @@
 -- Rows of the coded file, written run by run: rows that follow each other are written one run behind the other, and what a run writes is what `put_rows` gives.
 -- Assumes nothing.
 use mathlib.Core.Path.{_≡_, sym, ap, _∙_}
-use mathlib.Core.Bool.{Bool, true}
+use mathlib.Core.Bool.{Bool}
 use mathlib.Core.List.{List, _++_, flatten}
 use Prim.Native.Nat.{ℕ, _+_, _-_, _*_, _/_, _%_, _<_, _≤_}
 use native.Mathlib.Nat.{add-zero, mul-assoc, mul-comm, add-mul, mul-pos, mul-le-mul-right, zero-lt-suc, mod-lt, le-div-iff-mul-le, div-lt-iff-lt-mul}
@@ -14,8 +14,9 @@ use lib.Seq.{sets, take-add, drop-drop}
 use Rattle.ground.proofs.Sweep.{all, below}
 use Rattle.ground.proofs.Listed.{listed-same, ceil-below}
 use Rattle.ground.proofs.Writing.{sets-append, lent-sets}
-use Rattle.rows.specs.Put.{infoFrom, codedRow, rowsFrom, putServes, putRows}
-use Rattle.rows.proofs.Serving.{by-room, put-done}
+use Rattle.refusals.specs.declared.Verdict.the-variants.{Accepted}
+use Rattle.encoding.specs.Put.{infoFrom, codedRow, rowsFrom, putVerdict, putRows}
+use Rattle.encoding.proofs.Serving.{by-length, put-accepted, put-done}
 use Rattle.layout.specs.Layout.{tablesOf, rowOf, codedFile}
 use Rattle.layout.proofs.Coded.{info-from, length-coded, row-behind, coded-rows}
 use Rattle.pack.specs.Inner.{codedRows, RunFits}
@@ -103,12 +104,14 @@ module _ (file : List ℕ) (m q n room at : ℕ) (fits : RunFits file m q n room
         (listed-same (λ i. rowOf m file (i / m) (i % m)) (λ j. codedRow (infoFrom file m j)) k q (q / m * (239 * m) + q % m)
         (λ i h. row-behind m (fits .rows) file q i (omega arith) ∙ ap codedRow (info-from m file (q / m) (q % m) i))))
 
-    pub run-serves : (o : ℕ) → k * 255 ≤ o → putServes (length file) m (q / m * (239 * m) + q % m) k o ≡ true
-    run-serves o h =
-        sym
-        (by-room (length file) m (q / m * (239 * m) + q % m) k o (λ (z : m ≡ 0). let p : 0 < m = fits .rows in omega arith) (fits .rows-most)
-        (omega (arith, fits .few)) run-start (fits .len))
-        ∙ le-leb (k * 255) o h
+    -- such a call is served
+    pub run-accepted : (o : ℕ) → k * 255 ≤ o → putVerdict (length file) m (q / m * (239 * m) + q % m) k o ≡ Accepted
+    run-accepted o h =
+        put-accepted (length file) m (q / m * (239 * m) + q % m) k o
+        (sym
+        (by-length (length file) m (q / m * (239 * m) + q % m) k (λ (z : m ≡ 0). let p : 0 < m = fits .rows in omega arith) (fits .rows-most)
+        (omega (arith, fits .few)) run-start)
+        ∙ le-leb (length file) 16777216 (fits .len)) h
 
     -- written in the part of the output that is lent, from byte `at` on
     pub run-written : (out x : List ℕ) → length out ≡ room → x ≡ putRows file m (q / m * (239 * m) + q % m) k (take (length out - at) (drop at out))
@@ -118,5 +121,5 @@ module _ (file : List ℕ) (m q n room at : ℕ) (fits : RunFits file m q n room
         let r : at + n * 255 ≤ room = fits .enough in
         let d : length part ≡ length out - at = length-take (length out - at) (drop at out) ∙ omega (arith, length-drop at out) in
         ap (putMid at (length out - at) out)
-        (w ∙ sym (put-done file m (q / m * (239 * m) + q % m) k part (run-serves (length part) (omega arith))) ∙ ap (sets part 0) run-rows)
+        (w ∙ sym (put-done file m (q / m * (239 * m) + q % m) k part (run-accepted (length part) (omega arith)) (omega arith)) ∙ ap (sets part 0) run-rows)
         ∙ lent-sets at (codedRows file m q k) out 0 (omega arith) ∙ ap (λ (i : ℕ). sets out i (codedRows file m q k)) (add-zero at)

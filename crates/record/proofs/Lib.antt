@@ -3,7 +3,7 @@ pub mod PlanLaws
 pub mod OpenLaws
 pub mod CloseLaws
 pub mod OneResult
-pub mod MendSteps
+pub mod CrcLaws
 pub mod MendLaws
 pub mod OfferCases
 pub mod OfferFacts

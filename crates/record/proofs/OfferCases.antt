@@ -3,13 +3,18 @@
 use mathlib.Core.Path.{_≡_, refl, sym, ap, ap₂, _∙_}
 use mathlib.Core.Bool.{Bool, true, false, cond}
 use mathlib.Core.List.{List}
-use Prim.Native.Nat.{ℕ, zero, suc, _+_, _-_, _/_, _<_, _≤_}
+use Prim.Native.Nat.{ℕ, zero, suc, _+_, _-_, _/_, _%_, _<_, _≤_}
 use native.Mathlib.Omega.{arith}
 use borrow.Author.Tests.{lt-ltb, le-ltb, eq-eqb, ne-eqb}
-use lib.ListN.{length, getD, take, drop, length-drop}
-use lib.Seq.{length-take-le}
+use lib.ListN.{length, getD, take, drop, replicate, length-drop, length-replicate}
+use lib.Seq.{sets, take-at, length-take-le}
+use Rattle.ground.proofs.Writing.{sets-front}
 use Rattle.refusals.specs.declared.Refusal.{Refusal}
 use Rattle.refusals.specs.declared.Refusal.the-variants.{Unknown, Other, Wide, Crc, Slot, Conflict}
+use Rattle.refusals.specs.declared.Verdict.{Verdict}
+use Rattle.refusals.specs.declared.Verdict.the-variants as verdicts
+use Rattle.repair.specs.Repair.{mendingOf, Mends}
+use Rattle.repair.proofs.AllRows.{mend-accepted, mend-refused}
 use Rattle.packet.specs.declared.Packet.{Packet}
 use Rattle.packet.specs.declared.Reading.{Reading}
 use Rattle.packet.specs.declared.Reading.the-variants.{Sent}
@@ -27,9 +32,7 @@ use Rattle.record.specs.declared.Offered.the-variants.{Stored, Repeat, R
 use Rattle.code.specs.Mend.{Mended, whole, broken, mendRows}
 use Rattle.record.specs.Mend.{payloadIn, mendedIn, agrees}
 use Rattle.record.specs.Offer.{differs, refuse, put, judgeMended, judge, same, Offering, storing, offerJudged, offerOf, judgeBy, offerBy}
-use Rattle.record.specs.declared.mend.Mending.{Mending}
-use Rattle.record.specs.declared.mend.Mending.the-variants.{Whole, Broken}
-use Rattle.record.specs.InnerOffer.{mendedBy, Comes, refusalIn}
+use Rattle.record.specs.InnerOffer.{Comes, refusalIn}
 use Rattle.record.proofs.SlotLaws.{same-lengths}
 
 abbrev pub said : Offered → List ℕ → Offering
@@ -96,6 +99,12 @@ payload-cut q = let e : length q - 4 - 14 ≡ length q - 18 = omega arith in ap 
 pub cut-length : (q : List ℕ) → 18 ≤ length q → length (cut q) ≡ length q - 18
 cut-length q h = ap length (payload-cut q) ∙ payload-length q h
 
+-- the payload at the front of the buffer
+pub copied-part : (q l : List ℕ) → length (cut q) ≤ 3825 → l ≡ sets (replicate 3825 0) 0 (cut q) → take (length (cut q)) l ≡ cut q
+copied-part q l h e =
+    ap (take (length (cut q))) (e ∙ sets-front (replicate 3825 0) (cut q) (omega (arith, length-replicate {A = ℕ} 3825 0)))
+    ∙ take-at (cut q) (drop (length (cut q)) (replicate 3825 0)) (length (cut q)) refl
+
 pub mended-plain : (t : ℕ) (q : List ℕ) → t ≡ 0 → mendedIn t q ≡ whole (payloadIn q)
 unfolding mendedIn
 mended-plain t q z = rw (eq-eqb t 0 z) refl
@@ -121,17 +130,19 @@ module _ (p : Place) (s : List ℕ) (k : ℕ) (q b : List ℕ) (m : Mended) (e :
   pub mended-right : agrees q b ≡ true → offerJudged p s (judgeMended k q m) ≡ offerJudged p s (put k b)
   mended-right h = ap (offerJudged p s) (ap (judgeMended k q) e ∙ crc-right k q b h)
 
--- what the repair of a packet's rows came to, in the buffer l
-module _ (q l : List ℕ) (r : Mending) (e : mendRows (length (cut q) / 255) 0 (cut q) ≡ mendedBy r (length (cut q)) l) where
-  rows-by : (t : Mending) → r ≡ t → mendRows (length (payloadIn q) / 255) 0 (payloadIn q) ≡ mendedBy t (length (cut q)) l
-  rows-by t d =
-      ap (λ (x : List ℕ). mendRows (length x / 255) 0 x) (sym (payload-cut q)) ∙ e ∙ ap (λ (x : Mending). mendedBy x (length (cut q)) l) d
+-- what the repair of a packet's rows was answered, and what it left
+module _ (q : List ℕ) (m : length (cut q) % 255 ≡ 0) (h : length (cut q) ≤ 3825) (v : Verdict) (l : List ℕ) (w : Mends (mendingOf (cut q)) v l) where
+  of-cut : (x : Mended) → mendRows (length (cut q) / 255) 0 (cut q) ≡ x → mendRows (length (payloadIn q) / 255) 0 (payloadIn q) ≡ x
+  of-cut x e = ap (λ (b : List ℕ). mendRows (length b / 255) 0 b) (sym (payload-cut q)) ∙ e
 
-  pub rows-broken : (i : ℕ) → r ≡ Broken i → mendRows (length (payloadIn q) / 255) 0 (payloadIn q) ≡ broken i
-  rows-broken i d = rows-by (Broken i) d
+  pub rows-whole : v ≡ verdicts.Accepted → mendRows (length (payloadIn q) / 255) 0 (payloadIn q) ≡ whole l
+  rows-whole e = of-cut (whole l) (mend-accepted (cut q) m h v l w e)
 
-  pub rows-whole : r ≡ Whole → mendRows (length (payloadIn q) / 255) 0 (payloadIn q) ≡ whole (take (length (cut q)) l)
-  rows-whole d = rows-by Whole d
+  pub rows-broken : (p : Place) (s : List ℕ) (k : ℕ) (r : Refusal) → v ≡ verdicts.Refused r
+      → offerJudged p s (judgeMended k q (mendRows (length (payloadIn q) / 255) 0 (payloadIn q))) ≡ said (Refused r) s
+  rows-broken p s k r e =
+      let f = mend-refused (cut q) m h v l w r e in
+      ap (λ (x : Mended). offerJudged p s (judgeMended k q x)) (of-cut (broken (f .0)) (f .2)) ∙ ap (λ (x : Refusal). said (Refused x) s) (sym (f .1))
 
 module _ (p : Place) (f : Packet) (q : List ℕ) where
   pub judge-other : differs p f ≡ true → judge p f q ≡ refuse Other

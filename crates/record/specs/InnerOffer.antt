@@ -3,21 +3,12 @@
 use mathlib.Core.Path.{_≡_}
 use mathlib.Core.List.{List}
 use Prim.Native.Nat.{ℕ}
-use lib.ListN.{take}
 use Rattle.refusals.specs.declared.Refusal.{Refusal}
 use Rattle.refusals.specs.declared.Refusal.the-variants.{Short}
 use Rattle.packet.specs.declared.Reading.{Reading}
 use Rattle.packet.specs.declared.Reading.the-variants.{Sent, Refused}
 use Rattle.record.specs.declared.Offered.{Offered}
-use Rattle.record.specs.declared.mend.Mending.{Mending}
-use Rattle.record.specs.declared.mend.Mending.the-variants.{Whole, Broken}
-use Rattle.code.specs.Mend.{Mended, whole, broken}
 use Rattle.record.specs.Offer.{Offering}
-
--- what repairing a payload came to: n bytes at the front of a buffer, or the row that is broken
-abbrev pub mendedBy : Mending → ℕ → List ℕ → Mended
-mendedBy Whole n l = whole (take n l)
-mendedBy (Broken i) n l = broken i
 
 -- an answer and the store beside it are those of an offering
 abbrev pub Comes : Offering → Offered → List ℕ → Type 0

@@ -14,7 +14,6 @@ ghost use Rattle.record.specs.Offer.{differs, put, judgeMended, judge, o
 ghost use Rattle.record.specs.InnerOffer.{Comes, refusalIn};
 use super::Offered;
 use super::mend;
-use super::mend::Mending;
 use super::slots;
 use packet::Packet;
 use packet::Reading;
@@ -22,6 +21,7 @@ use places::Found;
 use places::Place;
 use places::Record;
 use refusals::Refusal;
+use refusals::Verdict;
 
 // The refusal that a reading is. Of one that is none this is never asked.
 fn refusal_in(reading: Reading) -> Refusal
@@ -97,9 +97,10 @@ fn offer_rows(p: Place, store: &mut [u8], number: u32, packet: &[u8]) -> Offered
     let payload = &packet[Packet::HEADER..end];
     let n = payload.len();
     let mut buffer = [0u8; 3825];
-    let mending = mend::mend_rows(payload, &mut buffer);
-    if let Mending::Broken(row) = mending {
-        return Offered::Refused(Refusal::Repair(row));
+    contents::copy_in(&mut buffer, 0, payload);
+    let verdict = repair::mend(&mut buffer[..n]);
+    if let Verdict::Refused(refusal) = verdict {
+        return Offered::Refused(refusal);
     }
     let mended = &buffer[..n];
     if !mend::crc_agrees(packet, mended) {

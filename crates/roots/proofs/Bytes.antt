@@ -9,6 +9,7 @@ use lib.ListN.{getD}
 use lib.Pow.{pow-add}
 use lib.Bits.{bitXor, bitAnd, bitOr, and-shr, and-mod, or-shr, or-mod, and-le-r, xor-shr, xor-mod, xor-shifted}
 use Rattle.ground.specs.Bits.{sum}
+use Rattle.ground.proofs.Numbers.{push-digit}
 use Rattle.ground.proofs.Sums.{sum-comm, sum-self}
 use Rattle.field.specs.Field.{product, power}
 use Rattle.field.proofs.Laws.{product-sum-left}
@@ -36,14 +37,6 @@ looked t words i x k hi hx hk =
     ∙ ap (λ (y : ℕ). product y p) (halves x)
 
 -- ---- a byte that is 0
-
--- a byte more at the end moves the others up
-pub push-digit : (k x b : ℕ) → b < 256 → (x * 256 + b) / 2 ^ (suc k * 8) ≡ x / 2 ^ (k * 8)
-push-digit k x b h =
-    let e : suc k * 8 ≡ 8 + k * 8 = omega arith in
-    let d : (x * 256 + b) / 256 ≡ x = omega arith in
-    ap (λ (n : ℕ). (x * 256 + b) / 2 ^ n) e ∙ ap (λ (n : ℕ). (x * 256 + b) / n) (pow-add 2 8 (k * 8))
-    ∙ sym (div-div-eq-div-mul (x * 256 + b) 256 (2 ^ (k * 8))) ∙ ap (λ (n : ℕ). n / 2 ^ (k * 8)) d
 
 -- n bytes, each 1
 unfoldable ones : ℕ → ℕ

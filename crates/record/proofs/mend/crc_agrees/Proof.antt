@@ -2,7 +2,7 @@
 use mathlib.Core.Path.{sym, _∙_}
 use borrow.Author.Needs.{needs}
 use lib.Seq.{length-take-le}
-use Rattle.record.proofs.MendSteps.{crc-fed, agrees-told}
+use Rattle.record.proofs.CrcLaws.{crc-fed, agrees-told}
 use Rattle.record.proofs.mend.crc_agrees.Statement.{statement}
 use Rattle.record.proofs.mend.crc_agrees.Tie as tie
 

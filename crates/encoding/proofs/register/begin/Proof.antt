@@ -1,0 +1,18 @@
+-- `register::begin` feeds seven bytes to nothing: a word less its last byte has a byte of 0 in front, which changes nothing.
+-- Assumes nothing.
+use Rattle.encoding.proofs.Feeding.{feeding-start}
+use borrow.Author.Needs.{needs}
+use Rattle.encoding.proofs.register.begin.Statement.{statement}
+use Rattle.encoding.proofs.register.begin.Tie as tie
+
+word-requires : tie.Need-word-requires
+word-requires c κs = search needs
+
+turn-requires : tie.Need-turn-requires
+turn-requires c κs = search needs
+
+returns : tie.Need-returns
+returns c = feeding-start _ _ (c .before .word .result) _ (search needs) (c .before .word .ensures) (c .turn .ensures)
+
+pub begin-spec : {M : Type 1} → statement M
+begin-spec = tie.close (tie.spec word-requires turn-requires returns)

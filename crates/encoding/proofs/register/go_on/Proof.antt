@@ -1,0 +1,27 @@
+-- `register::go_on` feeds the next word.
+-- Assumes nothing.
+use Rattle.encoding.proofs.Feeding.{feeding-more}
+use borrow.Author.Needs.{needs}
+use Rattle.encoding.proofs.register.go_on.Statement.{statement}
+use Rattle.encoding.proofs.register.go_on.Tie as tie
+
+mul-word : tie.Need-mul-word
+mul-word c = search needs
+
+add-word : tie.Need-add-word
+add-word c = search needs
+
+add-word-2 : tie.Need-add-word-2
+add-word-2 c = search needs
+
+word-requires : tie.Need-word-requires
+word-requires c κs = search needs
+
+turn-requires : tie.Need-turn-requires
+turn-requires c κs = search needs
+
+returns : tie.Need-returns
+returns c = feeding-more _ _ _ _ _ _ (search needs) (c .before .word .ensures) (c .turn .ensures) (c .before .before .before .pre .2)
+
+pub go-on-spec : {M : Type 1} → statement M
+go-on-spec = tie.close (tie.spec mul-word add-word add-word-2 word-requires turn-requires returns)

@@ -1,0 +1,68 @@
+-- `register::word` puts one byte after the other below those before it. The invariant: the word so far has the bytes so far, and no more (`Packing`).
+-- Assumes nothing.
+use Prim.Native.Nat.{_-_}
+use native.Mathlib.Nat.{mul-le-mul-right}
+use native.Mathlib.Omega.{arith}
+use borrow.Author.Needs.{needs}
+use Rattle.encoding.proofs.Bytes.{Packing, packing-start, packing-room, packing-more, packing-done}
+use Rattle.encoding.proofs.register.word.Statement.{statement}
+use Rattle.encoding.proofs.register.word.Tie as tie
+
+abbrev Inv-loop : tie.InvT-loop
+Inv-loop d m at w₀ n₀ w n = Packing d m at w n
+
+abbrev μ-loop : tie.MeasureT-loop
+μ-loop d m at w₀ n₀ w n = 8 - n
+
+loop-holds : tie.Need-loop-holds Inv-loop μ-loop
+loop-holds c = packing-start _ _ _
+
+mul-w : tie.Need-mul-w Inv-loop μ-loop
+mul-w c = omega (arith, packing-room _ _ _ _ _ (c .before .loop .inv) (search needs))
+
+mul-wide : tie.Need-mul-wide Inv-loop μ-loop
+mul-wide c = omega (arith, mul-le-mul-right {m = c .before .loop .n} {n = 7} (c .before .before .before .args .m) (search needs))
+
+add-wide : tie.Need-add-wide Inv-loop μ-loop
+add-wide c = omega (arith, mul-le-mul-right {m = c .before .loop .n} {n = 7} (c .before .before .before .args .m) (search needs))
+
+shared-slice-read-wide : tie.Need-shared-slice-read-wide Inv-loop μ-loop
+shared-slice-read-wide c =
+    omega (arith, mul-le-mul-right {m = c .before .before .loop .n} {n = 7} (c .before .before .before .before .args .m) (search needs))
+
+wide-requires : tie.Need-wide-requires Inv-loop μ-loop
+wide-requires c κs = search needs
+
+add-w : tie.Need-add-w Inv-loop μ-loop
+add-w c = omega (arith, packing-room _ _ _ _ _ (c .before .before .before .loop .inv) (search needs))
+
+add-n : tie.Need-add-n Inv-loop μ-loop
+add-n c = search needs
+
+loop-less : tie.Need-loop-less Inv-loop μ-loop
+loop-less c = search needs
+
+loop-again : tie.Need-loop-again Inv-loop μ-loop
+loop-again c =
+    packing-more _ _ _ _ _ (c .before .before .before .loop .inv) _ (search needs) (c .wide .ensures .1) (c .wide .ensures .0)
+
+returns : tie.Need-returns Inv-loop μ-loop
+returns c = packing-done _ _ _ _ _ (c .before .loop .inv) (search needs)
+
+pub word-spec : {M : Type 1} → statement M
+word-spec =
+    tie.close
+    (tie.spec
+    Inv-loop
+    μ-loop
+    loop-holds
+    mul-w
+    mul-wide
+    add-wide
+    shared-slice-read-wide
+    wide-requires
+    add-w
+    add-n
+    loop-less
+    loop-again
+    returns)

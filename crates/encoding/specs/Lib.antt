@@ -1,0 +1,3 @@
+pub mod Encode
+pub mod Put
+pub mod InnerRegister

@@ -1,0 +1,194 @@
+// The register that divides by the generator (document 01, section 3), eight bytes at a time: sixteen bytes in two words. The table of what a half byte leaves
+// is taken once a public call and lent down.
+ghost use mathlib.Core.Path.{_≡_};
+ghost use Prim.Native.Nat.{_+_, _*_, _/_, _%_, _^_, _<_, _≤_};
+ghost use lib.ListN.{length};
+ghost use lib.Seq.{sets};
+ghost use Rattle.code.specs.Code.{generator as generatorOf};
+ghost use Rattle.code.specs.Register.{run};
+ghost use Rattle.code.specs.Search.{remainder};
+ghost use Rattle.code.specs.Repair.{checksOf};
+ghost use Rattle.encoding.specs.Encode.{restOf};
+ghost use Rattle.encoding.specs.InnerRegister.{part, column, unpack, both, Halves, Feeding};
+use crate::halves;
+
+// Sixteen bytes, the first one at the top of `h`.
+pub(crate) struct Reg {
+    pub h: u64,
+    pub l: u64,
+}
+
+// The registers of two rows.
+pub(crate) struct Two {
+    pub a: Reg,
+    pub b: Reg,
+}
+
+// The table. The entry of 1 at the lowest place is the generator itself, without its leading coefficient; the others are multiples of it.
+pub(crate) fn table(generator: [u8; 17]) -> [u64; 512]
+    requires { ⌜ generator ≡ generatorOf ⌝ }
+    ensures { λ t. ⌜ Halves t ⌝ }
+{
+    let mut t = halves::HALVES;
+    t[2] = word(&generator, 1, 1);
+    t[3] = word(&generator, 1, 9);
+    t
+}
+
+// The lowest half byte.
+fn half(w: u64) -> usize
+    ensures { λ r. ⌜ r ≡ w % 16 ⌝ }
+{
+    (w % 16) as usize
+}
+
+// The register after the eight bytes of `x`.
+fn turn(r: Reg, x: u64, t: &[u64; 512]) -> Reg
+    requires { ⌜ Halves (now t) ⌝ }
+    ensures { λ s. ⌜ both (s .h) (s .l) ≡ run (both (r .h) (r .l)) (unpack 8 x) ⌝ }
+{
+    let mut w = r.h ^ x;
+    let mut h = r.l;
+    let mut l: u64 = 0;
+    let mut k: usize = 0;
+    while k < 16 {
+        let i = 32 * k + 2 * half(w);
+        h = h ^ t[i];
+        l = l ^ t[i + 1];
+        w = w / 16;
+        k += 1;
+    }
+    Reg { h, l }
+}
+
+fn wide(b: u8) -> u64
+    ensures { λ r. ⌜ (r ≡ b) × (r < 256) ⌝ }
+{
+    b as u64
+}
+
+// Eight bytes of `d`, from `at` on and m apart, as a word, the first one highest.
+pub(crate) fn word(d: &[u8], m: usize, at: usize) -> u64
+    requires { ⌜ (m ≤ 255) × (at + 7 * m < length (now d)) ⌝ }
+    ensures { λ w. ⌜ unpack 8 w ≡ column (now (d .entry)) m at 8 ⌝ }
+{
+    let mut w: u64 = 0;
+    let mut n: usize = 0;
+    while n < 8 {
+        w = w * 256 + wide(d[at + n * m]);
+        n += 1;
+    }
+    w
+}
+
+// The register after the first seven of the 239 bytes of `d` from `at` on.
+fn begin(d: &[u8], at: usize, t: &[u64; 512]) -> Reg
+    requires { ⌜ (at + 239 ≤ length (now d)) × Halves (now t) ⌝ }
+    ensures { λ r. ⌜ Feeding (now (d .entry)) at (both (r .h) (r .l)) 0 ⌝ }
+{
+    turn(Reg { h: 0, l: 0 }, word(d, 1, at) / 256, t)
+}
+
+// The register after eight bytes more, of which there were k times eight.
+fn go_on(r: Reg, d: &[u8], at: usize, k: usize, t: &[u64; 512]) -> Reg
+    requires { ⌜ (at + 239 ≤ length (now d)) × (k < 29) × Feeding (now d) at (both (r .h) (r .l)) k × Halves (now t) ⌝ }
+    ensures { λ s. ⌜ Feeding (now (d .entry)) at (both (s .h) (s .l)) (k + 1) ⌝ }
+{
+    turn(r, word(d, 1, at + 8 * k + 7), t)
+}
+
+// The checks of the 239 bytes of `d` from `at` on.
+pub(crate) fn checks(d: &[u8], at: usize, t: &[u64; 512]) -> Reg
+    requires { ⌜ (at + 239 ≤ length (now d)) × Halves (now t) ⌝ }
+    ensures { λ r. ⌜ both (r .h) (r .l) ≡ checksOf (part (now (d .entry)) at 239) ⌝ }
+{
+    let mut r = begin(d, at, t);
+    let mut k: usize = 0;
+    while k < 29 {
+        r = go_on(r, d, at, k, t);
+        k += 1;
+    }
+    r
+}
+
+// The checks of two rows that stand one behind the other: of the 239 bytes from `at` on, and of those from `at + 255` on. The two registers take turns, so that
+// neither waits for the other.
+pub(crate) fn checks_two(d: &[u8], at: usize, t: &[u64; 512]) -> Two
+    requires { ⌜ (at + 494 ≤ length (now d)) × Halves (now t) ⌝ }
+    ensures { λ r. ⌜ (both (r .a .h) (r .a .l) ≡ checksOf (part (now (d .entry)) at 239)) × (both (r .b .h) (r .b .l) ≡ checksOf (part (now (d .entry)) (at + 255) 239)) ⌝ }
+{
+    let from = at + 255;
+    let mut a = begin(d, at, t);
+    let mut b = begin(d, from, t);
+    let mut k: usize = 0;
+    while k < 29 {
+        a = go_on(a, d, at, k, t);
+        b = go_on(b, d, from, k, t);
+        k += 1;
+    }
+    Two { a, b }
+}
+
+// The remainder of the row of 255 bytes from `at` on.
+fn rest(d: &[u8], at: usize, t: &[u64; 512]) -> Reg
+    requires { ⌜ (at + 255 ≤ length (now d)) × Halves (now t) ⌝ }
+    ensures { λ r. ⌜ both (r .h) (r .l) ≡ remainder 239 (part (now (d .entry)) at 255) ⌝ }
+{
+    let q = checks(d, at, t);
+    Reg {
+        h: q.h ^ word(d, 1, at + 239),
+        l: q.l ^ word(d, 1, at + 247),
+    }
+}
+
+// The remainder of row i; zeros where there is no whole row.
+pub(crate) fn rest_at(rows: &[u8], i: usize, t: &[u64; 512]) -> Reg
+    requires { ⌜ (i < 15) × Halves (now t) ⌝ }
+    ensures { λ r. ⌜ both (r .h) (r .l) ≡ restOf (now (rows .entry)) i ⌝ }
+{
+    let at = i * 255;
+    if rows.len() < at + 255 {
+        return Reg { h: 0, l: 0 };
+    }
+    rest(rows, at, t)
+}
+
+// Byte k of a word, the lowest one counted 0.
+fn low(w: u64, k: u64) -> u8
+    requires { ⌜ k < 8 ⌝ }
+    ensures { λ r. ⌜ r ≡ w / 2 ^ (k * 8) % 256 ⌝ }
+{
+    ((w >> (k * 8)) % 256) as u8
+}
+
+// Writes the eight bytes of a word.
+pub(crate) fn put_word(out: &mut [u8], at: usize, w: u64)
+    requires { ⌜ at + 8 ≤ length (now out) ⌝ }
+    ensures { λ r. ⌜ now (out .exit) ≡ sets (now (out .entry)) at (unpack 8 w) ⌝ }
+{
+    let mut i = at;
+    let mut k: u64 = 8;
+    while 0 < k {
+        k -= 1;
+        out[i] = low(w, k);
+        i += 1;
+    }
+}
+
+// Writes the sixteen bytes of a register.
+pub(crate) fn put(out: &mut [u8], at: usize, r: Reg)
+    requires { ⌜ at + 16 ≤ length (now out) ⌝ }
+    ensures { λ e. ⌜ now (out .exit) ≡ sets (now (out .entry)) at (both (r .h) (r .l)) ⌝ }
+{
+    put_word(out, at, r.h);
+    put_word(out, at + 8, r.l);
+}
+
+// The sixteen bytes of a register.
+pub(crate) fn spread(r: Reg) -> [u8; 16]
+    ensures { λ a. ⌜ a ≡ both (r .h) (r .l) ⌝ }
+{
+    let mut a = [0u8; 16];
+    put(&mut a, 0, r);
+    a
+}

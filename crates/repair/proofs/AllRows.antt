@@ -1,0 +1,259 @@
+-- Rows mended all or none: the row at the front, and those behind it, come to what all come to (`mendRows` of crate code).
+-- Assumes nothing.
+use mathlib.Core.Path.{_≡_, refl, sym, ap, ap₂, subst, _∙_}
+use mathlib.Core.Bool.{Bool, true, false}
+use mathlib.Core.List.{List, [], _∷_, _++_, append-nil}
+use Prim.Native.Nat.{ℕ, zero, suc, _+_, _-_, _*_, _/_, _%_, _≤_, _<_}
+use native.Mathlib.Omega.{arith}
+use borrow.Author.Tests.{eq-eqb, ne-eqb, le-leb, lt-leb}
+use lib.ListN.{length, getD, take, drop, set, length-append, length-drop, take-append-drop, List·getD-append}
+use lib.Seq.{set-append-left, length-take-le, take-all, drop-drop}
+use borrow.Rule.Slice.PartMut.{putMid}
+use Rattle.ground.specs.Bits.{sum}
+use Rattle.refusals.specs.declared.Verdict.{Verdict}
+use Rattle.refusals.specs.declared.Verdict.the-variants.{Accepted, Refused}
+use Rattle.refusals.specs.declared.Refusal.{Refusal}
+use Rattle.refusals.specs.declared.Refusal.the-variants.{Short, Repair}
+use Rattle.code.specs.Code.{Bytes}
+use Rattle.code.specs.Search.{Repaired, remainder}
+use Rattle.code.specs.Search.Repaired.{found, none}
+use Rattle.code.specs.Repair.{Near, repairOf}
+use Rattle.code.specs.Mend.{Mended as Whole, whole, broken, behind, mendRows}
+use Rattle.code.proofs.Exact.{repair-found, repair-none}
+use Rattle.code.proofs.Lists.{bytes-parts}
+use Rattle.encoding.specs.Encode.{restOf, remaindersOf}
+use Rattle.encoding.proofs.Feeding.{rest-there, length-rest}
+use Rattle.ground.proofs.Listed.{listed-part}
+use Rattle.ground.proofs.Pieces.{length-pieces, piece-at}
+use Rattle.repair.specs.declared.Mended.{Mended}
+use Rattle.repair.specs.Repair.{mendedAs, mendOf, Mending, mendingAs, mendingOf, Mends}
+use Rattle.repair.specs.InnerErrata.{entries, mendedBy, Searched}
+use Rattle.repair.specs.InnerRows.{Resting, addedIf}
+use Rattle.repair.proofs.Mending.{mended-length}
+
+none-left : (l : List ℕ) → length l ≡ 0 → l ≡ []
+none-left [] e = refl
+none-left (x ∷ l) e = absurd (omega arith)
+
+-- ---- the row at the front
+
+mended-front : (x y : List ℕ) (a c : ℕ → ℕ) (n : ℕ) → length x ≡ 255 → mendedBy (x ++ y) a c n ≡ mendedBy x a c n ++ y
+unfolding mendedBy
+mended-front x y a c zero h = refl
+mended-front x y a c (suc k) h =
+    let m : List ℕ = mendedBy x a c k in
+    let l : 254 - a k < length m = omega (arith, mended-length x h a c k) in
+    ap (λ (z : List ℕ). set z (254 - a k) (sum (getD z (254 - a k) 0) (c k))) (mended-front x y a c k h)
+    ∙ ap (λ (z : ℕ). set (m ++ y) (254 - a k) (sum z (c k))) (List·getD-append m y 0 (254 - a k) l)
+    ∙ set-append-left m y (254 - a k) (sum (getD m (254 - a k) 0) (c k)) l
+
+-- a part behind the first row, lent and given back
+pub lent-behind : (l ys : List ℕ) → 255 ≤ length l → putMid 255 (length l - 255) l ys ≡ take 255 l ++ ys
+lent-behind l ys h =
+    let d : drop (length l - 255) (drop 255 l) ≡ [] = none-left (drop (length l - 255) (drop 255 l)) (length-drop (length l - 255) (drop 255 l) ∙ omega (arith, length-drop 255 l)) in
+    ap (λ (x : List ℕ). take 255 l ++ (ys ++ x)) d ∙ ap (λ (x : List ℕ). take 255 l ++ x) (append-nil ys)
+
+pub back-length : (l ys : List ℕ) → 255 ≤ length l → 255 ≤ length (putMid 255 (length l - 255) l ys)
+back-length l ys h =
+    omega (arith, ap length (lent-behind l ys h), length-append (take 255 l) ys, length-take-le 255 l h)
+
+pub behind-part : (b : List ℕ) → take (length b - 255) (drop 255 b) ≡ drop 255 b
+behind-part b = take-all (length b - 255) (drop 255 b) (omega (arith, length-drop 255 b))
+
+-- ---- rows one by one
+
+mend-first : (n i : ℕ) (b : List ℕ) → 0 < n → mendRows n i b ≡ behind (repairOf (take 255 b)) i (mendRows (n - 1) (suc i) (drop 255 b))
+unfolding mendRows
+mend-first n i b h = let e : n ≡ suc (n - 1) = omega arith in ap (λ (m : ℕ). mendRows m i b) e
+
+pub no-rows : (b : List ℕ) (i : ℕ) → length b ≡ 0 → Mends (mendingAs b (mendRows (length b / 255) i b)) Accepted b
+unfolding mendRows
+no-rows [] i h = record { answers = refl; leaves = refl }
+no-rows (x ∷ b) i h = absurd (omega arith)
+
+module _ (b : List ℕ) (i : ℕ) (some : 255 ≤ length b) where
+  abbrev first : List ℕ
+  first = take 255 b
+
+  abbrev others : List ℕ
+  others = drop 255 b
+
+  all : (a : Repaired) → repairOf first ≡ a → mendRows (length b / 255) i b ≡ behind a i (mendRows (length others / 255) (i + 1) others)
+  all a e =
+      let n : length b / 255 - 1 ≡ length others / 255 = omega (arith, length-drop 255 b) in
+      let k : suc i ≡ i + 1 = omega arith in
+      mend-first (length b / 255) i b (omega arith)
+      ∙ ap (λ (x : Repaired). behind x i (mendRows (length b / 255 - 1) (suc i) others)) e
+      ∙ ap₂ (λ (x y : ℕ). behind a i (mendRows x y others)) n k
+
+  pub row-broken : repairOf first ≡ none → Mends (mendingAs b (mendRows (length b / 255) i b)) (Refused (Repair i)) b
+  row-broken e =
+      let f : mendRows (length b / 255) i b ≡ broken i = all none e in
+      record { answers = sym (ap (λ (m : Whole). mendingAs b m .answer) f); leaves = sym (ap (λ (m : Whole). mendingAs b m .bytes) f) }
+
+  module _ (at c : List ℕ) (n : ℕ) (e : repairOf first ≡ found (mendedBy first (entries at) (entries c) n)) where
+    abbrev fixed : List ℕ
+    fixed = mendedBy first (entries at) (entries c) n
+
+    -- the rows behind came to m, were answered v, and left `rest`
+    pub row-done : (v r : Verdict) (part rest mid out : List ℕ) → part ≡ others → Mends (mendingAs part (mendRows (length part / 255) (i + 1) part)) v rest
+        → mid ≡ first ++ rest → Mends (addedIf v mid at c n) r out → Mends (mendingAs b (mendRows (length b / 255) i b)) r out
+    row-done v r part rest mid out s p q d =
+        by (mendRows (length others / 255) (i + 1) others) refl (subst (λ (l : List ℕ). Mends (mendingAs l (mendRows (length l / 255) (i + 1) l)) v rest) s p)
+      where
+        by : (m : Whole) → mendRows (length others / 255) (i + 1) others ≡ m → Mends (mendingAs others m) v rest → Mends (mendingAs b (mendRows (length b / 255) i b)) r out
+        by (whole s) z p =
+            let f : mendRows (length b / 255) i b ≡ whole (fixed ++ s) = all (found fixed) e ∙ ap (behind (found fixed) i) z in
+            let long : length first ≡ 255 = length-take-le 255 b some in
+            record {
+              answers = d .answers ∙ ap (λ (x : Verdict). addedIf x mid at c n .answer) (p .answers) ∙ sym (ap (λ (m : Whole). mendingAs b m .answer) f);
+              leaves =
+                  d .leaves ∙ ap (λ (x : Verdict). addedIf x mid at c n .bytes) (p .answers)
+                  ∙ ap (λ (l : List ℕ). mendedBy l (entries at) (entries c) n) (q ∙ ap (λ (l : List ℕ). first ++ l) (p .leaves))
+                  ∙ mended-front first s (entries at) (entries c) n long
+                  ∙ sym (ap (λ (m : Whole). mendingAs b m .bytes) f);
+            }
+        by (broken j) z p =
+            let f : mendRows (length b / 255) i b ≡ broken j = all (found fixed) e ∙ ap (behind (found fixed) i) z in
+            record {
+              answers = d .answers ∙ ap (λ (x : Verdict). addedIf x mid at c n .answer) (p .answers) ∙ sym (ap (λ (m : Whole). mendingAs b m .answer) f);
+              leaves =
+                  d .leaves ∙ ap (λ (x : Verdict). addedIf x mid at c n .bytes) (p .answers) ∙ q ∙ ap (λ (l : List ℕ). first ++ l) (p .leaves)
+                  ∙ take-append-drop 255 b
+                  ∙ sym (ap (λ (m : Whole). mendingAs b m .bytes) f);
+            }
+
+-- ---- the values added, where the rows behind were mended
+
+pub added : (v : Verdict) (b at c : List ℕ) (n : ℕ) (out : List ℕ) → v ≡ Accepted → out ≡ mendedBy b (entries at) (entries c) n → Mends (addedIf v b at c n) Accepted out
+added v b at c n out e d =
+    record { answers = sym (ap (λ (x : Verdict). addedIf x b at c n .answer) e); leaves = d ∙ sym (ap (λ (x : Verdict). addedIf x b at c n .bytes) e) }
+
+pub not-added : (v : Verdict) (b at c : List ℕ) (n : ℕ) (r : Refusal) → v ≡ Refused r → Mends (addedIf v b at c n) (Refused r) b
+not-added v b at c n r e =
+    record { answers = sym (ap (λ (x : Verdict). addedIf x b at c n .answer) e); leaves = sym (ap (λ (x : Verdict). addedIf x b at c n .bytes) e) }
+
+-- ---- what is known of the row at the front, and of those behind it
+
+pub some-rows : (b : List ℕ) (i : ℕ) (rests : List ℕ) → Resting b i rests → (length b ≡ 0 → ⊥) → 255 ≤ length b
+some-rows b i rests w h = let m : length b % 255 ≡ 0 = w .multiple in omega arith
+
+pub row-known : (b : List ℕ) (i : ℕ) (rests : List ℕ) → Resting b i rests → 255 ≤ length b → take 16 (drop (i * 16) rests) ≡ remainder 239 (take 255 b)
+row-known b i rests w h =
+    let e : (i + 0) * 16 ≡ i * 16 = omega arith in
+    ap (λ (k : ℕ). take 16 (drop k rests)) (sym e) ∙ w .left 0 (omega arith)
+
+pub rows-behind : (b : List ℕ) (i : ℕ) (rests : List ℕ) → Resting b i rests → 255 ≤ length b → Resting (drop 255 b) (i + 1) rests
+rows-behind b i rests w h =
+    let n : length (drop 255 b) ≡ length b - 255 = length-drop 255 b in
+    let m : length b % 255 ≡ 0 = w .multiple in
+    record {
+      multiple = omega arith;
+      few = omega (arith, w .few);
+      sized = w .sized;
+      left = λ j l.
+          let e : (i + 1 + j) * 16 ≡ (i + suc j) * 16 = omega arith in
+          let f : suc j * 255 ≡ 255 + j * 255 = omega arith in
+          ap (λ (k : ℕ). take 16 (drop k rests)) e ∙ w .left (suc j) (omega arith)
+          ∙ ap (λ (l : List ℕ). remainder 239 (take 255 l)) (ap (λ (k : ℕ). drop k b) f ∙ sym (drop-drop (j * 255) 255 b));
+    }
+
+module _ (b : List ℕ) (some : 255 ≤ length b) (bytes : Bytes b) (rest : List ℕ) (left : rest ≡ remainder 239 (take 255 b)) where
+  long : length (take 255 b) ≡ 255
+  long = length-take-le 255 b some
+
+  row-bytes : Bytes (take 255 b)
+  row-bytes = bytes-parts (take 255 b) (drop 255 b) (rw (take-append-drop 255 b) bytes) .0
+
+  module _ (n : ℕ) (at c : List ℕ) (fits : Bool) (w : Searched rest n at c fits) where
+    pub row-found : fits ≡ true → repairOf (take 255 b) ≡ found (mendedBy (take 255 b) (entries at) (entries c) n)
+    row-found e = repair-found (take 255 b) _ long row-bytes (w .sound e (take 255 b) long row-bytes left)
+
+    pub row-none : fits ≡ false → repairOf (take 255 b) ≡ none
+    row-none e = repair-none (take 255 b) long row-bytes (w .complete e (take 255 b) long row-bytes left)
+
+-- ---- the call's ends
+
+pub mend-short : (b : List ℕ) → (length b % 255 ≡ 0 → ⊥) → Mends (mendingOf b) (Refused Short) b
+unfolding mendingOf
+mend-short b h = rw (ne-eqb (length b % 255) 0 h) (record { answers = refl; leaves = refl })
+
+module _ (b : List ℕ) (m : length b % 255 ≡ 0) where
+  pub mend-long : 3825 < length b → Mends (mendingOf b) (Refused Short) b
+  unfolding mendingOf
+  mend-long h = rw (eq-eqb (length b % 255) 0 m, lt-leb (length b) 3825 h) (record { answers = refl; leaves = refl })
+
+  module _ (h : length b ≤ 3825) where
+    pub mend-all : (r : Verdict) (out : List ℕ) → Mends (mendingAs b (mendRows (length b / 255) 0 b)) r out → Mends (mendingOf b) r out
+    unfolding mendingOf
+    mend-all r out p = rw (eq-eqb (length b % 255) 0 m, le-leb (length b) 3825 h) p
+
+    pub all-resting : (rests : List ℕ) → rests ≡ remaindersOf b → Resting b 0 rests
+    unfolding remaindersOf
+    all-resting rests e =
+        record {
+          multiple = m;
+          few = omega arith;
+          sized = ap length e ∙ length-pieces (restOf b) 16 (length-rest b) 15 0;
+          left = λ j l.
+              let z : 0 + j ≡ j = omega arith in
+              ap₂ (λ (x : List ℕ) (y : ℕ). take 16 (drop (y * 16) x)) e z ∙ piece-at (restOf b) 16 (length-rest b) 15 j (omega arith)
+              ∙ sym (rest-there b j (omega arith)) ∙ ap (remainder 239) (listed-part b 0 255 (j * 255) (omega arith));
+        }
+
+-- one row, by value
+pub mend-one : (row : List ℕ) (r : Verdict) (out : List ℕ) → length row ≡ 255 → Mends (mendingOf row) r out → _≡_ {A = Mended} (record { verdict = r; row = out }) (mendOf row)
+unfolding mendingOf mendOf mendRows
+mend-one row r out n p =
+    by (repairOf row) refl
+    (subst (λ (m : Mending). Mends m r out)
+    (rw (eq-eqb (length row % 255) 0 (ap (λ (k : ℕ). k % 255) n), le-leb (length row) 3825 (omega arith)) (ap (mendingAs row) (one ∙ ap (λ (l : List ℕ). behind (repairOf l) 0 (whole [])) all-of)))
+    p)
+  where
+    all-of : take 255 row ≡ row
+    all-of = take-all 255 row (omega arith)
+
+    one : mendRows (length row / 255) 0 row ≡ mendRows 1 0 row
+    one = ap (λ (k : ℕ). mendRows (k / 255) 0 row) n
+
+    by : (a : Repaired) → repairOf row ≡ a → Mends (mendingAs row (behind (repairOf row) 0 (whole []))) r out → _≡_ {A = Mended} (record { verdict = r; row = out }) (mendedAs row (repairOf row))
+    by (found s) e p =
+        let f : mendingAs row (behind (repairOf row) 0 (whole [])) ≡ record { answer = Accepted; bytes = s ++ [] } = ap (λ (a : Repaired). mendingAs row (behind a 0 (whole []))) e in
+        let v : r ≡ Accepted = p .answers ∙ ap (λ (m : Mending). m .answer) f in
+        let o : out ≡ s = p .leaves ∙ ap (λ (m : Mending). m .bytes) f ∙ append-nil s in
+        (λ i. record { verdict = v i; row = o i }) ∙ ap (mendedAs row) (sym e)
+    by none e p =
+        let f : mendingAs row (behind (repairOf row) 0 (whole [])) ≡ record { answer = Refused (Repair 0); bytes = row } = ap (λ (a : Repaired). mendingAs row (behind a 0 (whole []))) e in
+        let v : r ≡ Refused (Repair 0) = p .answers ∙ ap (λ (m : Mending). m .answer) f in
+        let o : out ≡ row = p .leaves ∙ ap (λ (m : Mending). m .bytes) f in
+        (λ i. record { verdict = v i; row = o i }) ∙ ap (mendedAs row) (sym e)
+
+-- ---- what an answer of `mend` tells of whole rows
+
+module _ (b : List ℕ) (m : length b % 255 ≡ 0) (h : length b ≤ 3825) (v : Verdict) (out : List ℕ) (p : Mends (mendingOf b) v out) where
+  mended-as : (w : Whole) → mendRows (length b / 255) 0 b ≡ w → Mends (mendingAs b w) v out
+  unfolding mendingOf
+  mended-as w e =
+      subst (λ (x : Mending). Mends x v out) (rw (eq-eqb (length b % 255) 0 m, le-leb (length b) 3825 h) (ap (mendingAs b) e)) p
+
+  pub mend-accepted : v ≡ Accepted → mendRows (length b / 255) 0 b ≡ whole out
+  mend-accepted e = by (mendRows (length b / 255) 0 b) refl
+    where
+      by : (w : Whole) → mendRows (length b / 255) 0 b ≡ w → w ≡ whole out
+      by (whole c) f = ap whole (sym (mended-as (whole c) f .leaves))
+      by (broken i) f =
+          let x : Accepted ≡ Refused (Repair i) = sym e ∙ mended-as (broken i) f .answers in
+          let z : _≡_ {A = ℕ} 0 1 = cc in
+          absurd (omega arith)
+
+  pub mend-refused : (r : Refusal) → v ≡ Refused r → (i : ℕ) × (r ≡ Repair i) × (mendRows (length b / 255) 0 b ≡ broken i)
+  mend-refused r e = by (mendRows (length b / 255) 0 b) refl
+    where
+      by : (w : Whole) → mendRows (length b / 255) 0 b ≡ w → (i : ℕ) × (r ≡ Repair i) × (w ≡ broken i)
+      by (whole c) f =
+          let x : Refused r ≡ Accepted = sym e ∙ mended-as (whole c) f .answers in
+          let z : _≡_ {A = ℕ} 0 1 = cc in
+          absurd (omega arith)
+      by (broken i) f =
+          let x : Refused r ≡ Refused (Repair i) = sym e ∙ mended-as (broken i) f .answers in
+          (i, cc, refl)

@@ -1,0 +1,55 @@
+-- `errata::sift` shifts one place out a turn: entry i is the first left after i places, and from entry k on stand the syndromes after k places.
+-- Assumes nothing.
+use Prim.Native.Nat.{_-_}
+use native.Mathlib.Omega.{arith}
+use Rattle.repair.proofs.Solving.{Sifting, sifting-start, sifting-more, sifting-end}
+use borrow.Author.Needs.{needs}
+use Rattle.repair.proofs.errata.sift.Statement.{statement}
+use Rattle.repair.proofs.errata.sift.Tie as tie
+
+abbrev Inv-loop : tie.InvT-loop
+Inv-loop n powers logs at out₀ k₀ out k = Sifting at n out₀ k out
+
+abbrev μ-loop : tie.MeasureT-loop
+μ-loop n powers logs at out₀ k₀ out k = n - k
+
+loop-holds : tie.Need-loop-holds Inv-loop μ-loop
+loop-holds c = sifting-start _ _ _ (search needs)
+
+array-read-wide : tie.Need-array-read-wide Inv-loop μ-loop
+array-read-wide c = omega (arith, c .before .before .pre .0 .few)
+
+wide-requires : tie.Need-wide-requires Inv-loop μ-loop
+wide-requires c κs = search needs
+
+shift-out-requires : tie.Need-shift-out-requires Inv-loop μ-loop
+shift-out-requires c κs =
+    let start = c .before .before .before in
+    (rw (c .wide .ensures .0) (start .pre .0 .below _ (omega arith)), omega arith, start .pre .0 .few, start .pre .1, start .pre .2)
+
+add-k : tie.Need-add-k Inv-loop μ-loop
+add-k c = search needs
+
+loop-less : tie.Need-loop-less Inv-loop μ-loop
+loop-less c = search needs
+
+loop-again : tie.Need-loop-again Inv-loop μ-loop
+loop-again c = sifting-more (c .before .before .before .loop .inv) (omega arith) _ _ (c .before .wide .ensures .0) (c .shift-out .ensures)
+
+returns : tie.Need-returns Inv-loop μ-loop
+returns c = sifting-end (c .before .loop .inv) (omega arith)
+
+pub sift-spec : {M : Type 1} → statement M
+sift-spec =
+    tie.close
+    (tie.spec
+    Inv-loop
+    μ-loop
+    loop-holds
+    array-read-wide
+    wide-requires
+    shift-out-requires
+    add-k
+    loop-less
+    loop-again
+    returns)

@@ -1,0 +1,36 @@
+-- `mend` looks at the length, takes what each row leaves, and mends the rows all or none.
+-- Assumes nothing.
+use mathlib.Core.Path.{_≡_}
+use mathlib.Core.List.{List}
+use Prim.Native.Nat.{ℕ, _%_, _≤_}
+use lib.ListN.{length}
+use Rattle.repair.proofs.AllRows.{mend-short, mend-long, mend-all, all-resting}
+use borrow.Author.Needs.{needs}
+use Rattle.repair.proofs.mend.Statement.{statement}
+use Rattle.repair.proofs.mend.Tie as tie
+
+returns : tie.Need-returns
+returns c = mend-short _ (search needs)
+
+returns-2 : tie.Need-returns-2
+returns-2 c = mend-long _ (search needs) (search needs)
+
+remainders-requires : tie.Need-remainders-requires
+remainders-requires c κs = search needs
+
+mend-from-requires : tie.Need-mend-from-requires
+mend-from-requires c κs = all-resting _ (search needs) (search needs) _ (c .before .before .remainders .ensures)
+
+same-length : tie.Need-same-length
+same-length c = search needs
+
+returns-3 : tie.Need-returns-3
+returns-3 c =
+    let b : List ℕ = c .before .before .before .before .before .before .before .before .before .before .args .rows .now in
+    let m : length b % 255 ≡ 0 = search needs in
+    let l : length b ≤ 3825 = search needs in
+    mend-all b m l _ _ (c .before .before .mend-from .ensures)
+
+pub mend-spec : {M : Type 1} → statement M
+mend-spec =
+    tie.close (tie.spec returns returns-2 remainders-requires mend-from-requires same-length returns-3)

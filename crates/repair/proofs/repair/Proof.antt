@@ -1,0 +1,18 @@
+-- `repair` mends the row where it is held.
+-- Assumes nothing.
+use Rattle.repair.proofs.AllRows.{mend-one}
+use borrow.Author.Needs.{needs}
+use Rattle.repair.proofs.repair.Statement.{statement}
+use Rattle.repair.proofs.repair.Tie as tie
+
+slice-aggregate-mend : tie.Need-slice-aggregate-mend
+slice-aggregate-mend c = search needs
+
+mend-requires : tie.Need-mend-requires
+mend-requires c κs = tt
+
+returns : tie.Need-returns
+returns c = mend-one _ _ _ (search needs) (c .before .mend .ensures)
+
+pub repair-spec : {M : Type 1} → statement M
+repair-spec = tie.close (tie.spec slice-aggregate-mend mend-requires returns)

@@ -1,0 +1,31 @@
+-- `repair_row` refuses another length than 255, and otherwise repairs the row by value.
+-- Assumes nothing.
+use mathlib.Core.Path.{_≡_, ap, _∙_}
+use mathlib.Core.List.{List}
+use Prim.Native.Nat.{ℕ}
+use lib.ListN.{length}
+use borrow.Author.Tests.{eq-eqb, ne-eqb}
+use Rattle.repair.specs.Repair.{mendOf, repairRowOf}
+use borrow.Author.Needs.{needs}
+use Rattle.repair.proofs.repair_row.Statement.{statement}
+use Rattle.repair.proofs.repair_row.Tie as tie
+
+returns : tie.Need-returns
+unfolding repairRowOf
+returns c = rw (ne-eqb (length (c .before .before .args .row .now)) 255 (search needs))
+
+held-requires : tie.Need-held-requires
+held-requires c κs = search needs
+
+repair-requires : tie.Need-repair-requires
+repair-requires c κs = search needs
+
+returns-2 : tie.Need-returns-2
+unfolding repairRowOf
+returns-2 c =
+    let row : List ℕ = c .before .before .before .before .args .row .now in
+    let e : length row ≡ 255 = search needs in
+    rw (eq-eqb (length row) 255 e) (c .repair .ensures ∙ ap mendOf (c .before .held .ensures))
+
+pub repair-row-spec : {M : Type 1} → statement M
+repair-row-spec = tie.close (tie.spec returns held-requires repair-requires returns-2)

@@ -1,0 +1,90 @@
+-- `terms::add_term` adds a to the exponent each turn: at turn j it is that of c · α^(a · j), and the first j sums have theirs.
+-- Assumes nothing.
+use mathlib.Core.Path.{_≡_, ap₂, _∙_}
+use Prim.Native.Nat.{ℕ, _-_, _≤_, _<_}
+use native.Mathlib.Nat.{le-refl}
+use native.Mathlib.Omega.{arith}
+use Rattle.ground.specs.Bits.{sum}
+use Rattle.field.specs.Field.{product, expo, power}
+use Rattle.repair.proofs.Stores.{Front, front-start, front-more}
+use Rattle.repair.proofs.Shares.{WithTerm, term-first, term-moved, term-nothing}
+use borrow.Author.Needs.{needs}
+use Rattle.repair.proofs.terms.add_term.Statement.{statement}
+use Rattle.repair.proofs.terms.add_term.Tie as tie
+
+abbrev Inv-loop : tie.InvT-loop
+Inv-loop c a powers logs out₀ e₀ j₀ out e j =
+    (j ≤ 16) × (e < 255) × Front (WithTerm c a out₀) 16 j out₀ out × (power e ≡ product c (expo (power a) j))
+
+abbrev μ-loop : tie.MeasureT-loop
+μ-loop c a powers logs out₀ e₀ j₀ out e j = 16 - j
+
+returns : tie.Need-returns Inv-loop μ-loop
+returns c = term-nothing _ _ _ (c .if1 .taken) (search needs)
+
+log-requires : tie.Need-log-requires Inv-loop μ-loop
+log-requires c κs = search needs
+
+loop-holds : tie.Need-loop-holds Inv-loop μ-loop
+loop-holds c =
+    let start = c .before .before .args in
+    let log = c .log .ensures in
+    (omega arith, log .0, front-start _ 16 _ (search needs), log .1 ∙ term-first (start .c) (start .a) (search needs))
+
+array-read-out : tie.Need-array-read-out Inv-loop μ-loop
+array-read-out c = search needs
+
+element-copy-out-out : tie.Need-element-copy-out-out Inv-loop μ-loop
+element-copy-out-out c = search needs
+
+array-write-out : tie.Need-array-write-out Inv-loop μ-loop
+array-write-out c = search needs
+
+add-round : tie.Need-add-round Inv-loop μ-loop
+add-round c = search needs
+
+round-requires : tie.Need-round-requires Inv-loop μ-loop
+round-requires c κs = search needs
+
+add-j : tie.Need-add-j Inv-loop μ-loop
+add-j c = search needs
+
+loop-less : tie.Need-loop-less Inv-loop μ-loop
+loop-less c = search needs
+
+loop-again : tie.Need-loop-again Inv-loop μ-loop
+unfolding sum
+loop-again c =
+    let inv = c .before .before .before .loop .inv in
+    let e : ℕ = c .before .before .before .loop .e in
+    let start = c .before .before .before .before .before .before in
+    let round = c .round .ensures in (
+      omega arith,
+      round .0,
+      front-more (inv .2) _ (omega arith) (ap₂ sum (inv .2 .kept _ (le-refl _)) (start .pre .1 .entry e (omega arith) ∙ inv .3)),
+      term-moved _ _ _ e _ (inv .3) (round .1),
+    )
+
+returns-2 : tie.Need-returns-2 Inv-loop μ-loop
+returns-2 c =
+    let inv = c .before .loop .inv in
+    record { sized = inv .2 .sized; entry = λ j h. inv .2 .written j (omega arith) }
+
+pub add-term-spec : {M : Type 1} → statement M
+add-term-spec =
+    tie.close
+    (tie.spec
+    Inv-loop
+    μ-loop
+    returns
+    log-requires
+    loop-holds
+    array-read-out
+    element-copy-out-out
+    array-write-out
+    add-round
+    round-requires
+    add-j
+    loop-less
+    loop-again
+    returns-2)

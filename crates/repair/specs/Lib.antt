@@ -1,0 +1,5 @@
+pub mod Repair
+pub mod InnerSums
+pub mod InnerNull
+pub mod InnerErrata
+pub mod InnerRows

@@ -1,0 +1,152 @@
+// The values at up to sixteen given places that give the syndromes (document 01, section 3). A place is told by its exponent a: byte 254 - a of a row has the locator α^a. The
+// places are shifted out of the syndromes one after the other, which leaves one equation for the last place, and are then brought back, last first.
+ghost use mathlib.Core.Path.{_≡_};
+ghost use Prim.Native.Nat.{_+_, _≤_, _<_};
+ghost use lib.ListN.{length};
+ghost use Rattle.field.specs.Tables.{Powers, Logs};
+ghost use Rattle.repair.specs.InnerErrata.{Placed, ShiftedOut, Sifted, Restored, Solved, Searched, mendedBy, entries};
+use crate::factors;
+use crate::kernel;
+use crate::terms;
+
+// Values at the first n places; `fits` where they give all sixteen syndromes.
+pub(crate) struct Errata {
+    pub fits: bool,
+    pub n: usize,
+    pub at: [u8; 16],
+    pub values: [u8; 16],
+}
+
+// What is to be added to a row that leaves this remainder to reach a coded row within eight bytes; it fits exactly if there is such a row. A row that leaves
+// nothing is coded.
+pub(crate) fn find(rest: [u8; 16]) -> Errata
+    ensures { λ r. ⌜ Searched rest (r .n) (r .at) (r .values) (r .fits) ⌝ }
+{
+    if terms::is_nought(rest) {
+        return Errata {
+            fits: true,
+            n: 0,
+            at: [0u8; 16],
+            values: [0u8; 16],
+        };
+    }
+    search(rest)
+}
+
+// The same by way of the syndromes.
+fn search(rest: [u8; 16]) -> Errata
+    ensures { λ r. ⌜ Searched rest (r .n) (r .at) (r .values) (r .fits) ⌝ }
+{
+    let powers = field::powers();
+    let logs = field::logs();
+    let s = terms::syndromes(rest, &powers, &logs);
+    let null = kernel::null_vector(s, &powers, &logs);
+    let v = null.v;
+    let places = roots::find(v);
+    let n = places.n;
+    let at = places.at;
+    let values = solve(s, at, n, &powers, &logs);
+    let fits = terms::agrees(s, at, values, n, &powers, &logs);
+    Errata {
+        fits,
+        n,
+        at,
+        values,
+    }
+}
+
+// The entries behind entry k, each less α^a times the one before it.
+fn shift_out(
+    c: [u8; 16],
+    a: usize,
+    n: usize,
+    k: usize,
+    powers: &[u8; 512],
+    logs: &[u8; 256],
+) -> [u8; 16]
+    requires { ⌜ (a < 255) × (k < n) × (n ≤ 16) × Powers (now powers) × Logs (now logs) ⌝ }
+    ensures { λ r. ⌜ ShiftedOut a n k c r ⌝ }
+{
+    let mut out = c;
+    let mut i = n;
+    while k + 1 < i {
+        i -= 1;
+        out[i] = out[i] ^ factors::raised(powers, logs, out[i - 1], a);
+    }
+    out
+}
+
+// For each place the first entry that is left when those before it are shifted out.
+fn sift(s: [u8; 16], at: [u8; 16], n: usize, powers: &[u8; 512], logs: &[u8; 256]) -> [u8; 16]
+    requires { ⌜ Placed n at × Powers (now powers) × Logs (now logs) ⌝ }
+    ensures { λ r. ⌜ Sifted at n s r ⌝ }
+{
+    let mut out = s;
+    let mut k: usize = 0;
+    while k < n {
+        let next = shift_out(out, factors::wide(at[k]), n, k, powers, logs);
+        out = next;
+        k += 1;
+    }
+    out
+}
+
+// Brings place k back: divides the entries behind entry k by the difference of the locators, and takes them off entry k.
+fn restore(
+    c: [u8; 16],
+    at: [u8; 16],
+    n: usize,
+    k: usize,
+    powers: &[u8; 512],
+    logs: &[u8; 256],
+) -> [u8; 16]
+    requires { ⌜ (k < n) × Placed n at × Powers (now powers) × Logs (now logs) ⌝ }
+    ensures { λ r. ⌜ Restored at n k c r ⌝ }
+{
+    let mut out = c;
+    let x = factors::power(powers, at[k]);
+    let mut acc = out[k];
+    let mut i = k + 1;
+    while i < n {
+        let v = factors::over(powers, logs, out[i], factors::power(powers, at[i]) ^ x);
+        out[i] = v;
+        acc = acc ^ v;
+        i += 1;
+    }
+    out[k] = acc;
+    out
+}
+
+// The values at the first n places that give the first n syndromes.
+pub(crate) fn solve(
+    s: [u8; 16],
+    at: [u8; 16],
+    n: usize,
+    powers: &[u8; 512],
+    logs: &[u8; 256],
+) -> [u8; 16]
+    requires { ⌜ Placed n at × Powers (now powers) × Logs (now logs) ⌝ }
+    ensures { λ r. ⌜ Solved at n s r ⌝ }
+{
+    let mut out = sift(s, at, n, powers, logs);
+    let mut k = n;
+    while 0 < k {
+        k -= 1;
+        let next = restore(out, at, n, k, powers, logs);
+        out = next;
+    }
+    out
+}
+
+// Adds the values at the first n places of the row that stands at the front of `rows`.
+pub(crate) fn mend(rows: &mut [u8], at: [u8; 16], values: [u8; 16], n: usize)
+    requires { ⌜ Placed n at × (255 ≤ length (now rows)) ⌝ }
+    ensures { λ r. ⌜ now (rows .exit) ≡ mendedBy (now (rows .entry)) (entries at) (entries values) n ⌝ }
+{
+    let mut k: usize = 0;
+    while k < n {
+        let i = 254 - factors::wide(at[k]);
+        rows[i] = rows[i] ^ values[k];
+        k += 1;
+    }
+}

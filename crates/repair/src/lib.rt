@@ -1,0 +1,73 @@
+// Repair of rows of RS(255,239), exact: the one coded row within eight bytes, or that there is none (document 01, section 3, and demand 2).
+ghost use mathlib.Core.Path.{_≡_};
+ghost use lib.ListN.{length};
+ghost use Rattle.repair.specs.Repair.{mendOf, repairRowOf, mendingOf, Mends};
+
+mod errata;
+mod factors;
+mod kernel;
+mod rows;
+mod terms;
+
+use refusals::Refusal;
+use refusals::Verdict;
+
+// The corrected row; beside a refusal the row as it came, or zeros where no row came.
+pub struct Mended {
+    pub verdict: Verdict,
+    pub row: [u8; 255],
+}
+
+// Repairs each of up to fifteen rows that stand one behind the other, where they stand: 13, with the first row that has no coded row within eight bytes, and 1 where
+// they are not whole rows or more than fifteen. Refused, nothing is changed.
+pub fn mend(rows: &mut [u8]) -> Verdict
+    ensures { λ r. ⌜ Mends (mendingOf (now (rows .entry))) r (now (rows .exit)) ⌝ }
+{
+    if rows.len() % 255 != 0 {
+        return Verdict::Refused(Refusal::Short);
+    }
+    if 3825 < rows.len() {
+        return Verdict::Refused(Refusal::Short);
+    }
+    let rests = encoding::remainders(rows);
+    rows::mend_from(rows, 0, &rests)
+}
+
+// The coded row that differs from this row in at most eight bytes; refused where there is none.
+pub fn repair(row: [u8; 255]) -> Mended
+    ensures { λ r. ⌜ r ≡ mendOf row ⌝ }
+{
+    let mut fixed = row;
+    let verdict = mend(&mut fixed);
+    Mended {
+        verdict,
+        row: fixed,
+    }
+}
+
+// The same, of a row that lies in a slice; another length than 255 is refused.
+pub fn repair_row(row: &[u8]) -> Mended
+    ensures { λ r. ⌜ r ≡ repairRowOf (now (row .entry)) ⌝ }
+{
+    if row.len() != 255 {
+        return Mended {
+            verdict: Verdict::Refused(Refusal::Short),
+            row: [0u8; 255],
+        };
+    }
+    repair(held(row))
+}
+
+// The row by value.
+fn held(row: &[u8]) -> [u8; 255]
+    requires { ⌜ length (now row) ≡ 255 ⌝ }
+    ensures { λ r. ⌜ r ≡ now (row .entry) ⌝ }
+{
+    let mut out = [0u8; 255];
+    let mut i: usize = 0;
+    while i < 255 {
+        out[i] = row[i];
+        i += 1;
+    }
+    out
+}
