@@ -1,4 +1,5 @@
 mod Lent
+pub mod Weak
 pub mod Refusals
 pub mod Field
 pub mod Crc
