@@ -6,4 +6,3 @@ pub mod HoldLaws
 pub mod StatusLaws
 pub mod RefusedLaws
 pub mod FollowLaws
-pub mod OneResult

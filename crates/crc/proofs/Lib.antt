@@ -7,4 +7,3 @@ pub mod Walk
 pub mod Steps
 pub mod Constant
 pub mod Cases
-pub mod OneResult

@@ -5,5 +5,4 @@ pub mod Exponents
 pub mod Chain
 pub mod Laws
 pub mod ByTables
-pub mod OneResult
 pub mod Cases

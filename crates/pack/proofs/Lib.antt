@@ -4,4 +4,3 @@ pub mod Parts
 pub mod Runs
 pub mod Writes
 pub mod Cases
-pub mod OneResult

@@ -10,4 +10,3 @@ pub mod Starts
 pub mod Candidates
 pub mod Opened
 pub mod Examples
-pub mod OneResult

@@ -2,7 +2,6 @@ pub mod SlotLaws
 pub mod PlanLaws
 pub mod OpenLaws
 pub mod CloseLaws
-pub mod OneResult
 pub mod CrcLaws
 pub mod MendLaws
 pub mod OfferCases

@@ -1,0 +1,15 @@
+mod Lent
+pub mod Weak
+pub mod Refusals
+pub mod Field
+pub mod Crc
+pub mod Roots
+pub mod Encoding
+pub mod Repair
+pub mod Packet
+pub mod Pack
+pub mod Places
+pub mod Contents
+pub mod Record
+pub mod Readout
+pub mod Face
