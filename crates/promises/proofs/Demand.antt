@@ -9,7 +9,7 @@ use native.Mathlib.Omega.{arith}
 use borrow.Author.Tests.{eqb-true, ne-eqb}
 use lib.Dec.{eqb, ltb}
 use lib.ListN.{length, getD, replicate, getD-replicate}
-use Rattle.refusals.specs.declared.Verdict.the-variants.{Accepted}
+use Rattle.refusals.specs.Told.{verdictTold}
 use Rattle.ground.proofs.Numbers.{same-or-not}
 use Rattle.packet.specs.declared.Packet.{Packet}
 use Rattle.packet.specs.declared.Reading.{Reading}
@@ -35,9 +35,10 @@ use Rattle.record.proofs.OfferFacts.{read-resource}
 use Rattle.record.proofs.OfferLaws.{Placed, Sound, heldAfter, held-after, slots-kept, offer-sound, offer-holds, offer-length}
 use Rattle.readout.proofs.HandCases.{out-found}
 use Rattle.readout.proofs.HandLaws.{accepted}
-use Rattle.promises.specs.Calls.{Call, Answer, State, step, run, names, about}
+use Rattle.promises.specs.Calls.{Call, State, step, run, names, about}
 use Rattle.promises.specs.Calls.Call.{packing, opening, offering, asking, handing, closing}
 use Rattle.promises.specs.Statements.{Protected, Copy, BringsNoOther, Fair, AllFair, Offers, HandsOut, Demand3}
+use Rattle.promises.proofs.Numbers.{verdict-accepted}
 use Rattle.promises.proofs.Judged.{copy-reads, copy-judged}
 use Rattle.promises.proofs.Whole.{contents-handed}
 use Rattle.promises.proofs.Views.{Kept, step-leaves}
@@ -243,7 +244,7 @@ module _ (g : Settings) (file : List ℕ) (p : Protected g file) (i start : ℕ)
       out-found (x .held) (x .store) (g .resource) (c .sound) (length file) out i (c .named)
       ∙ ap (λ (o : Place). handContents o (contents o (x .store)) (length file) out) (c .place)
       ∙ contents-handed g file p (contents own (x .store)) (length-contents own (x .store)) all start out room in
-      ap (λ (h : Handing). Answer.handed (h .answer) (h .output)) done
+      ap (λ (h : Handing). record { told = verdictTold (h .answer); output = h .output }) done
 
 -- a place just opened is one in which the file is collected
 pub opened-collecting : (g : Settings) (file : List ℕ) (p : Protected g file) (x : State) (i start : ℕ) → Taking (x .held) (length (x .store)) g (countOf g (length file)) i start
@@ -267,8 +268,7 @@ opened-collecting g file p x i start t =
 pub demand-3 : Demand3 step
 unfolding step
 demand-3 g file p x answer cs carried =
-    let told : Answer.opened (openOf (x .held) (x .store) g (countOf g (length file)) .kept .verdict) ≡ Answer.opened Accepted = answer in
-    let t = accepted-plan (x .held) (x .store) g (countOf g (length file)) cc in
+    let t = accepted-plan (x .held) (x .store) g (countOf g (length file)) (verdict-accepted (openOf (x .held) (x .store) g (countOf g (length file)) .kept .verdict) answer) in
     let begun : Collecting g file p (t .0) (t .1) (step (opening g (countOf g (length file))) x .state) = opened-collecting g file p x (t .0) (t .1) (t .2) in
     hands g file p (t .0) (t .1) _ (fair-run g file p (t .0) (t .1) (carried .fair) _ begun .collecting)
     (λ k l. offered-run g file p (t .0) (t .1) k l (carried .every k l) (carried .fair) _ begun)

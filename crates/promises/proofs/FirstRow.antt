@@ -30,14 +30,14 @@ use Rattle.contents.proofs.Places.{reading-slots, storing-sets}
 use Rattle.contents.specs.Slots.{stored}
 use Rattle.readout.specs.Hand.{Handing, handRows, handJoined, handContents, handOutOf}
 use Rattle.refusals.specs.declared.Verdict.{Verdict}
-use Rattle.refusals.specs.declared.Verdict.the-variants.{Accepted}
+use Rattle.refusals.specs.Told.{acceptedWith, verdictTold}
 use Rattle.code.specs.Mend.{whole, behind}
 use Rattle.record.specs.Open.{take as take-plan, Opening, openOf}
 use Rattle.record.proofs.PlanLaws.{Taking, taking-plan, open-by}
 use Rattle.record.proofs.OpenLaws.{open-empty}
 use Rattle.promises.specs.Calls.{Answer, fresh, step}
 use Rattle.promises.specs.Calls.Call.{offering}
-use Rattle.promises.specs.Statements.{Protected, Copy, rowIn, Fair, AllFair, Offers, Carries, FromFresh, output}
+use Rattle.promises.specs.Statements.{Protected, Copy, rowIn, Fair, AllFair, Offers, Carries, FromFresh}
 use Rattle.refusals.specs.declared.Refusal.the-variants.{Crc, Missing}
 use lib.Dec.{ltb}
 use Rattle.pack.proofs.Laws.{fieldsOf}
@@ -227,17 +227,14 @@ wrong-file : getD (handContents (placeOf two 1 0) (holding body ∷ []) 478 zero
 unfolding handContents handJoined handRows
 wrong-file = refl
 
-abbrev handed-answer : List ℕ → Answer
-handed-answer t = Answer.handed (handOutOf held t 5 478 zeros .answer) (handOutOf held t 5 478 zeros .output)
-
-verdicts-differ : {o p : List ℕ} → Answer.handed (Verdict.Refused (Missing 0)) o ≡ Answer.handed Accepted p → ⊥
-verdicts-differ e = let z : _≡_ {A = ℕ} 0 1 = cc in omega arith
+abbrev answer : Handing → Answer
+answer h = record { told = verdictTold (h .answer); output = h .output }
 
 pub first-row-breaks-demand-3 : FromFresh mendingFirst → ⊥
 unfolding mendingFirst step
 first-row-breaks-demand-3 d = by (agrees altered body) refl
   where
-    told : handed-answer (offerBy firstRowOnly held store altered .store) ≡ Answer.handed Accepted (zeros ++ drop 478 zeros)
+    told : answer (handOutOf held (offerBy firstRowOnly held store altered .store) 5 478 zeros) ≡ record { told = acceptedWith []; output = zeros ++ drop 478 zeros }
     told = d two zeros protected room (omega arith) (omega arith) (offering altered ∷ []) carried .hands zeros (omega arith)
 
     by : (b : Bool) → agrees altered body ≡ b → ⊥
@@ -249,15 +246,14 @@ first-row-breaks-demand-3 d = by (agrees altered body) refl
         let ends : endOf (placeOf two 1 0) ≤ length store = subst (λ (p : Place). endOf p ≤ length store) (begun .place) (named-facts (length store) (held .places) (begun .sound) 5 0 (begun .named) .ends-within) in
         let holds : contents (placeOf two 1 0) (stored store (slotAt (placeOf two 1 0) 0) body) ≡ holding body ∷ [] =
         storing-sets (placeOf two 1 0) store 0 body ends (omega arith) refl ∙ ap (λ (c : List Content). set c 0 (holding body)) empty in
-        let f : Answer.handed (handContents (placeOf two 1 0) (holding body ∷ []) 478 zeros .answer) (handContents (placeOf two 1 0) (holding body ∷ []) 478 zeros .output)
-        ≡ Answer.handed Accepted (zeros ++ drop 478 zeros) =
-        ap (λ (h : Handing). Answer.handed (h .answer) (h .output)) (sym (handed-of (stored store (slotAt (placeOf two 1 0) 0) body) (holding body) (length-stored store (slotAt (placeOf two 1 0) 0) body) holds zeros))
-        ∙ ap handed-answer (sym after) ∙ told in
-        let z : _≡_ {A = ℕ} 1 0 = sym wrong-file ∙ ap (λ (a : Answer). getD (output a) 239 0) f in
+        let handed : handOutOf held (offerBy firstRowOnly held store altered .store) 5 478 zeros ≡ handContents (placeOf two 1 0) (holding body ∷ []) 478 zeros =
+        ap (λ (t : List ℕ). handOutOf held t 5 478 zeros) after
+        ∙ handed-of (stored store (slotAt (placeOf two 1 0) 0) body) (holding body) (length-stored store (slotAt (placeOf two 1 0) 0) body) holds zeros in
+        let z : _≡_ {A = ℕ} 1 0 = sym wrong-file ∙ ap (λ (h : Handing). getD (h .output) 239 0) (sym handed) ∙ ap (λ (a : Answer). getD (a .output) 239 0) told in
         omega arith
     by false e =
         let kept : offerBy firstRowOnly held store altered .store ≡ store = ap (λ (o : Offering). o .store) (offered-first ∙ ap (λ (b : Bool). offerJudged (placeOf two 1 0) store (cond b (put 0 body) (refuse Crc))) e) in
-        let f : Answer.handed (Verdict.Refused (Missing 0)) zeros ≡ Answer.handed Accepted (zeros ++ drop 478 zeros) =
-        ap (λ (h : Handing). Answer.handed (h .answer) (h .output)) (sym (handed-of store (holding []) refl empty zeros ∙ missing))
-        ∙ ap handed-answer (sym kept) ∙ told in
-        verdicts-differ f
+        let handed : handOutOf held (offerBy firstRowOnly held store altered .store) 5 478 zeros ≡ record { answer = Verdict.Refused (Missing 0); output = zeros } =
+        ap (λ (t : List ℕ). handOutOf held t 5 478 zeros) kept ∙ handed-of store (holding []) refl empty zeros ∙ missing in
+        let z : _≡_ {A = ℕ} 21 0 = ap (λ (h : Handing). verdictTold (h .answer) .number) (sym handed) ∙ ap (λ (a : Answer). a .told .number) told in
+        omega arith

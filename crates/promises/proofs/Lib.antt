@@ -1,3 +1,4 @@
+pub mod Numbers
 pub mod Refusals
 pub mod Noise
 pub mod Judged

@@ -1,11 +1,11 @@
 -- Our definitions are not the misreadings of document 01, section 9: an input on which each differs.
 -- Assumes nothing.
-use mathlib.Core.Path.{_≡_, refl, sym, ap, ap₂, _∙_}
+use mathlib.Core.Path.{_≡_, refl, sym, ap, _∙_}
 use mathlib.Core.Bool.{Bool, true, false, cond, true≢false}
 use mathlib.Core.List.{List, [], _∷_, _++_, flatten}
-use Prim.Native.Nat.{ℕ, _+_, _-_, _≤_, _<_}
+use Prim.Native.Nat.{ℕ}
 use native.Mathlib.Omega.{arith}
-use lib.ListN.{length, getD, take, drop, replicate}
+use lib.ListN.{length, getD, replicate}
 use Rattle.refusals.specs.declared.Refusal.the-variants.{Conflict}
 use Rattle.refusals.specs.declared.Verdict.the-variants.{Accepted}
 use Rattle.ground.specs.Bits.{sum}
@@ -22,7 +22,7 @@ use Rattle.contents.specs.Contents.{holding}
 use Rattle.record.specs.declared.Offered.{Offered}
 use Rattle.record.specs.declared.Offered.the-variants.{Stored}
 use Rattle.code.specs.Mend.{whole, behind, mendRows}
-use Rattle.record.specs.Mend.{payloadIn, mendedIn, agrees}
+use Rattle.record.specs.Mend.{mendedIn, agrees}
 use Rattle.record.specs.Offer.{putInto}
 use Rattle.readout.specs.Hand.{handJoined}
 use Rattle.promises.proofs.Turned.{zero-row, wrong-row, wrong-near, wrong-bytes}

@@ -1,15 +1,13 @@
 -- Wrong programs are turned away, each by one small example: a file of one byte in one packet, over a store with just the room.
 -- Assumes nothing.
 use mathlib.Core.Path.{_≡_, refl, sym, ap, ap₂, _∙_}
-use mathlib.Core.Bool.{Bool, true, false, cond}
 use mathlib.Core.List.{List, [], _∷_, _++_}
-use Prim.Native.Nat.{ℕ, zero, suc, _+_, _-_, _*_, _≤_, _<_}
+use Prim.Native.Nat.{ℕ, zero, suc, _-_, _*_, _≤_, _<_}
 use native.Mathlib.Omega.{arith}
 use lib.ListN.{length, getD, take, drop, replicate, set}
-use Rattle.refusals.specs.declared.Refusal.{Refusal}
-use Rattle.refusals.specs.declared.Refusal.the-variants.{Short, Unknown, Field, Missing}
-use Rattle.refusals.specs.declared.Verdict.{Verdict}
-use Rattle.refusals.specs.declared.Verdict.the-variants.{Accepted, Refused}
+use Rattle.refusals.specs.declared.Refusal.the-variants.{Short, Unknown, Missing}
+use Rattle.refusals.specs.declared.Verdict.the-variants.{Refused}
+use Rattle.refusals.specs.Told.{refusedAs, verdictTold}
 use Rattle.ground.specs.Bits.{sum}
 use Rattle.field.specs.Field.{product, carryless, reduce}
 use Rattle.code.specs.Code.{Bytes, Coded, add, scale, distance}
@@ -24,22 +22,17 @@ use Rattle.packet.specs.Packet.{readOf}
 use Rattle.packet.specs.Settings.{settingsFit}
 use Rattle.pack.specs.Pack.{countOf, packetOf}
 use Rattle.pack.proofs.Laws.{packet-bytes}
-use Rattle.places.specs.declared.Found.the-variants.{At, Nothing}
 use Rattle.places.specs.Places.{good, firstFrom, freshRecord, placeOf}
 use Rattle.places.proofs.Keeping.{fresh-good}
-use Rattle.record.specs.declared.Offered.{Offered}
-use Rattle.record.specs.declared.Offered.the-variants.{Stored}
-use Rattle.readout.specs.declared.Standing.{Standing}
-use Rattle.readout.specs.declared.Standing.the-variants.{Filled}
 use Rattle.code.specs.Mend.{whole, behind, mendRows}
 use Rattle.record.specs.Mend.{mendedIn}
-use Rattle.record.specs.Offer.{offerOf, offerBy}
+use Rattle.record.specs.Offer.{offerBy}
 use Rattle.record.specs.Open.{take as take-plan, carriedOut, openOf}
 use Rattle.readout.specs.Hand.{Handing, statusOf, handContents, handOutOf}
 use Rattle.record.proofs.PlanLaws.{Taking, taking-plan, open-by}
 use Rattle.record.proofs.OpenLaws.{open-length, open-good, open-named, open-empty}
-use Rattle.promises.specs.Calls.{Call, Answer, State, Outcome, Program, step, run, fresh}
-use Rattle.promises.specs.Calls.Call.{packing, opening, offering, asking, handing, closing}
+use Rattle.promises.specs.Calls.{Answer, telling, Outcome, step, fresh}
+use Rattle.promises.specs.Calls.Call.{offering, asking}
 use Rattle.promises.specs.Statements.{Protected, Copy, Fair, AllFair, Offers, Carries, FromFresh}
 use Rattle.promises.proofs.Fresh.{takes}
 use Rattle.promises.specs.Wrong.{Meets, refusing, losing, boasting, inventing, firstRowOnly, MendsEveryRow}
@@ -84,8 +77,8 @@ carried =
 pub refusing-turned : FromFresh refusing → ⊥
 unfolding refusing
 refusing-turned d =
-    let e : Answer.opened (Refused Field) ≡ Answer.opened Accepted = d one byte protected (replicate 257 0) (omega arith) (omega arith) (offering (packetOf one byte 0) ∷ []) carried .opens in
-    let z : _≡_ {A = ℕ} 0 1 = cc in
+    let e = d one byte protected (replicate 257 0) (omega arith) (omega arith) (offering (packetOf one byte 0) ∷ []) carried .opens in
+    let z : _≡_ {A = ℕ} 17 0 = ap (λ (a : Answer). a .told .number) e in
     omega arith
 
 -- ---- one that stores nothing: the slot stays empty, and hand out says so
@@ -114,35 +107,31 @@ pub losing-turned : FromFresh losing → ⊥
 unfolding losing step
 losing-turned d =
     let e = d one byte protected room (omega arith) (omega arith) (offering (packetOf one byte 0) ∷ []) carried .hands (0 ∷ []) (omega arith) in
-    let f : Answer.handed (Refused (Missing 0)) (0 ∷ []) ≡ Answer.handed Accepted (7 ∷ []) =
-    ap (λ (h : Handing). Answer.handed (h .answer) (h .output)) (sym empty-handed) ∙ e in
-    let z : _≡_ {A = ℕ} 0 1 = cc in
+    let z : _≡_ {A = ℕ} 21 0 = ap (λ (h : Handing). verdictTold (h .answer) .number) (sym empty-handed) ∙ ap (λ (a : Answer). a .told .number) e in
     omega arith
 
 -- ---- one that answers Stored always: the empty packet is refused as too short
 
-short-said : step (offering []) (fresh []) .answer ≡ Answer.offered (Offered.Refused Short)
+short-said : step (offering []) (fresh []) .answer ≡ telling (refusedAs Short)
 unfolding step offerBy readOf
 short-said = rw (fresh-good 0) refl
 
 pub boasting-turned : Meets boasting → ⊥
 unfolding boasting
 boasting-turned m =
-    let e : Answer.offered Stored ≡ Answer.offered (Offered.Refused Short) = ap (λ (o : Outcome). o .answer) (m (offering []) (fresh [])) ∙ short-said in
-    let z : _≡_ {A = ℕ} 0 1 = cc in
+    let z : _≡_ {A = ℕ} 0 1 = ap (λ (a : Answer). a .told .number) (ap (λ (o : Outcome). o .answer) (m (offering []) (fresh [])) ∙ short-said) in
     omega arith
 
 -- ---- one whose Status invents a number: nothing is open
 
-unknown-said : step (asking 5) (fresh []) .answer ≡ Answer.asked (Standing.Refused Unknown)
+unknown-said : step (asking 5) (fresh []) .answer ≡ telling (refusedAs Unknown)
 unfolding step statusOf firstFrom
 unknown-said = rw (fresh-good 0) refl
 
 pub inventing-turned : Meets inventing → ⊥
 unfolding inventing
 inventing-turned m =
-    let e : Answer.asked (Filled 7 Nothing) ≡ Answer.asked (Standing.Refused Unknown) = ap (λ (o : Outcome). o .answer) (m (asking 5) (fresh [])) ∙ unknown-said in
-    let z : _≡_ {A = ℕ} 0 1 = cc in
+    let z : _≡_ {A = ℕ} 0 10 = ap (λ (a : Answer). a .told .number) (ap (λ (o : Outcome). o .answer) (m (asking 5) (fresh [])) ∙ unknown-said) in
     omega arith
 
 -- ---- a repair that mends row 0 only: a second row with one wrong byte comes through as it is

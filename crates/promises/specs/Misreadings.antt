@@ -2,18 +2,17 @@
 -- Assumes nothing.
 use mathlib.Core.Bool.{Bool, cond}
 use mathlib.Core.List.{List, [], _∷_, _++_, flatten}
-use Prim.Native.Nat.{ℕ, _+_, _*_, _/_, _%_}
+use Prim.Native.Nat.{ℕ, _+_, _*_}
 use lib.Dec.{eqb}
-use lib.ListN.{length, getD, take}
+use lib.ListN.{length, getD}
 use Rattle.ground.specs.Lists.{listed}
-use Rattle.crc.specs.Crc.{crc32Of}
 use Rattle.code.specs.Repair.{checksOf}
-use Rattle.layout.specs.Layout.{tablesOf, infoOf}
-use Rattle.contents.specs.Contents.{Slot, wrong, holding}
+use Rattle.layout.specs.Layout.{infoOf}
+use Rattle.contents.specs.Contents.{Slot}
 use Rattle.record.specs.declared.Offered.{Offered}
 use Rattle.record.specs.declared.Offered.the-variants.{Stored}
 use Rattle.code.specs.Mend.{Mended, whole}
-use Rattle.record.specs.Mend.{payloadIn, mendedIn, crcIn, agrees}
+use Rattle.record.specs.Mend.{payloadIn, mendedIn, agrees}
 
 -- tables filled row by row
 unfoldable pub infoByRows : ℕ → List ℕ → ℕ → ℕ → List ℕ

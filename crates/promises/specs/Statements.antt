@@ -1,31 +1,23 @@
 -- What an institute may rely on: document 01, section 5 (last paragraph), section 7, and the order's demand 3. Each statement is about any program; proofs/ shows them of `step`.
 -- docs/PROMISES.md says each in plain words. Assumes nothing.
 use mathlib.Core.Path.{_≡_}
-use mathlib.Core.Bool.{Bool, true, false, cond}
+use mathlib.Core.Bool.{true, false, cond}
 use mathlib.Core.List.{List, [], _∷_, _++_}
-use Prim.Native.Nat.{ℕ, _+_, _-_, _*_, _≤_, _<_}
+use Prim.Native.Nat.{ℕ, _-_, _*_, _≤_, _<_}
 use lib.ListN.{length, take, drop, replicate}
-use Rattle.refusals.specs.declared.Verdict.{Verdict}
-use Rattle.refusals.specs.declared.Verdict.the-variants.{Accepted, Refused}
+use Rattle.refusals.specs.Told.{acceptedWith}
 use Rattle.code.specs.Code.{Bytes, distance}
 use Rattle.packet.specs.declared.Packet.{Packet}
 use Rattle.packet.specs.declared.Reading.the-variants.{Sent}
 use Rattle.packet.specs.declared.Settings.{Settings}
 use Rattle.packet.specs.Packet.{readOf}
 use Rattle.packet.specs.Settings.{settingsFit}
-use Rattle.pack.specs.declared.Packed.{Packed}
-use Rattle.pack.specs.declared.Packed.the-variants.{Written}
 use Rattle.pack.specs.Pack.{largestFile, countOf, payloadOf, packetOf}
 use Rattle.places.specs.Places.{placeOf, coverOf}
-use Rattle.record.specs.declared.Offered.{Offered}
-use Rattle.record.specs.declared.Offered.the-variants.{Stored, Repeat}
-use Rattle.readout.specs.declared.Standing.{Standing}
-use Rattle.readout.specs.declared.Standing.the-variants.{Filled}
 use Rattle.record.specs.Mend.{payloadIn}
 use Rattle.record.specs.Offer.{judge, put}
-use Rattle.promises.specs.Calls.{Call, Answer, State, Program, run, fresh, names, about}
+use Rattle.promises.specs.Calls.{Call, Answer, telling, State, Program, run, fresh, names, about}
 use Rattle.promises.specs.Calls.Call.{packing, opening, offering, asking, handing, closing}
-use Rattle.promises.specs.Calls.Answer.{packed, opened, offered, asked, handed, closed}
 
 -- ---- demand 3
 
@@ -86,13 +78,13 @@ pub record Carries (g : Settings) (file : List ℕ) (cs : List Call) : Type 0 wh
 abbrev pub HandsOut : Program → Settings → List ℕ → State → Type 0
 HandsOut f g file x =
     (out : List ℕ) → length file ≤ length out
-    → f (handing (g .resource) (length file) out) x .answer ≡ handed Accepted (file ++ drop (length file) out)
+    → f (handing (g .resource) (length file) out) x .answer ≡ record { told = acceptedWith []; output = file ++ drop (length file) out }
 
--- from every state from which open with the file's own settings is accepted
+-- from every state from which open with the file's own settings is accepted, which is number 0
 abbrev pub Demand3 : Program → Type 0
 Demand3 f =
     (g : Settings) (file : List ℕ) → Protected g file
-    → (x : State) → f (opening g (countOf g (length file))) x .answer ≡ opened Accepted
+    → (x : State) → f (opening g (countOf g (length file))) x .answer .told .number ≡ 0
     → (cs : List Call) → Carries g file cs
     → HandsOut f g file (run f cs (f (opening g (countOf g (length file))) x .state) .state)
 
@@ -100,8 +92,8 @@ Demand3 f =
 pub record FreshHandsOut (f : Program) (g : Settings) (file s : List ℕ) (cs : List Call) : Type 0 where
   pub packs : (n : ℕ) → n < countOf g (length file) → (x : State) (out : List ℕ) → length (packetOf g file n) ≤ length out
       → f (packing file g n out) x .answer
-      ≡ packed (Written (length (packetOf g file n))) (packetOf g file n ++ drop (length (packetOf g file n)) out)
-  pub opens : f (opening g (countOf g (length file))) (fresh s) .answer ≡ opened Accepted
+      ≡ record { told = acceptedWith (length (packetOf g file n) ∷ []); output = packetOf g file n ++ drop (length (packetOf g file n)) out }
+  pub opens : f (opening g (countOf g (length file))) (fresh s) .answer ≡ telling (acceptedWith [])
   pub hands : HandsOut f g file (run f (opening g (countOf g (length file)) ∷ cs) (fresh s) .state)
 
 abbrev pub FromFresh : Program → Type 0
@@ -133,36 +125,20 @@ pub data Alike (r : ℕ) : List Call → List Call → Type 0 where
 
 -- those of the answers to calls that are about r
 abbrev pub pick : ℕ → List Call → List Answer → List Answer
-pick r [] told = []
+pick r [] answers = []
 pick r (c ∷ cs) [] = []
 pick r (c ∷ cs) (a ∷ rest) = cond (about r c) (a ∷ pick r cs rest) (pick r cs rest)
 
-abbrev pub told : Program → ℕ → List Call → State → List Answer
-told f r cs x = pick r cs (run f cs x .answers)
+abbrev pub answersAbout : Program → ℕ → List Call → State → List Answer
+answersAbout f r cs x = pick r cs (run f cs x .answers)
 
 -- from a fresh record and the same store, every answer about the resource is the same
 abbrev pub TwoSequences : Program → Type 0
-TwoSequences f = (r : ℕ) (s : List ℕ) (cs ds : List Call) → Alike r cs ds → told f r cs (fresh s) ≡ told f r ds (fresh s)
+TwoSequences f = (r : ℕ) (s : List ℕ) (cs ds : List Call) → Alike r cs ds → answersAbout f r cs (fresh s) ≡ answersAbout f r ds (fresh s)
 
--- ---- a refusal changes nothing
+-- ---- a refusal changes nothing: an answer whose number is not 0
 
-abbrev pub refusedVerdict : Verdict → Bool
-refusedVerdict Accepted = false
-refusedVerdict (Refused r) = true
-
-abbrev pub refusal : Answer → Bool
-refusal (packed (Written n) out) = false
-refusal (packed (Packed.Refused r) out) = true
-refusal (opened v) = refusedVerdict v
-refusal (offered Stored) = false
-refusal (offered Repeat) = false
-refusal (offered (Offered.Refused r)) = true
-refusal (asked (Filled n l)) = false
-refusal (asked (Standing.Refused r)) = true
-refusal (handed v out) = refusedVerdict v
-refusal (closed v) = refusedVerdict v
-
--- the output of a call, as it was lent and as it is answered
+-- the output that a call lends
 abbrev pub lent : Call → List ℕ
 lent (packing file g n out) = out
 lent (opening g count) = []
@@ -171,18 +147,10 @@ lent (asking r) = []
 lent (handing r n out) = out
 lent (closing r) = []
 
-abbrev pub output : Answer → List ℕ
-output (packed a out) = out
-output (opened v) = []
-output (offered a) = []
-output (asked a) = []
-output (handed v out) = out
-output (closed v) = []
-
 -- record, store and output are as they were
 pub record Unchanged (f : Program) (c : Call) (x : State) : Type 0 where
   pub state : f c x .state ≡ x
-  pub output-kept : output (f c x .answer) ≡ lent c
+  pub output-kept : f c x .answer .output ≡ lent c
 
 abbrev pub RefusalsChangeNothing : Program → Type 0
-RefusalsChangeNothing f = (c : Call) (x : State) → refusal (f c x .answer) ≡ true → Unchanged f c x
+RefusalsChangeNothing f = (c : Call) (x : State) → (f c x .answer .told .number ≡ 0 → ⊥) → Unchanged f c x
