@@ -8,6 +8,8 @@ pub mod Sequences
 pub mod Whole
 pub mod Demand
 pub mod Fresh
+pub mod EachRow
+pub mod Slots
 pub mod Cases
 pub mod Turned
 pub mod Misread
