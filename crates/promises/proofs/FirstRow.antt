@@ -37,7 +37,7 @@ use Rattle.record.proofs.PlanLaws.{Taking, taking-plan, open-by}
 use Rattle.record.proofs.OpenLaws.{open-empty}
 use Rattle.promises.specs.Calls.{Answer, fresh, step}
 use Rattle.promises.specs.Calls.Call.{offering}
-use Rattle.promises.specs.Statements.{Protected, Copy, rowIn, Fair, AllFair, Offers, Carries, FromFresh}
+use Rattle.promises.specs.Statements.{Protected, Copy, rowIn, Fair, AllFair, Offers, Carries, HandsOut, Demand3, FromFresh}
 use Rattle.refusals.specs.declared.Refusal.the-variants.{Crc, Missing}
 use lib.Dec.{ltb}
 use Rattle.pack.proofs.Laws.{fieldsOf}
@@ -46,7 +46,7 @@ use Rattle.record.specs.Offer.{Offering, storing, putInto, put, refuse, judgeMe
 use Rattle.promises.specs.Wrong.{firstRowOnly, mendingFirst}
 use Rattle.promises.proofs.Judged.{not-different, copy-reads}
 use Rattle.promises.proofs.Demand.{Collecting, opened-collecting}
-use Rattle.promises.proofs.Fresh.{takes}
+use Rattle.promises.proofs.Fresh.{takes, opens}
 use Rattle.promises.proofs.Turned.{zero-row, wrong-row, wrong-bytes, zero-coded}
 
 abbrev two : Settings
@@ -230,12 +230,13 @@ wrong-file = refl
 abbrev answer : Handing → Answer
 answer h = record { told = verdictTold (h .answer); output = h .output }
 
-pub first-row-breaks-demand-3 : FromFresh mendingFirst → ⊥
+-- what is handed out is not the file
+first-row-lost : HandsOut mendingFirst two zeros (record { held = held; store = offerBy firstRowOnly held store altered .store }) → ⊥
 unfolding mendingFirst step
-first-row-breaks-demand-3 d = by (agrees altered body) refl
+first-row-lost d = by (agrees altered body) refl
   where
     told : answer (handOutOf held (offerBy firstRowOnly held store altered .store) 5 478 zeros) ≡ record { told = acceptedWith []; output = zeros ++ drop 478 zeros }
-    told = d two zeros protected room (omega arith) (omega arith) (offering altered ∷ []) carried .hands zeros (omega arith)
+    told = d zeros (omega arith)
 
     by : (b : Bool) → agrees altered body ≡ b → ⊥
     by true e =
@@ -257,3 +258,12 @@ first-row-breaks-demand-3 d = by (agrees altered body) refl
         ap (λ (t : List ℕ). handOutOf held t 5 478 zeros) kept ∙ handed-of store (holding []) refl empty zeros ∙ missing in
         let z : _≡_ {A = ℕ} 21 0 = ap (λ (h : Handing). verdictTold (h .answer) .number) (sym handed) ∙ ap (λ (a : Answer). a .told .number) told in
         omega arith
+
+pub first-row-breaks-demand-3 : Demand3 mendingFirst → ⊥
+unfolding mendingFirst step
+first-row-breaks-demand-3 d =
+    first-row-lost (d two zeros protected (fresh room) (ap (λ (a : Answer). a .told .number) (opens two zeros protected room (omega arith) (omega arith))) (offering altered ∷ []) carried)
+
+pub first-row-breaks-from-fresh : FromFresh mendingFirst → ⊥
+unfolding mendingFirst step
+first-row-breaks-from-fresh d = first-row-lost (d two zeros protected room (omega arith) (omega arith) (offering altered ∷ []) carried .hands)

@@ -5,6 +5,7 @@ pub mod Judged
 pub mod NoSecond
 pub mod Views
 pub mod Sequences
+pub mod Own
 pub mod Whole
 pub mod Demand
 pub mod Fresh

@@ -2,9 +2,10 @@
 -- docs/PROMISES.md says each in plain words. Assumes nothing.
 use mathlib.Core.Path.{_≡_}
 use mathlib.Core.Bool.{true, false, cond}
-use mathlib.Core.List.{List, [], _∷_, _++_}
+use mathlib.Core.List.{List, [], _∷_, _++_, map}
 use Prim.Native.Nat.{ℕ, _-_, _*_, _%_, _≤_, _<_}
 use lib.ListN.{length, getD, take, drop, replicate}
+use Rattle.ground.specs.Lists.{listed}
 use Rattle.refusals.specs.declared.Refusal.the-variants.{Slot}
 use Rattle.refusals.specs.Told.{Told, acceptedWith, refusedAs}
 use Rattle.code.specs.Code.{Bytes, distance}
@@ -105,6 +106,11 @@ pub data Offers (g : Settings) (file : List ℕ) (n : ℕ) : List Call → Type 
 pub record Carries (g : Settings) (file : List ℕ) (cs : List Call) : Type 0 where
   pub fair : AllFair g file cs
   pub every : (n : ℕ) → n < countOf g (length file) → Offers g file n cs
+
+-- demand 3 is not empty: the packets of any such file, offered in order, carry it
+abbrev pub SomeCarry : Type 0
+SomeCarry =
+    (g : Settings) (file : List ℕ) → Protected g file → Carries g file (map offering (listed (packetOf g file) (countOf g (length file)) 0))
 
 -- hand out at the file's length, into room enough, answers the file, and leaves the output beyond it
 abbrev pub HandsOut : Program → Settings → List ℕ → State → Type 0
