@@ -187,7 +187,7 @@ module _ (g : Settings) (file : List ℕ) (p : Protected g file) (i start : ℕ)
         ∙ ap (offerJudged (getD (x .held .places) i unused) (x .store)) (ap (λ (o : Place). judge o f q) (c .place) ∙ e)))
     judged-go none (put n b) e = brought-go n (e ∙ ap (put n) (none f read n b (judge-start f q ∙ e)))
 
-  copy-go : (n : ℕ) (below : n < countOf g (length file)) (q : List ℕ) → Copy g file n q → (x : State) → Collecting x
+  pub copy-go : (n : ℕ) (below : n < countOf g (length file)) (q : List ℕ) → Copy g file n q → (x : State) → Collecting x
       → GoesOn x (step (offering q) x .state) × Has n (step (offering q) x .state)
   copy-go n below q cp x c =
       let reads = copy-reads g file p n below q cp in

@@ -14,4 +14,5 @@ pub mod Slots
 pub mod Cases
 pub mod Turned
 pub mod Misread
+pub mod Replaced
 pub mod FirstRow

@@ -45,33 +45,33 @@ use Rattle.promises.proofs.Slots.{held-found, found-held, status-by-slo
 
 -- ---- the example
 
-abbrev one : Settings
+abbrev pub one : Settings
 one = record { resource = 5; kind = 1; update = 0; protection = 1; rows = 1; size = 255 }
 
-abbrev byte : List ℕ
+abbrev pub byte : List ℕ
 byte = 7 ∷ []
 
-protected : Protected one byte
+pub protected : Protected one byte
 unfolding settingsFit Bytes
 protected = record { bytes = (omega arith, tt); some = omega arith; limit = omega arith; fit = refl; protection = refl; count = omega arith }
 
-abbrev packet : List ℕ
+abbrev pub packet : List ℕ
 packet = packetOf one byte 0
 
-carried : Carries one byte (offering (packetOf one byte 0) ∷ [])
+carried : Carries one byte (offering packet ∷ [])
 carried = some-carry one byte protected
 
-abbrev room : List ℕ
+abbrev pub room : List ℕ
 room = replicate 257 0
 
 taking-one : Taking freshRecord (length room) one 1 0 0
 taking-one = takes one byte protected room (omega arith) (omega arith)
 
 -- its place, just opened
-abbrev opened : State
+abbrev pub opened : State
 opened = step (opening one 1) (fresh room) .state
 
-begun : Collecting one byte protected 0 0 opened
+pub begun : Collecting one byte protected 0 0 opened
 begun = opened-collecting one byte protected (fresh room) 0 0 taking-one
 
 held : Held opened 5 0
@@ -89,7 +89,7 @@ empty =
 pub refusing-turned : FromFresh refusing → ⊥
 unfolding refusing
 refusing-turned d =
-    let e = d one byte protected (replicate 257 0) (omega arith) (omega arith) (offering (packetOf one byte 0) ∷ []) carried .opens in
+    let e = d one byte protected room (omega arith) (omega arith) (offering packet ∷ []) carried .opens in
     let z : _≡_ {A = ℕ} 17 0 = ap (λ (a : Answer). a .told .number) e in
     omega arith
 
