@@ -13,6 +13,7 @@ pub mod EachRow
 pub mod Slots
 pub mod Cases
 pub mod Turned
+pub mod Counts
 pub mod Misread
 pub mod Replaced
 pub mod FirstRow

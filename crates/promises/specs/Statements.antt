@@ -1,12 +1,13 @@
 -- What an institute may rely on: document 01, section 5, section 7, and the order's demands 2 and 3. Each statement is about any program; proofs/ shows them of `step`.
 -- docs/PROMISES.md says each in plain words. Assumes nothing.
 use mathlib.Core.Path.{_≡_}
+use mathlib.Core.Logic.{_⊎_}
 use mathlib.Core.Bool.{true, false, cond}
 use mathlib.Core.List.{List, [], _∷_, _++_, map}
 use Prim.Native.Nat.{ℕ, _-_, _*_, _%_, _≤_, _<_}
 use lib.ListN.{length, getD, take, drop, replicate}
 use Rattle.ground.specs.Lists.{listed}
-use Rattle.refusals.specs.declared.Refusal.the-variants.{Slot}
+use Rattle.refusals.specs.declared.Refusal.the-variants.{Other, Slot, Size}
 use Rattle.refusals.specs.Told.{Told, acceptedWith, refusedAs}
 use Rattle.code.specs.Code.{Bytes, distance}
 use Rattle.code.specs.Repair.{Near}
@@ -16,6 +17,7 @@ use Rattle.packet.specs.declared.Reading.the-variants.{Sent}
 use Rattle.packet.specs.declared.Settings.{Settings}
 use Rattle.packet.specs.Packet.{readOf}
 use Rattle.packet.specs.Settings.{settingsFit}
+use Rattle.layout.specs.Layout.{tablesOf}
 use Rattle.pack.specs.Pack.{largestFile, countOf, payloadOf, packetOf}
 use Rattle.places.specs.declared.Place.{Place}
 use Rattle.places.specs.declared.Found.{Found}
@@ -251,3 +253,27 @@ abbrev pub OffersBySlots : Program → Type 0
 OffersBySlots f =
     (x : State) (q : List ℕ) → f (offering q) x .answer .told .number ≡ 0
     → Accepts x q (f (offering q) x .state) (f (offering q) x .answer .told .values)
+
+-- ---- files of different counts
+
+-- the same calls may carry two of them: each is collected in a place with its own count
+abbrev pub DifferentCounts : Type 0
+DifferentCounts =
+    (g : Settings) (a b : List ℕ) → Protected g a → Protected g b → (countOf g (length a) ≡ countOf g (length b) → ⊥)
+    → (cs : List Call) × Carries g a cs × Carries g b cs
+
+-- a place has one count: there a packet with another is refused (11)
+abbrev pub OneCount : Program → Type 0
+OneCount f =
+    (x : State) (q : List ℕ) (fields : Packet) (i : ℕ) → readOf q ≡ Sent fields → Held x (fields .resource) i
+    → (fields .count ≡ placeAt x i .count → ⊥) → f (offering q) x .answer .told ≡ refusedAs Other
+
+-- what was collected as in demand 3 is not handed out at a length that needs another number of packets or of tables (23)
+abbrev pub OtherLengthRefused : Program → Type 0
+OtherLengthRefused f =
+    (g : Settings) (file : List ℕ) → Protected g file
+    → (x : State) → f (opening g (countOf g (length file))) x .answer .told .number ≡ 0
+    → (cs : List Call) → Carries g file cs
+    → (n : ℕ) → (countOf g n ≡ countOf g (length file) → ⊥) ⊎ (tablesOf (g .rows) n ≡ tablesOf (g .rows) (length file) → ⊥)
+    → (out : List ℕ) → f (handing (g .resource) n out) (run f cs (f (opening g (countOf g (length file))) x .state) .state) .answer
+    ≡ record { told = refusedAs Size; output = out }
