@@ -186,7 +186,9 @@ module _ (g : Settings) (file : List ℕ) (p : Protected g file) (i start : ℕ)
     judged-go none (refuse-packet r) e =
         unmoved-go q x c (ap (λ (o : Offering). o .store) (offer-placed (x .held) (x .store) q (c .sound) f read i found-there
         ∙ ap (offerJudged (getD (x .held .places) i unused) (x .store)) (ap (λ (o : Place). judge o f q) (c .place) ∙ e)))
-    judged-go none (put n b) e = brought-go n (e ∙ ap (put n) (none f read n b (judge-start f q ∙ e)))
+    judged-go none (put n b) e =
+        let same : b ≡ payloadOf g file n = cc (none f read n b (judge-start f q ∙ e)) in
+        brought-go n (e ∙ ap (put n) same)
 
   pub copy-go : (n : ℕ) (below : n < countOf g (length file)) (q : List ℕ) → Copy g file n q → (x : State) → Collecting x
       → GoesOn x (step (offering q) x .state) × Has n (step (offering q) x .state)

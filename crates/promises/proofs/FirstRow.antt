@@ -140,7 +140,7 @@ altered-bytes =
     (append-bytes body (drop 524 packet) (append-bytes zero-row wrong-row (zeros-bytes 255) wrong-bytes)
     (bytes-parts (take 524 packet) (drop 524 packet) (subst Bytes (sym (take-append-drop 524 packet)) b) .1))
 
-near-rows : (i : ℕ) → distance (take 255 (drop (i * 255) body)) (take 255 (drop (i * 255) (zero-row ++ zero-row))) ≤ 8
+near-rows : (i : ℕ) → distance (take 255 (drop (i * 255) body)) (take 255 (drop (i * 255) (zero-row ++ zero-row))) ≤ 1
 unfolding distance
 near-rows zero = omega arith
 near-rows (suc zero) = omega arith
@@ -156,10 +156,10 @@ copy = record {
   sized = altered-length ∙ sym whole-length;
   header = altered-front;
   crc = rw altered-length altered-crc;
-  rows = λ i. rows i;
+  rows = λ i. omega (arith, rows i);
 }
   where
-    rows : (i : ℕ) → distance (rowIn altered i) (rowIn (packetOf two zeros 0) i) ≤ 8
+    rows : (i : ℕ) → distance (rowIn altered i) (rowIn (packetOf two zeros 0) i) ≤ 1
     rows i =
         rw (altered-payload, packet-payload two zeros 0 ∙ zeros-payload) (near-rows i)
 

@@ -4,6 +4,7 @@ use mathlib.Core.Path.{_≡_, refl, ap}
 use mathlib.Core.Bool.{Bool, true, false, cond, not}
 use mathlib.Core.List.{List}
 use Prim.Native.Nat.{ℕ}
+use native.Mathlib.Omega.{arith}
 use lib.ListN.{length}
 use Rattle.refusals.specs.declared.Refusal.{Refusal}
 use Rattle.refusals.specs.declared.Verdict.{Verdict}
@@ -27,9 +28,9 @@ use Rattle.record.specs.Told.{offeredTold}
 use Rattle.readout.specs.Hand.{handOutOf}
 use Rattle.record.proofs.OfferLaws.{offer-unstored}
 use Rattle.readout.proofs.HandLaws.{hand-refused}
-use Rattle.promises.specs.Calls.{State, step}
+use Rattle.promises.specs.Calls.{Call, State, step}
 use Rattle.promises.specs.Calls.Call.{packing, opening, offering, asking, handing, closing}
-use Rattle.promises.specs.Statements.{RefusalsChangeNothing}
+use Rattle.promises.specs.Statements.{Unchanged, RefusalsChangeNothing}
 
 same-state : (x : State) (h : Record) (s : List ℕ) → h ≡ x .held → s ≡ x .store → _≡_ {A = State} record { held = h; store = s } x
 same-state x h s d e i = record { held = d i; store = e i }
@@ -79,15 +80,18 @@ close-keeps h s r = close-by (not (good (length s) (h .places))) h (placeNamed (
 
 -- ---- all calls
 
-pub refusals-change-nothing : RefusalsChangeNothing step
+step-keeps : (c : Call) (x : State) → Turned (step c x .answer .told) → Unchanged step c x
 unfolding step openOf
-refusals-change-nothing (packing file g n out) x e = record { state = refl; output-kept = pack-keeps file g n out e }
-refusals-change-nothing (opening g count) x e =
+step-keeps (packing file g n out) x e = record { state = refl; output-kept = pack-keeps file g n out e }
+step-keeps (opening g count) x e =
     let k = open-keeps (x .held) (x .store) g count (planOf (x .held) (length (x .store)) g count) e in
     record { state = same-state x _ _ (k .0) (k .1); output-kept = refl }
-refusals-change-nothing (offering q) x e =
+step-keeps (offering q) x e =
     record { state = same-state x _ _ refl (offer-keeps (x .held) (x .store) q e); output-kept = refl }
-refusals-change-nothing (asking r) x e = record { state = refl; output-kept = refl }
-refusals-change-nothing (handing r n out) x e = record { state = refl; output-kept = hand-keeps (x .held) (x .store) r n out e }
-refusals-change-nothing (closing r) x e =
+step-keeps (asking r) x e = record { state = refl; output-kept = refl }
+step-keeps (handing r n out) x e = record { state = refl; output-kept = hand-keeps (x .held) (x .store) r n out e }
+step-keeps (closing r) x e =
     record { state = same-state x _ _ (close-keeps (x .held) (x .store) r e) refl; output-kept = refl }
+
+pub refusals-change-nothing : RefusalsChangeNothing step
+refusals-change-nothing c x d = step-keeps c x (λ z. d (omega arith))

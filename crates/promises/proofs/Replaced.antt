@@ -169,4 +169,4 @@ replacing-turned a offers refusals = ⊎-elim taken turned (same-or-not (a .numb
     taken z = accepted (replacing a (offering later) full .state) store (offers full later (number ∙ z))
 
     turned : (a .number ≡ 0 → ⊥) → ⊥
-    turned d = changed (sym store ∙ ap (λ (x : State). x .store) (refusals (offering later) full (λ z. d (sym number ∙ z)) .state))
+    turned d = changed (sym store ∙ ap (λ (x : State). x .store) (refusals (offering later) full (λ z. d (omega (arith, number))) .state))
