@@ -1,4 +1,5 @@
--- Demand 2, of each row of a packet: our repair of packets is exact in every row. Assumes nothing.
+-- Demand 2, of each row of a packet: our repair of packets is exact in every row.
+-- Assumes nothing.
 use mathlib.Core.Path.{_≡_, sym, ap, _∙_, subst}
 use mathlib.Core.List.{List}
 use Prim.Native.Nat.{ℕ, _-_, _*_, _/_, _%_}

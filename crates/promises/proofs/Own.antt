@@ -1,4 +1,5 @@
--- The packets of a file are copies of themselves, so offered in order they carry it. Assumes nothing.
+-- The packets of a file are copies of themselves, so offered in order they carry it.
+-- Assumes nothing.
 use mathlib.Core.Path.{_≡_, refl, sym, subst}
 use mathlib.Core.Logic.{_⊎_, inl, inr}
 use mathlib.Core.List.{List, map}
