@@ -7,4 +7,5 @@ pub mod Roots
 pub mod Locate
 pub mod Errata
 pub mod Exact
+pub mod Mend
 pub mod Cases

@@ -15,7 +15,7 @@ use Rattle.layout.specs.Cases.{layoutCases}
 use Rattle.layout.proofs.Cases.{layout-cases}
 use Rattle.pack.specs.Cases.{countCases}
 use Rattle.pack.proofs.Cases.{count-cases}
-use Rattle.promises.specs.Cases.{alone, cases, CasesHold}
+use Rattle.promises.specs.Cases.{alone, CasesHold}
 
 abbrev Pair : Type 0
 Pair = List ℕ × List ℕ

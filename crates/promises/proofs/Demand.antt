@@ -9,13 +9,15 @@ use native.Mathlib.Omega.{arith}
 use borrow.Author.Tests.{eqb-true, ne-eqb}
 use lib.Dec.{eqb, ltb}
 use lib.ListN.{length, getD, replicate, getD-replicate}
-use Rattle.refusals.specs.declared.Verdict.the-variants.{Accepted}
+use Rattle.refusals.specs.declared.Refusal.the-variants.{Size}
+use Rattle.refusals.specs.Told.{refusedAs, verdictTold}
 use Rattle.ground.proofs.Numbers.{same-or-not}
 use Rattle.packet.specs.declared.Packet.{Packet}
 use Rattle.packet.specs.declared.Reading.{Reading}
 use Rattle.packet.specs.declared.Reading.the-variants.{Sent}
 use Rattle.packet.specs.declared.Settings.{Settings}
 use Rattle.packet.specs.Packet.{readOf, resourceIn}
+use Rattle.layout.specs.Layout.{tablesOf}
 use Rattle.pack.specs.Pack.{countOf, payloadOf}
 use Rattle.pack.proofs.Laws.{fieldsOf}
 use Rattle.places.specs.declared.Place.{Place}
@@ -34,12 +36,12 @@ use Rattle.record.proofs.OfferCases.{offer-unread, offer-placed}
 use Rattle.record.proofs.OfferFacts.{read-resource}
 use Rattle.record.proofs.OfferLaws.{Placed, Sound, heldAfter, held-after, slots-kept, offer-sound, offer-holds, offer-length}
 use Rattle.readout.proofs.HandCases.{out-found}
-use Rattle.readout.proofs.HandLaws.{accepted}
-use Rattle.promises.specs.Calls.{Call, Answer, State, step, run, names, about}
+use Rattle.promises.specs.Calls.{Call, State, step, run, names, about}
 use Rattle.promises.specs.Calls.Call.{packing, opening, offering, asking, handing, closing}
-use Rattle.promises.specs.Statements.{Protected, Copy, BringsNoOther, Fair, AllFair, Offers, HandsOut, Demand3}
+use Rattle.promises.specs.Statements.{Protected, Copy, BringsNoOther, Fair, AllFair, Offers, Carries, HandsOut, Demand3}
+use Rattle.promises.proofs.Numbers.{verdict-accepted}
 use Rattle.promises.proofs.Judged.{copy-reads, copy-judged}
-use Rattle.promises.proofs.Whole.{contents-handed}
+use Rattle.promises.proofs.Whole.{contents-handed, contents-refused}
 use Rattle.promises.proofs.Views.{Kept, step-leaves}
 
 -- ---- a good record stays good
@@ -184,9 +186,11 @@ module _ (g : Settings) (file : List ℕ) (p : Protected g file) (i start : ℕ)
     judged-go none (refuse-packet r) e =
         unmoved-go q x c (ap (λ (o : Offering). o .store) (offer-placed (x .held) (x .store) q (c .sound) f read i found-there
         ∙ ap (offerJudged (getD (x .held .places) i unused) (x .store)) (ap (λ (o : Place). judge o f q) (c .place) ∙ e)))
-    judged-go none (put n b) e = brought-go n (e ∙ ap (put n) (none f read n b (judge-start f q ∙ e)))
+    judged-go none (put n b) e =
+        let same : b ≡ payloadOf g file n = cc (none f read n b (judge-start f q ∙ e)) in
+        brought-go n (e ∙ ap (put n) same)
 
-  copy-go : (n : ℕ) (below : n < countOf g (length file)) (q : List ℕ) → Copy g file n q → (x : State) → Collecting x
+  pub copy-go : (n : ℕ) (below : n < countOf g (length file)) (q : List ℕ) → Copy g file n q → (x : State) → Collecting x
       → GoesOn x (step (offering q) x .state) × Has n (step (offering q) x .state)
   copy-go n below q cp x c =
       let reads = copy-reads g file p n below q cp in
@@ -236,14 +240,25 @@ module _ (g : Settings) (file : List ℕ) (p : Protected g file) (i start : ℕ)
 
   -- ---- when every packet is there
 
-  hands : (x : State) → Collecting x → ((k : ℕ) → k < countOf g (length file) → Has k x) → HandsOut step g file x
-  unfolding step
-  hands x c all out room =
-      let done : handOutOf (x .held) (x .store) (g .resource) (length file) out ≡ accepted file out =
-      out-found (x .held) (x .store) (g .resource) (c .sound) (length file) out i (c .named)
-      ∙ ap (λ (o : Place). handContents o (contents o (x .store)) (length file) out) (c .place)
-      ∙ contents-handed g file p (contents own (x .store)) (length-contents own (x .store)) all start out room in
-      ap (λ (h : Handing). Answer.handed (h .answer) (h .output)) done
+  module _ (x : State) (c : Collecting x) (all : (k : ℕ) → k < countOf g (length file) → Has k x) where
+    -- hand out at any length, by what the place holds
+    handed : (n : ℕ) (out : List ℕ) → handOutOf (x .held) (x .store) (g .resource) n out ≡ handContents own (contents own (x .store)) n out
+    handed n out =
+        out-found (x .held) (x .store) (g .resource) (c .sound) n out i (c .named)
+        ∙ ap (λ (o : Place). handContents o (contents o (x .store)) n out) (c .place)
+
+    hands : HandsOut step g file x
+    unfolding step
+    hands out room =
+        ap (λ (h : Handing). record { told = verdictTold (h .answer); output = h .output })
+        (handed (length file) out ∙ contents-handed g file p (contents own (x .store)) (length-contents own (x .store)) all start out room)
+
+    pub refuses : (n : ℕ) (out : List ℕ) → (tablesOf (g .rows) n ≡ tablesOf (g .rows) (length file) → ⊥)
+        → step (handing (g .resource) n out) x .answer ≡ record { told = refusedAs Size; output = out }
+    unfolding step
+    refuses n out d =
+        ap (λ (h : Handing). record { told = verdictTold (h .answer); output = h .output })
+        (handed n out ∙ contents-refused g file p (contents own (x .store)) (length-contents own (x .store)) all start n out d)
 
 -- a place just opened is one in which the file is collected
 pub opened-collecting : (g : Settings) (file : List ℕ) (p : Protected g file) (x : State) (i start : ℕ) → Taking (x .held) (length (x .store)) g (countOf g (length file)) i start
@@ -264,11 +279,27 @@ opened-collecting g file p x i start t =
 
 -- ---- the demand
 
-pub demand-3 : Demand3 step
+-- after a list that carries the file its place holds every packet
+pub record Collected (g : Settings) (file : List ℕ) (p : Protected g file) (x : State) : Type 0 where
+  pub place : ℕ
+  pub start : ℕ
+  pub collecting : Collecting g file p place start x
+  pub all : (k : ℕ) → k < countOf g (length file) → Has g file p place start k x
+
+pub collected : (g : Settings) (file : List ℕ) (p : Protected g file) (x : State) → step (opening g (countOf g (length file))) x .answer .told .number ≡ 0
+    → (cs : List Call) → Carries g file cs → Collected g file p (run step cs (step (opening g (countOf g (length file))) x .state) .state)
 unfolding step
-demand-3 g file p x answer cs carried =
-    let told : Answer.opened (openOf (x .held) (x .store) g (countOf g (length file)) .kept .verdict) ≡ Answer.opened Accepted = answer in
-    let t = accepted-plan (x .held) (x .store) g (countOf g (length file)) cc in
+collected g file p x answer cs carried =
+    let t = accepted-plan (x .held) (x .store) g (countOf g (length file)) (verdict-accepted (openOf (x .held) (x .store) g (countOf g (length file)) .kept .verdict) answer) in
     let begun : Collecting g file p (t .0) (t .1) (step (opening g (countOf g (length file))) x .state) = opened-collecting g file p x (t .0) (t .1) (t .2) in
-    hands g file p (t .0) (t .1) _ (fair-run g file p (t .0) (t .1) (carried .fair) _ begun .collecting)
-    (λ k l. offered-run g file p (t .0) (t .1) k l (carried .every k l) (carried .fair) _ begun)
+    record {
+      place = t .0;
+      start = t .1;
+      collecting = fair-run g file p (t .0) (t .1) (carried .fair) _ begun .collecting;
+      all = λ k l. offered-run g file p (t .0) (t .1) k l (carried .every k l) (carried .fair) _ begun;
+    }
+
+pub demand-3 : Demand3 step
+demand-3 g file p x answer cs carried =
+    let c = collected g file p x answer cs carried in
+    hands g file p (c .place) (c .start) _ (c .collecting) (c .all)

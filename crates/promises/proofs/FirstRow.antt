@@ -30,14 +30,14 @@ use Rattle.contents.proofs.Places.{reading-slots, storing-sets}
 use Rattle.contents.specs.Slots.{stored}
 use Rattle.readout.specs.Hand.{Handing, handRows, handJoined, handContents, handOutOf}
 use Rattle.refusals.specs.declared.Verdict.{Verdict}
-use Rattle.refusals.specs.declared.Verdict.the-variants.{Accepted}
+use Rattle.refusals.specs.Told.{acceptedWith, verdictTold}
 use Rattle.code.specs.Mend.{whole, behind}
 use Rattle.record.specs.Open.{take as take-plan, Opening, openOf}
 use Rattle.record.proofs.PlanLaws.{Taking, taking-plan, open-by}
 use Rattle.record.proofs.OpenLaws.{open-empty}
 use Rattle.promises.specs.Calls.{Answer, fresh, step}
 use Rattle.promises.specs.Calls.Call.{offering}
-use Rattle.promises.specs.Statements.{Protected, Copy, rowIn, Fair, AllFair, Offers, Carries, FromFresh, output}
+use Rattle.promises.specs.Statements.{Protected, Copy, rowIn, Fair, AllFair, Offers, Carries, HandsOut, Demand3, FromFresh}
 use Rattle.refusals.specs.declared.Refusal.the-variants.{Crc, Missing}
 use lib.Dec.{ltb}
 use Rattle.pack.proofs.Laws.{fieldsOf}
@@ -46,7 +46,7 @@ use Rattle.record.specs.Offer.{Offering, storing, putInto, put, refuse, judgeMe
 use Rattle.promises.specs.Wrong.{firstRowOnly, mendingFirst}
 use Rattle.promises.proofs.Judged.{not-different, copy-reads}
 use Rattle.promises.proofs.Demand.{Collecting, opened-collecting}
-use Rattle.promises.proofs.Fresh.{takes}
+use Rattle.promises.proofs.Fresh.{takes, opens}
 use Rattle.promises.proofs.Turned.{zero-row, wrong-row, wrong-bytes, zero-coded}
 
 abbrev two : Settings
@@ -140,7 +140,7 @@ altered-bytes =
     (append-bytes body (drop 524 packet) (append-bytes zero-row wrong-row (zeros-bytes 255) wrong-bytes)
     (bytes-parts (take 524 packet) (drop 524 packet) (subst Bytes (sym (take-append-drop 524 packet)) b) .1))
 
-near-rows : (i : ℕ) → distance (take 255 (drop (i * 255) body)) (take 255 (drop (i * 255) (zero-row ++ zero-row))) ≤ 8
+near-rows : (i : ℕ) → distance (take 255 (drop (i * 255) body)) (take 255 (drop (i * 255) (zero-row ++ zero-row))) ≤ 1
 unfolding distance
 near-rows zero = omega arith
 near-rows (suc zero) = omega arith
@@ -156,10 +156,10 @@ copy = record {
   sized = altered-length ∙ sym whole-length;
   header = altered-front;
   crc = rw altered-length altered-crc;
-  rows = λ i. rows i;
+  rows = λ i. omega (arith, rows i);
 }
   where
-    rows : (i : ℕ) → distance (rowIn altered i) (rowIn (packetOf two zeros 0) i) ≤ 8
+    rows : (i : ℕ) → distance (rowIn altered i) (rowIn (packetOf two zeros 0) i) ≤ 1
     rows i =
         rw (altered-payload, packet-payload two zeros 0 ∙ zeros-payload) (near-rows i)
 
@@ -227,18 +227,16 @@ wrong-file : getD (handContents (placeOf two 1 0) (holding body ∷ []) 478 zero
 unfolding handContents handJoined handRows
 wrong-file = refl
 
-abbrev handed-answer : List ℕ → Answer
-handed-answer t = Answer.handed (handOutOf held t 5 478 zeros .answer) (handOutOf held t 5 478 zeros .output)
+abbrev answer : Handing → Answer
+answer h = record { told = verdictTold (h .answer); output = h .output }
 
-verdicts-differ : {o p : List ℕ} → Answer.handed (Verdict.Refused (Missing 0)) o ≡ Answer.handed Accepted p → ⊥
-verdicts-differ e = let z : _≡_ {A = ℕ} 0 1 = cc in omega arith
-
-pub first-row-breaks-demand-3 : FromFresh mendingFirst → ⊥
+-- what is handed out is not the file
+first-row-lost : HandsOut mendingFirst two zeros (record { held = held; store = offerBy firstRowOnly held store altered .store }) → ⊥
 unfolding mendingFirst step
-first-row-breaks-demand-3 d = by (agrees altered body) refl
+first-row-lost d = by (agrees altered body) refl
   where
-    told : handed-answer (offerBy firstRowOnly held store altered .store) ≡ Answer.handed Accepted (zeros ++ drop 478 zeros)
-    told = d two zeros protected room (omega arith) (omega arith) (offering altered ∷ []) carried .hands zeros (omega arith)
+    told : answer (handOutOf held (offerBy firstRowOnly held store altered .store) 5 478 zeros) ≡ record { told = acceptedWith []; output = zeros ++ drop 478 zeros }
+    told = d zeros (omega arith)
 
     by : (b : Bool) → agrees altered body ≡ b → ⊥
     by true e =
@@ -249,15 +247,23 @@ first-row-breaks-demand-3 d = by (agrees altered body) refl
         let ends : endOf (placeOf two 1 0) ≤ length store = subst (λ (p : Place). endOf p ≤ length store) (begun .place) (named-facts (length store) (held .places) (begun .sound) 5 0 (begun .named) .ends-within) in
         let holds : contents (placeOf two 1 0) (stored store (slotAt (placeOf two 1 0) 0) body) ≡ holding body ∷ [] =
         storing-sets (placeOf two 1 0) store 0 body ends (omega arith) refl ∙ ap (λ (c : List Content). set c 0 (holding body)) empty in
-        let f : Answer.handed (handContents (placeOf two 1 0) (holding body ∷ []) 478 zeros .answer) (handContents (placeOf two 1 0) (holding body ∷ []) 478 zeros .output)
-        ≡ Answer.handed Accepted (zeros ++ drop 478 zeros) =
-        ap (λ (h : Handing). Answer.handed (h .answer) (h .output)) (sym (handed-of (stored store (slotAt (placeOf two 1 0) 0) body) (holding body) (length-stored store (slotAt (placeOf two 1 0) 0) body) holds zeros))
-        ∙ ap handed-answer (sym after) ∙ told in
-        let z : _≡_ {A = ℕ} 1 0 = sym wrong-file ∙ ap (λ (a : Answer). getD (output a) 239 0) f in
+        let handed : handOutOf held (offerBy firstRowOnly held store altered .store) 5 478 zeros ≡ handContents (placeOf two 1 0) (holding body ∷ []) 478 zeros =
+        ap (λ (t : List ℕ). handOutOf held t 5 478 zeros) after
+        ∙ handed-of (stored store (slotAt (placeOf two 1 0) 0) body) (holding body) (length-stored store (slotAt (placeOf two 1 0) 0) body) holds zeros in
+        let z : _≡_ {A = ℕ} 1 0 = sym wrong-file ∙ ap (λ (h : Handing). getD (h .output) 239 0) (sym handed) ∙ ap (λ (a : Answer). getD (a .output) 239 0) told in
         omega arith
     by false e =
         let kept : offerBy firstRowOnly held store altered .store ≡ store = ap (λ (o : Offering). o .store) (offered-first ∙ ap (λ (b : Bool). offerJudged (placeOf two 1 0) store (cond b (put 0 body) (refuse Crc))) e) in
-        let f : Answer.handed (Verdict.Refused (Missing 0)) zeros ≡ Answer.handed Accepted (zeros ++ drop 478 zeros) =
-        ap (λ (h : Handing). Answer.handed (h .answer) (h .output)) (sym (handed-of store (holding []) refl empty zeros ∙ missing))
-        ∙ ap handed-answer (sym kept) ∙ told in
-        verdicts-differ f
+        let handed : handOutOf held (offerBy firstRowOnly held store altered .store) 5 478 zeros ≡ record { answer = Verdict.Refused (Missing 0); output = zeros } =
+        ap (λ (t : List ℕ). handOutOf held t 5 478 zeros) kept ∙ handed-of store (holding []) refl empty zeros ∙ missing in
+        let z : _≡_ {A = ℕ} 21 0 = ap (λ (h : Handing). verdictTold (h .answer) .number) (sym handed) ∙ ap (λ (a : Answer). a .told .number) told in
+        omega arith
+
+pub first-row-breaks-demand-3 : Demand3 mendingFirst → ⊥
+unfolding mendingFirst step
+first-row-breaks-demand-3 d =
+    first-row-lost (d two zeros protected (fresh room) (ap (λ (a : Answer). a .told .number) (opens two zeros protected room (omega arith) (omega arith))) (offering altered ∷ []) carried)
+
+pub first-row-breaks-from-fresh : FromFresh mendingFirst → ⊥
+unfolding mendingFirst step
+first-row-breaks-from-fresh d = first-row-lost (d two zeros protected room (omega arith) (omega arith) (offering altered ∷ []) carried .hands)

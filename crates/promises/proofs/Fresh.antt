@@ -2,19 +2,19 @@
 -- Assumes nothing.
 use mathlib.Core.Path.{_≡_, refl, ap, subst, _∙_}
 use mathlib.Core.Bool.{Bool, true, false, cond}
-use mathlib.Core.List.{List, _++_}
+use mathlib.Core.List.{List, [], _∷_, _++_}
 use Prim.Native.Nat.{ℕ, _*_, _≤_, _<_}
 use native.Mathlib.Nat.{mul-assoc}
 use native.Mathlib.Omega.{arith}
 use borrow.Author.Tests.{le-leb}
 use lib.Dec.{leb}
 use lib.ListN.{length, drop}
-use Rattle.refusals.specs.declared.Verdict.the-variants.{Accepted}
+use Rattle.refusals.specs.Told.{acceptedWith, verdictTold}
 use Rattle.ground.proofs.Listed.{ceil-positive}
 use Rattle.packet.specs.declared.Settings.{Settings}
 use Rattle.packet.proofs.Laws.{settings-facts}
-use Rattle.pack.specs.declared.Packed.the-variants.{Written}
 use Rattle.pack.specs.Pack.{Packing, countOf, codedLength, packetOf}
+use Rattle.pack.specs.Told.{packedTold}
 use Rattle.pack.proofs.Laws.{rows-positive, length-tables}
 use Rattle.pack.proofs.Plans.{pack-accepts}
 use Rattle.layout.specs.Layout.{tablesOf}
@@ -24,7 +24,7 @@ use Rattle.places.proofs.Keeping.{fresh-good}
 use Rattle.places.proofs.Opened.{fresh-lowest}
 use Rattle.record.specs.Open.{take, Opening}
 use Rattle.record.proofs.PlanLaws.{Taking, taking-plan, open-by}
-use Rattle.promises.specs.Calls.{Answer, State, step, fresh}
+use Rattle.promises.specs.Calls.{Answer, telling, State, step, fresh}
 use Rattle.promises.specs.Calls.Call.{packing, opening}
 use Rattle.promises.specs.Statements.{Protected, FromFresh}
 use Rattle.promises.proofs.Demand.{demand-3}
@@ -61,19 +61,25 @@ module _ (g : Settings) (file : List ℕ) (p : Protected g file) where
       lowest = fresh-lowest (length s) (coverOf (countOf g (length file)) (g .size)) room;
     }
 
-    pub opens : step (opening g (countOf g (length file))) (fresh s) .answer ≡ Answer.opened Accepted
+    pub opens : step (opening g (countOf g (length file))) (fresh s) .answer ≡ telling (acceptedWith [])
     unfolding step
-    opens = ap (λ (o : Opening). Answer.opened (o .kept .verdict)) (open-by freshRecord s g (countOf g (length file)) (take 0 0) (taking-plan freshRecord (length s) g (countOf g (length file)) 0 0 takes))
+    opens = ap (λ (o : Opening). telling (verdictTold (o .kept .verdict))) (open-by freshRecord s g (countOf g (length file)) (take 0 0) (taking-plan freshRecord (length s) g (countOf g (length file)) 0 0 takes))
 
 pub from-fresh : FromFresh step
 unfolding step
-from-fresh g file p s fits limit cs carried = record {
+from-fresh g file p s fits most cs carried = record {
   packs = packed;
   opens = opens g file p s fits limit;
-  hands = demand-3 g file p (fresh s) (opens g file p s fits limit) cs carried;
+  hands = demand-3 g file p (fresh s) (ap (λ (a : Answer). a .told .number) (opens g file p s fits limit)) cs carried;
 }
   where
+    limit : coverOf (countOf g (length file)) (g .size) ≤ 16777216
+    limit = omega (arith, most)
+
+    answer : Packing → Answer
+    answer k = record { told = packedTold (k .answer); output = k .output }
+
     packed : (n : ℕ) → n < countOf g (length file) → (x : State) (out : List ℕ) → length (packetOf g file n) ≤ length out
-        → step (packing file g n out) x .answer ≡ Answer.packed (Written (length (packetOf g file n))) (packetOf g file n ++ drop (length (packetOf g file n)) out)
-    packed n below x out room = ap (λ (k : Packing). Answer.packed (k .answer) (k .output)) (pack-accepts file g n out
+        → step (packing file g n out) x .answer ≡ record { told = acceptedWith (length (packetOf g file n) ∷ []); output = packetOf g file n ++ drop (length (packetOf g file n)) out }
+    packed n below x out room = ap answer (pack-accepts file g n out
         (record { fits = p .fit; some = p .some; most = p .limit; few = p .count; below = below }) room)

@@ -50,7 +50,7 @@ module _ (g : Settings) (file : List ℕ) (p : Protected g file) (n : ℕ) (belo
 
   module _ (q : List ℕ) (c : Copy g file n q) where
     altered : Altered q (packetOf g file n)
-    altered = record { bytes = c .bytes; sized = c .sized; header = c .header; crc = c .crc; rows = c .rows }
+    altered = record { bytes = c .bytes; sized = c .sized; header = c .header; crc = c .crc; rows = λ i. omega (arith, c .rows i) }
 
     -- it is read as it was packed
     pub copy-reads : readOf q ≡ Sent (fieldsOf g file n)

@@ -1,12 +1,11 @@
 -- Our definitions are not the misreadings of document 01, section 9: an input on which each differs.
 -- Assumes nothing.
-use mathlib.Core.Path.{_≡_, refl, sym, ap, ap₂, _∙_}
+use mathlib.Core.Path.{_≡_, refl, sym, ap, _∙_}
 use mathlib.Core.Bool.{Bool, true, false, cond, true≢false}
 use mathlib.Core.List.{List, [], _∷_, _++_, flatten}
-use Prim.Native.Nat.{ℕ, _+_, _-_, _≤_, _<_}
+use Prim.Native.Nat.{ℕ}
 use native.Mathlib.Omega.{arith}
-use lib.ListN.{length, getD, take, drop, replicate}
-use Rattle.refusals.specs.declared.Refusal.the-variants.{Conflict}
+use lib.ListN.{length, getD, replicate}
 use Rattle.refusals.specs.declared.Verdict.the-variants.{Accepted}
 use Rattle.ground.specs.Bits.{sum}
 use Rattle.field.specs.Field.{product, carryless, reduce}
@@ -15,18 +14,15 @@ use Rattle.code.specs.Code.{add, scale}
 use Rattle.code.specs.Search.{Repaired, lower, remainder}
 use Rattle.code.specs.Repair.{checksOf}
 use Rattle.code.proofs.Exact.{repair-found}
-use Rattle.layout.specs.Layout.{infoOf, rowOf, codedFile}
+use Rattle.layout.specs.Layout.{infoOf, rowOf, codedFile, undone}
+use Rattle.layout.proofs.Coded.{undone-coded}
 use Rattle.pack.specs.Pack.{fourBytes}
-use Rattle.places.specs.Places.{unused}
-use Rattle.contents.specs.Contents.{holding}
-use Rattle.record.specs.declared.Offered.{Offered}
-use Rattle.record.specs.declared.Offered.the-variants.{Stored}
 use Rattle.code.specs.Mend.{whole, behind, mendRows}
-use Rattle.record.specs.Mend.{payloadIn, mendedIn, agrees}
-use Rattle.record.specs.Offer.{putInto}
-use Rattle.readout.specs.Hand.{handJoined}
+use Rattle.record.specs.Mend.{mendedIn, agrees}
+use Rattle.readout.specs.Hand.{handRows}
+use Rattle.readout.proofs.HandLaws.{rows-coded}
 use Rattle.promises.proofs.Turned.{zero-row, wrong-row, wrong-near, wrong-bytes}
-use Rattle.promises.specs.Misreadings.{infoByRows, informationFirst, agreesBefore, keptIfFits, replacing, cutZeros}
+use Rattle.promises.specs.Misreadings.{infoByRows, informationFirst, agreesBefore, keptIfFits, cutZeros}
 
 abbrev five : List ℕ
 five = 10 ∷ 11 ∷ 12 ∷ 13 ∷ 14 ∷ []
@@ -75,17 +71,15 @@ not-kept e =
     let z : _≡_ {A = ℕ} 1 0 = ap (λ (l : List ℕ). getD l 0 0) g in
     omega arith
 
--- a stored payload stays
-pub not-replacing : replacing (holding (1 ∷ [])) (2 ∷ []) ≡ putInto (holding (1 ∷ [])) (2 ∷ []) → ⊥
-not-replacing e =
-    let f : Stored ≡ Offered.Refused Conflict = e in
-    let z : _≡_ {A = ℕ} 0 1 = cc in
+-- a file of 7 and 0 is handed out of its tables with its 0; what they hold, cut at the last nonzero byte, is another
+abbrev ending : List ℕ
+ending = 7 ∷ 0 ∷ []
+
+pub zeros-handed : handRows 1 (codedFile 1 ending) 2 (9 ∷ 9 ∷ []) ≡ record { answer = Accepted; output = ending }
+zeros-handed = rows-coded 1 (omega arith) ending (9 ∷ 9 ∷ []) (omega arith)
+
+pub not-cut : cutZeros (undone 1 (codedFile 1 ending) 239 0) ≡ ending → ⊥
+not-cut e =
+    let cut : cutZeros (undone 1 (codedFile 1 ending) 239 0) ≡ 7 ∷ [] = ap cutZeros (undone-coded 1 (omega arith) ending) in
+    let z : _≡_ {A = ℕ} 1 2 = ap length (sym cut ∙ e) in
     omega arith
-
--- a file of 7 and 0 is handed out with its 0
-pub zeros-handed : handJoined unused (7 ∷ 0 ∷ []) 2 (9 ∷ 9 ∷ []) ≡ record { answer = Accepted; output = 7 ∷ 0 ∷ [] }
-unfolding handJoined
-zeros-handed = refl
-
-pub not-cut : cutZeros (7 ∷ 0 ∷ []) ≡ 7 ∷ 0 ∷ [] → ⊥
-not-cut e = let z : _≡_ {A = ℕ} 1 2 = ap length e in omega arith

@@ -41,8 +41,8 @@ module _ (g : Settings) (a b : List ℕ) (pa : Protected g a) (pb : Protected g 
       differ (sym (copy-names g a pa n l q ca) ∙ subst (λ (x : List ℕ). names (g .resource) x ≡ false) s none)
   served n l q ca c e (Fair.noise q′ only) =
       let s : q′ ≡ q = cc in
-      subst (BringsNoOther g b) s only (fieldsOf g a n) (copy-reads g a pa n l q ca) n (payloadOf g a n)
-      (ap (λ (k : ℕ). judge (placeOf g k 0) (fieldsOf g a n) q) (sym same-count) ∙ copy-judged g a pa n l q ca 0)
+      cc (subst (BringsNoOther g b) s only (fieldsOf g a n) (copy-reads g a pa n l q ca) n (payloadOf g a n)
+      (ap (λ (k : ℕ). judge (placeOf g k 0) (fieldsOf g a n) q) (sym same-count) ∙ copy-judged g a pa n l q ca 0))
   served n l q ca c e (Fair.packs x s k out) = let z : _≡_ {A = ℕ} 0 1 = cc in absurd (omega arith)
   served n l q ca c e (Fair.opens s k) = let z : _≡_ {A = ℕ} 0 1 = cc in absurd (omega arith)
   served n l q ca c e (Fair.asks r) = let z : _≡_ {A = ℕ} 0 1 = cc in absurd (omega arith)
@@ -83,6 +83,7 @@ pub no-second-length : NoSecondLength
 no-second-length g a b pa pb e h cs ca cb = padded g a b pa pb e cs ca cb h
 
 pub no-second-file : NoSecondFile
-no-second-file g a b pa pb e cs ca cb =
+no-second-file g a b pa pb alike cs ca cb =
+    let e : length a ≡ length b = omega (arith, alike) in
     let rest : length b - length a ≡ 0 = omega (arith, e) in
     sym (padded g a b pa pb (ap (countOf g) e) cs ca cb (omega (arith, e)) ∙ ap (λ (n : ℕ). a ++ replicate n 0) rest ∙ append-nil a)

@@ -10,6 +10,7 @@ use lib.Dec.{ltb}
 use lib.ListN.{length, getD, set}
 use Rattle.refusals.specs.declared.Refusal.{Refusal}
 use Rattle.refusals.specs.declared.Verdict.{Verdict}
+use Rattle.refusals.specs.Told.{verdictTold}
 use Rattle.packet.specs.declared.Settings.{Settings}
 use Rattle.packet.specs.Packet.{resourceIn}
 use Rattle.places.specs.declared.Place.{Place}
@@ -21,16 +22,20 @@ use Rattle.places.proofs.Truth.{differ, and-both}
 use Rattle.contents.specs.Contents.{contents}
 use Rattle.record.specs.declared.Kept.{Kept as Record-kept}
 use Rattle.record.specs.Open.{Plan, refuse, take, planOf, carriedOut, Opening, openOf, closedAt, closeOf}
+use Rattle.record.specs.declared.Offered.{Offered}
 use Rattle.record.specs.Offer.{offerOf}
+use Rattle.record.specs.Told.{offeredTold}
+use Rattle.readout.specs.declared.Standing.{Standing}
+use Rattle.readout.specs.Told.{standingTold}
 use Rattle.readout.specs.Hand.{statusOf, Handing, handOutOf}
 use Rattle.record.proofs.PlanLaws.{taking, open-by}
 use Rattle.record.proofs.OpenLaws.{open-named, open-own, open-empty, open-keeps-length, refused-record, refused-store}
 use Rattle.record.proofs.CloseLaws.{close-record, close-unknown, close-found, close-named}
 use Rattle.record.proofs.OfferLaws.{offer-length, alike-answer, alike-holds}
 use Rattle.readout.proofs.HandLaws.{status-same, hand-same}
-use Rattle.promises.specs.Calls.{Call, Answer, State, step, fresh, names, about}
+use Rattle.promises.specs.Calls.{Call, telling, State, step, fresh, names, about}
 use Rattle.promises.specs.Calls.Call.{packing, opening, offering, asking, handing, closing}
-use Rattle.promises.specs.Statements.{Alike, told, TwoSequences}
+use Rattle.promises.specs.Statements.{Alike, answersAbout, TwoSequences}
 use Rattle.promises.proofs.Views.{Kept, offer-leaves, step-leaves, step-length}
 
 -- two stores of one length that show the same at r's place
@@ -153,23 +158,22 @@ named-step : (r : ℕ) (c : Call) (h : Record) (s t : List ℕ) → Like r h s t
     → (step c (record { held = h; store = s }) .answer ≡ step c (record { held = h; store = t }) .answer)
     × Like r (step c (record { held = h; store = s }) .state .held) (step c (record { held = h; store = s }) .state .store) (step c (record { held = h; store = t }) .state .store)
 unfolding step
-named-step r (packing file g n out) h s t l e = differ (sym e)
+named-step r (packing file g n out) h s t l e = (refl, l)
 named-step r (opening g count) h s t l e =
-    (ap (λ (k : Record-kept). Answer.opened (k .verdict)) (like-open r h s t l g count), open-own-like r h s t l g count (eqb-true (g .resource) r e))
-named-step r (offering q) h s t l e = (ap Answer.offered (like-offer r h s t l q e), offer-own-like r h s t l q)
+    (ap (λ (k : Record-kept). telling (verdictTold (k .verdict))) (like-open r h s t l g count), open-own-like r h s t l g count (eqb-true (g .resource) r e))
+named-step r (offering q) h s t l e = (ap (λ (a : Offered). telling (offeredTold a)) (like-offer r h s t l q e), offer-own-like r h s t l q)
 named-step r (asking x) h s t l e =
     let same : x ≡ r = eqb-true x r e in
-    (ap (λ (y : ℕ). Answer.asked (statusOf h s y)) same ∙ ap Answer.asked (status-same h s t r (l .sized) (l .seen)) ∙ sym (ap (λ (y : ℕ). Answer.asked (statusOf h t y)) same), l)
+    (ap (λ (a : Standing). telling (standingTold a)) (ap (statusOf h s) same ∙ status-same h s t r (l .sized) (l .seen) ∙ sym (ap (statusOf h t) same)), l)
 named-step r (handing x n out) h s t l e =
     let same : x ≡ r = eqb-true x r e in (
-      ap (λ (y : ℕ). Answer.handed (handOutOf h s y n out .answer) (handOutOf h s y n out .output)) same
-          ∙ ap (λ (a : Handing). Answer.handed (a .answer) (a .output)) (hand-same h s t r (l .sized) (l .seen) n out)
-          ∙ sym (ap (λ (y : ℕ). Answer.handed (handOutOf h t y n out .answer) (handOutOf h t y n out .output)) same),
+      ap (λ (a : Handing). record { told = verdictTold (a .answer); output = a .output })
+          (ap (λ (y : ℕ). handOutOf h s y n out) same ∙ hand-same h s t r (l .sized) (l .seen) n out ∙ sym (ap (λ (y : ℕ). handOutOf h t y n out) same)),
       l,
     )
 named-step r (closing x) h s t l e =
     let same : x ≡ r = eqb-true x r e in (
-      ap (λ (k : Record-kept). Answer.closed (k .verdict)) (like-close r h s t l x),
+      ap (λ (k : Record-kept). telling (verdictTold (k .verdict))) (like-close r h s t l x),
       subst (λ (y : ℕ). Like r (closeOf h s y .«record») s t) (sym same) (close-own-like r h s t l),
     )
 
@@ -216,16 +220,16 @@ turned r x y k = record {
   like = subst (λ (h : Record). Like r h (y .store) (x .store)) (k .same-held) (record { sized = sym (k .like .sized); seen = λ i e. sym (k .like .seen i e) });
 }
 
-runs : (r : ℕ) {cs ds : List Call} → Alike r cs ds → (x y : State) → LikeStates r x y → told step r cs x ≡ told step r ds y
+runs : (r : ℕ) {cs ds : List Call} → Alike r cs ds → (x y : State) → LikeStates r x y → answersAbout step r cs x ≡ answersAbout step r ds y
 runs r Alike.ended x y k = refl
 runs r (Alike.both {cs} {ds} c a) x y k =
     let p = step-alike r c x y k in
     by (about r c) refl (p .answers) (runs r a (step c x .state) (step c y .state) (p .states))
   where
     by : (b : Bool) → about r c ≡ b → (about r c ≡ true → step c x .answer ≡ step c y .answer)
-        → told step r cs (step c x .state) ≡ told step r ds (step c y .state)
-        → cond (about r c) (step c x .answer ∷ told step r cs (step c x .state)) (told step r cs (step c x .state))
-        ≡ cond (about r c) (step c y .answer ∷ told step r ds (step c y .state)) (told step r ds (step c y .state))
+        → answersAbout step r cs (step c x .state) ≡ answersAbout step r ds (step c y .state)
+        → cond (about r c) (step c x .answer ∷ answersAbout step r cs (step c x .state)) (answersAbout step r cs (step c x .state))
+        ≡ cond (about r c) (step c y .answer ∷ answersAbout step r ds (step c y .state)) (answersAbout step r ds (step c y .state))
     by true e f g = rw e (ap₂ _∷_ (f e) g)
     by false e f g = rw e g
 runs r (Alike.left {cs} {ds} q n a) x y k =

@@ -1,148 +1,158 @@
--- Wrong programs are turned away, each by one small example: a file of one byte in one packet, over a store with just the room.
+-- Wrong programs are turned away, each by a promise that it breaks at one small example: a file of one byte in one packet, over a store with just the room.
 -- Assumes nothing.
-use mathlib.Core.Path.{_≡_, refl, sym, ap, ap₂, _∙_}
-use mathlib.Core.Bool.{Bool, true, false, cond}
+use mathlib.Core.Path.{_≡_, refl, sym, ap, _∙_}
+use mathlib.Core.Logic.{⊎-elim}
 use mathlib.Core.List.{List, [], _∷_, _++_}
-use Prim.Native.Nat.{ℕ, zero, suc, _+_, _-_, _*_, _≤_, _<_}
+use Prim.Native.Nat.{ℕ, _<_, _≤_}
 use native.Mathlib.Omega.{arith}
-use lib.ListN.{length, getD, take, drop, replicate, set}
-use Rattle.refusals.specs.declared.Refusal.{Refusal}
-use Rattle.refusals.specs.declared.Refusal.the-variants.{Short, Unknown, Field, Missing}
-use Rattle.refusals.specs.declared.Verdict.{Verdict}
-use Rattle.refusals.specs.declared.Verdict.the-variants.{Accepted, Refused}
+use lib.ListN.{length, getD, replicate}
 use Rattle.ground.specs.Bits.{sum}
+use Rattle.ground.proofs.Numbers.{same-or-not}
+use Rattle.refusals.specs.declared.Refusal.the-variants.{Missing}
+use Rattle.refusals.specs.declared.Verdict.the-variants.{Refused}
+use Rattle.refusals.specs.Told.{verdictTold}
 use Rattle.field.specs.Field.{product, carryless, reduce}
 use Rattle.code.specs.Code.{Bytes, Coded, add, scale, distance}
 use Rattle.code.specs.Search.{Repaired, lower, remainder}
 use Rattle.code.specs.Repair.{Near}
-use Rattle.code.proofs.Lists.{zeros-bytes, bytes-cons}
+use Rattle.code.specs.Mend.{whole, behind}
+use Rattle.code.proofs.Lists.{zeros-bytes, bytes-cons, append-bytes}
 use Rattle.code.proofs.Division.{remainder-coded}
-use Rattle.code.proofs.Distance.{distance-self}
-use Rattle.code.proofs.Exact.{repair-coded, repair-found}
+use Rattle.code.proofs.Distance.{coded-unique}
+use Rattle.code.proofs.Exact.{repair-coded}
 use Rattle.packet.specs.declared.Settings.{Settings}
-use Rattle.packet.specs.Packet.{readOf}
 use Rattle.packet.specs.Settings.{settingsFit}
-use Rattle.pack.specs.Pack.{countOf, packetOf}
-use Rattle.pack.proofs.Laws.{packet-bytes}
+use Rattle.pack.specs.Pack.{packetOf}
+use Rattle.places.specs.declared.Place.{Place}
 use Rattle.places.specs.declared.Found.the-variants.{At, Nothing}
-use Rattle.places.specs.Places.{good, firstFrom, freshRecord, placeOf}
-use Rattle.places.proofs.Keeping.{fresh-good}
-use Rattle.record.specs.declared.Offered.{Offered}
-use Rattle.record.specs.declared.Offered.the-variants.{Stored}
-use Rattle.readout.specs.declared.Standing.{Standing}
-use Rattle.readout.specs.declared.Standing.the-variants.{Filled}
-use Rattle.code.specs.Mend.{whole, behind, mendRows}
-use Rattle.record.specs.Mend.{mendedIn}
-use Rattle.record.specs.Offer.{offerOf, offerBy}
-use Rattle.record.specs.Open.{take as take-plan, carriedOut, openOf}
-use Rattle.readout.specs.Hand.{Handing, statusOf, handContents, handOutOf}
+use Rattle.places.specs.Places.{firstFrom, freshRecord, placeOf}
+use Rattle.contents.specs.Contents.{Slot as Content, holding, contents}
+use Rattle.record.specs.Open.{take as take-plan, Opening}
 use Rattle.record.proofs.PlanLaws.{Taking, taking-plan, open-by}
-use Rattle.record.proofs.OpenLaws.{open-length, open-good, open-named, open-empty}
-use Rattle.promises.specs.Calls.{Call, Answer, State, Outcome, Program, step, run, fresh}
-use Rattle.promises.specs.Calls.Call.{packing, opening, offering, asking, handing, closing}
-use Rattle.promises.specs.Statements.{Protected, Copy, Fair, AllFair, Offers, Carries, FromFresh}
+use Rattle.record.proofs.OpenLaws.{open-empty}
+use Rattle.record.proofs.OfferCases.{payload-length}
+use Rattle.record.proofs.OfferFacts.{read-known}
+use Rattle.readout.specs.Hand.{Handing, handContents, handOutOf}
+use Rattle.readout.proofs.HandCases.{out-found}
+use Rattle.promises.specs.Calls.{Answer, telling, State, Outcome, step, fresh}
+use Rattle.promises.specs.Calls.Call.{opening, offering, asking}
+use Rattle.promises.specs.Statements.{WholeRows, MendsEachRow, Protected, Carries, FromFresh, placeAt, Held, slotsTold, StatusBySlots, Carried, Accepts, OffersBySlots}
+use Rattle.promises.specs.Wrong.{refusing, losing, boasting, invented, inventing, firstRowOnly}
+use Rattle.promises.proofs.Own.{some-carry}
+use Rattle.promises.proofs.Demand.{Collecting, opened-collecting}
 use Rattle.promises.proofs.Fresh.{takes}
-use Rattle.promises.specs.Wrong.{Meets, refusing, losing, boasting, inventing, firstRowOnly, MendsEveryRow}
-
--- ---- the packets of a file, each offered once, carry it
-
-whole-copy : (g : Settings) (file : List ℕ) → Protected g file → (n : ℕ) → n < countOf g (length file) → Copy g file n (packetOf g file n)
-whole-copy g file p n l = record {
-  bytes = packet-bytes g file n (p .fit) (p .count) l (p .bytes);
-  sized = refl;
-  header = refl;
-  crc = refl;
-  rows = λ i. omega (arith, distance-self (take 255 (drop (i * 255) (take (length (packetOf g file n) - 18) (drop 14 (packetOf g file n))))));
-}
+use Rattle.promises.proofs.Slots.{held-found, found-held, status-by-slots}
 
 -- ---- the example
 
-abbrev one : Settings
+abbrev pub one : Settings
 one = record { resource = 5; kind = 1; update = 0; protection = 1; rows = 1; size = 255 }
 
-abbrev byte : List ℕ
+abbrev pub byte : List ℕ
 byte = 7 ∷ []
 
-protected : Protected one byte
+pub protected : Protected one byte
 unfolding settingsFit Bytes
 protected = record { bytes = (omega arith, tt); some = omega arith; limit = omega arith; fit = refl; protection = refl; count = omega arith }
 
-carried : Carries one byte (offering (packetOf one byte 0) ∷ [])
-carried =
-    let c : Copy one byte 0 (packetOf one byte 0) = whole-copy one byte protected 0 (omega arith) in
-    record {
-      fair = AllFair.next (Fair.copy 0 (packetOf one byte 0) (omega arith) c) AllFair.ended;
-      every = λ n l. first n (omega arith) c;
-    }
-  where
-    first : (n : ℕ) → n ≡ 0 → Copy one byte 0 (packetOf one byte 0) → Offers one byte n (offering (packetOf one byte 0) ∷ [])
-    first zero e c = Offers.here c
-    first (suc n) e c = absurd (omega arith)
+abbrev pub packet : List ℕ
+packet = packetOf one byte 0
+
+carried : Carries one byte (offering packet ∷ [])
+carried = some-carry one byte protected
+
+abbrev pub room : List ℕ
+room = replicate 257 0
+
+taking-one : Taking freshRecord (length room) one 1 0 0
+taking-one = takes one byte protected room (omega arith) (omega arith)
+
+-- its place, just opened
+abbrev pub opened : State
+opened = step (opening one 1) (fresh room) .state
+
+pub begun : Collecting one byte protected 0 0 opened
+begun = opened-collecting one byte protected (fresh room) 0 0 taking-one
+
+held : Held opened 5 0
+held = found-held opened 5 0 (begun .sound) (begun .named)
+
+empty : contents (placeAt opened 0) (opened .store) ≡ holding [] ∷ []
+unfolding step
+empty =
+    ap (λ (p : Place). contents p (opened .store)) (begun .place)
+    ∙ ap (λ (o : Opening). contents (placeOf one 1 0) (o .store)) (open-by freshRecord room one 1 (take-plan 0 0) (taking-plan freshRecord (length room) one 1 0 0 taking-one))
+    ∙ open-empty freshRecord room one 1 0 0 taking-one
 
 -- ---- one that refuses everything
 
 pub refusing-turned : FromFresh refusing → ⊥
 unfolding refusing
 refusing-turned d =
-    let e : Answer.opened (Refused Field) ≡ Answer.opened Accepted = d one byte protected (replicate 257 0) (omega arith) (omega arith) (offering (packetOf one byte 0) ∷ []) carried .opens in
-    let z : _≡_ {A = ℕ} 0 1 = cc in
+    let e = d one byte protected room (omega arith) (omega arith) (offering packet ∷ []) carried .opens in
+    let z : _≡_ {A = ℕ} 17 0 = ap (λ (a : Answer). a .told .number) e in
     omega arith
 
--- ---- one that stores nothing: the slot stays empty, and hand out says so
+-- ---- one that stores nothing: an answer Stored says that the slot holds the payload, which is not empty; and hand out finds it empty
 
-abbrev room : List ℕ
-room = replicate 257 0
+-- a payload that was carried has bytes
+carried-some : (x : State) (q : List ℕ) (i n : ℕ) (b : List ℕ) → Carried x q i n b → 0 < length b
+carried-some x q i n b c =
+    let least = read-known q (c .fields) (c .read) .least in
+    let sized = payload-length q (omega arith) in
+    ⊎-elim (λ z. omega (arith, ap length (c .plain z))) (λ d. omega (arith, c .rows d .sized)) (same-or-not (c .fields .protection) 0)
 
-taking-one : Taking freshRecord (length room) one 1 0 0
-taking-one = takes one byte protected room (omega arith) (omega arith)
+-- Stored changes the store
+stored-changes : (x : State) (q v : List ℕ) → Accepts x q x v → v ≡ 0 ∷ [] → ⊥
+stored-changes x q v (Accepts.stored i n b c empty full others) e =
+    let same : holding [] ≡ holding b = sym empty ∙ full in
+    let none : [] ≡ b = cc in
+    omega (arith, carried-some x q i n b c, ap length none)
+stored-changes x q v (Accepts.again i n b c full same) e = let z : _≡_ {A = ℕ} 1 0 = ap (λ (l : List ℕ). getD l 0 0) e in omega arith
 
-opened-one : openOf freshRecord room one 1 ≡ carriedOut freshRecord room one 1 (take-plan 0 0)
-opened-one = open-by freshRecord room one 1 (take-plan 0 0) (taking-plan freshRecord (length room) one 1 0 0 taking-one)
+pub losing-turned : OffersBySlots losing → ⊥
+unfolding losing
+losing-turned d = stored-changes opened packet (0 ∷ []) (d opened packet refl) refl
 
-empty-handed : handOutOf (openOf freshRecord room one 1 .kept .«record») (openOf freshRecord room one 1 .store) 5 1 (0 ∷ [])
-    ≡ record { answer = Refused (Missing 0); output = 0 ∷ [] }
-unfolding handOutOf handContents
+empty-handed : handOutOf (opened .held) (opened .store) 5 1 (0 ∷ []) ≡ record { answer = Refused (Missing 0); output = 0 ∷ [] }
+unfolding handContents
 empty-handed =
-    rw (
-      opened-one,
-      ap (λ (n : ℕ). good n (set (freshRecord .places) 0 (placeOf one 1 0))) (open-length freshRecord room one 1 0 0 taking-one) ∙ open-good freshRecord (length room) one 1 0 0 taking-one,
-      open-named freshRecord (length room) one 1 0 0 taking-one,
-      open-empty freshRecord room one 1 0 0 taking-one,
-    ) refl
+    out-found (opened .held) (opened .store) 5 (begun .sound) 1 (0 ∷ []) 0 (begun .named)
+    ∙ ap (λ (c : List Content). handContents (placeAt opened 0) c 1 (0 ∷ [])) empty
 
-pub losing-turned : FromFresh losing → ⊥
+pub losing-breaks-demand-3 : FromFresh losing → ⊥
 unfolding losing step
-losing-turned d =
-    let e = d one byte protected room (omega arith) (omega arith) (offering (packetOf one byte 0) ∷ []) carried .hands (0 ∷ []) (omega arith) in
-    let f : Answer.handed (Refused (Missing 0)) (0 ∷ []) ≡ Answer.handed Accepted (7 ∷ []) =
-    ap (λ (h : Handing). Answer.handed (h .answer) (h .output)) (sym empty-handed) ∙ e in
-    let z : _≡_ {A = ℕ} 0 1 = cc in
+losing-breaks-demand-3 d =
+    let e = d one byte protected room (omega arith) (omega arith) (offering packet ∷ []) carried .hands (0 ∷ []) (omega arith) in
+    let z : _≡_ {A = ℕ} 21 0 = ap (λ (h : Handing). verdictTold (h .answer) .number) (sym empty-handed) ∙ ap (λ (a : Answer). a .told .number) e in
     omega arith
 
--- ---- one that answers Stored always: the empty packet is refused as too short
+-- ---- one that answers Stored always: the file's packet, where no place is open
 
-short-said : step (offering []) (fresh []) .answer ≡ Answer.offered (Offered.Refused Short)
-unfolding step offerBy readOf
-short-said = rw (fresh-good 0) refl
+none-open : (s : List ℕ) (r i : ℕ) → Held (fresh s) r i → ⊥
+unfolding firstFrom
+none-open s r i h = let e : Nothing ≡ At i = held-found (fresh s) r i h in let z : _≡_ {A = ℕ} 0 1 = cc in omega arith
 
-pub boasting-turned : Meets boasting → ⊥
+accepts-held : (x : State) (q : List ℕ) (y : State) {v : List ℕ} → Accepts x q y v → (r : ℕ) × (i : ℕ) × Held x r i
+accepts-held x q y (Accepts.stored i n b c empty full others) = (c .fields .resource, i, c .held)
+accepts-held x q y (Accepts.again i n b c full same) = (c .fields .resource, i, c .held)
+
+pub boasting-turned : OffersBySlots boasting → ⊥
 unfolding boasting
-boasting-turned m =
-    let e : Answer.offered Stored ≡ Answer.offered (Offered.Refused Short) = ap (λ (o : Outcome). o .answer) (m (offering []) (fresh [])) ∙ short-said in
-    let z : _≡_ {A = ℕ} 0 1 = cc in
-    omega arith
+boasting-turned d =
+    let h = accepts-held (fresh room) packet (boasting (offering packet) (fresh room) .state) (d (fresh room) packet refl) in
+    none-open room (h .0) (h .1) (h .2)
 
--- ---- one whose Status invents a number: nothing is open
+-- ---- one whose Status invents a number: the place is open, and none of its slots is filled
 
-unknown-said : step (asking 5) (fresh []) .answer ≡ Answer.asked (Standing.Refused Unknown)
-unfolding step statusOf firstFrom
-unknown-said = rw (fresh-good 0) refl
-
-pub inventing-turned : Meets inventing → ⊥
+pub inventing-turned : StatusBySlots inventing → ⊥
 unfolding inventing
-inventing-turned m =
-    let e : Answer.asked (Filled 7 Nothing) ≡ Answer.asked (Standing.Refused Unknown) = ap (λ (o : Outcome). o .answer) (m (asking 5) (fresh [])) ∙ unknown-said in
-    let z : _≡_ {A = ℕ} 0 1 = cc in
+inventing-turned d =
+    let said : step (asking 5) opened .answer ≡ telling (slotsTold (holding [] ∷ [])) =
+    ap (λ (o : Outcome). o .answer) (status-by-slots opened 5 0 held) ∙ ap (λ (c : List Content). telling (slotsTold c)) empty in
+    let e : invented (telling (slotsTold (holding [] ∷ []))) ≡ telling (slotsTold (holding [] ∷ [])) =
+    ap invented (sym said) ∙ ap (λ (o : Outcome). o .answer) (d opened 5 0 held) ∙ ap (λ (c : List Content). telling (slotsTold c)) empty in
+    let z : _≡_ {A = ℕ} 7 0 = ap (λ (a : Answer). getD (a .told .values) 0 0) e in
     omega arith
 
 -- ---- a repair that mends row 0 only: a second row with one wrong byte comes through as it is
@@ -170,18 +180,20 @@ wrong-near = record { coded = zero-coded; close = one-wrong }
 pub wrong-bytes : Bytes wrong-row
 wrong-bytes = bytes-cons 1 (replicate 254 0) (omega arith) (zeros-bytes 254)
 
-mended-right : mendedIn 1 two-rows ≡ whole (zero-row ++ (zero-row ++ []))
-unfolding mendedIn mendRows
-mended-right =
-    ap₂ (λ (a b : Repaired). behind a 0 (behind b 1 (whole []))) (repair-coded zero-row zero-coded) (repair-found wrong-row zero-row refl wrong-bytes wrong-near)
-
 mended-wrong : firstRowOnly 1 two-rows ≡ whole (zero-row ++ wrong-row)
 unfolding firstRowOnly
 mended-wrong = ap (λ (a : Repaired). behind a 0 (whole wrong-row)) (repair-coded zero-row zero-coded)
 
-pub first-row-turned : MendsEveryRow firstRowOnly → ⊥
+rows-there : WholeRows two-rows
+rows-there = record {
+  bytes = append-bytes (replicate 14 0) (zero-row ++ (wrong-row ++ replicate 4 0)) (zeros-bytes 14)
+      (append-bytes zero-row (wrong-row ++ replicate 4 0) (zeros-bytes 255) (append-bytes wrong-row (replicate 4 0) wrong-bytes (zeros-bytes 4)));
+  multiple = refl;
+}
+
+pub first-row-turned : MendsEachRow firstRowOnly → ⊥
 first-row-turned m =
-    let e : whole (zero-row ++ wrong-row) ≡ whole (zero-row ++ (zero-row ++ [])) = sym mended-wrong ∙ m 1 two-rows ∙ mended-right in
-    let f : zero-row ++ wrong-row ≡ zero-row ++ (zero-row ++ []) = cc in
-    let z : _≡_ {A = ℕ} 1 0 = ap (λ (l : List ℕ). getD l 255 0) f in
+    let near : Near wrong-row wrong-row = m .sound two-rows (zero-row ++ wrong-row) rows-there mended-wrong .near 1 (omega arith) in
+    let same : wrong-row ≡ zero-row = coded-unique wrong-row zero-row (near .coded) zero-coded (omega (arith, one-wrong)) in
+    let z : _≡_ {A = ℕ} 1 0 = ap (λ (l : List ℕ). getD l 0 0) same in
     omega arith

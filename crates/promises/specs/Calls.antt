@@ -1,23 +1,23 @@
 -- The calls upon a record and its store, each by the definition that its contract cites, and runs of calls: document 01, sections 4 and 5.
 -- A program answers each call; ours is `step`, and every statement is about any program. Assumes nothing.
-use mathlib.Core.Bool.{Bool, true, false, _&&_}
+use mathlib.Core.Bool.{Bool, _&&_}
 use mathlib.Core.List.{List, [], _∷_}
 use Prim.Native.Nat.{ℕ}
 use lib.Dec.{eqb, ltb}
 use lib.ListN.{length}
-use Rattle.refusals.specs.declared.Verdict.{Verdict}
+use Rattle.refusals.specs.Told.{Told, verdictTold}
 use Rattle.packet.specs.declared.Settings.{Settings}
 use Rattle.packet.specs.Packet.{resourceIn}
 use Rattle.packet.specs.Settings.{house}
-use Rattle.pack.specs.declared.Packed.{Packed}
 use Rattle.pack.specs.Pack.{packOf}
+use Rattle.pack.specs.Told.{packedTold}
 use Rattle.places.specs.declared.Record.{Record}
 use Rattle.places.specs.Places.{freshRecord}
-use Rattle.record.specs.declared.Offered.{Offered}
-use Rattle.readout.specs.declared.Standing.{Standing}
 use Rattle.record.specs.Open.{openOf, closeOf}
 use Rattle.record.specs.Offer.{offerOf}
+use Rattle.record.specs.Told.{offeredTold}
 use Rattle.readout.specs.Hand.{statusOf, handOutOf}
+use Rattle.readout.specs.Told.{standingTold}
 
 pub data Call : Type 0 where
   -- file, settings, packet number, output
@@ -40,14 +40,13 @@ packingHouse file resource kind update n out = packing file (house resource kind
 abbrev pub openingHouse : ℕ → ℕ → ℕ → ℕ → Call
 openingHouse resource kind update count = opening (house resource kind update) count
 
--- what is answered, with the output where there is one
-pub data Answer : Type 0 where
-  packed : Packed → List ℕ → Answer
-  opened : Verdict → Answer
-  offered : Offered → Answer
-  asked : Standing → Answer
-  handed : Verdict → List ℕ → Answer
-  closed : Verdict → Answer
+-- what is answered: this paper's number and values, and the output, which is [] where a call lends none
+pub record Answer : Type 0 where
+  pub told : Told
+  pub output : List ℕ
+
+abbrev pub telling : Told → Answer
+telling t = record { told = t; output = [] }
 
 pub record State : Type 0 where
   pub held : Record
@@ -61,20 +60,26 @@ abbrev pub Program : Type 0
 Program = Call → State → Outcome
 
 unfoldable pub step : Program
-step (packing file g n out) x = record { answer = packed (packOf file g n out .answer) (packOf file g n out .output); state = x }
+step (packing file g n out) x =
+    record { answer = record { told = packedTold (packOf file g n out .answer); output = packOf file g n out .output }; state = x }
 step (opening g count) x = record {
-  answer = opened (openOf (x .held) (x .store) g count .kept .verdict);
+  answer = telling (verdictTold (openOf (x .held) (x .store) g count .kept .verdict));
   state = record { held = openOf (x .held) (x .store) g count .kept .«record»; store = openOf (x .held) (x .store) g count .store };
 }
 step (offering q) x = record {
-  answer = offered (offerOf (x .held) (x .store) q .answer);
+  answer = telling (offeredTold (offerOf (x .held) (x .store) q .answer));
   state = record { held = x .held; store = offerOf (x .held) (x .store) q .store };
 }
-step (asking r) x = record { answer = asked (statusOf (x .held) (x .store) r); state = x }
-step (handing r n out) x =
-    record { answer = handed (handOutOf (x .held) (x .store) r n out .answer) (handOutOf (x .held) (x .store) r n out .output); state = x }
+step (asking r) x = record { answer = telling (standingTold (statusOf (x .held) (x .store) r)); state = x }
+step (handing r n out) x = record {
+  answer = record {
+    told = verdictTold (handOutOf (x .held) (x .store) r n out .answer);
+    output = handOutOf (x .held) (x .store) r n out .output;
+  };
+  state = x;
+}
 step (closing r) x = record {
-  answer = closed (closeOf (x .held) (x .store) r .verdict);
+  answer = telling (verdictTold (closeOf (x .held) (x .store) r .verdict));
   state = record { held = closeOf (x .held) (x .store) r .«record»; store = x .store };
 }
 
@@ -97,7 +102,7 @@ names r q = ltb 4 (length q) && eqb (resourceIn q) r
 
 -- which calls are about a resource
 abbrev pub about : ℕ → Call → Bool
-about r (packing file g n out) = false
+about r (packing file g n out) = eqb (g .resource) r
 about r (opening g count) = eqb (g .resource) r
 about r (offering q) = names r q
 about r (asking x) = eqb x r

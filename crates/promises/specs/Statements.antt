@@ -1,31 +1,62 @@
--- What an institute may rely on: document 01, section 5 (last paragraph), section 7, and the order's demand 3. Each statement is about any program; proofs/ shows them of `step`.
+-- What an institute may rely on: document 01, section 5, section 7, and the order's demands 2 and 3. Each statement is about any program; proofs/ shows them of `step`.
 -- docs/PROMISES.md says each in plain words. Assumes nothing.
 use mathlib.Core.Path.{_≡_}
-use mathlib.Core.Bool.{Bool, true, false, cond}
-use mathlib.Core.List.{List, [], _∷_, _++_}
-use Prim.Native.Nat.{ℕ, _+_, _-_, _*_, _≤_, _<_}
-use lib.ListN.{length, take, drop, replicate}
-use Rattle.refusals.specs.declared.Verdict.{Verdict}
-use Rattle.refusals.specs.declared.Verdict.the-variants.{Accepted, Refused}
+use mathlib.Core.Logic.{_⊎_}
+use mathlib.Core.Bool.{true, false, cond}
+use mathlib.Core.List.{List, [], _∷_, _++_, map}
+use Prim.Native.Nat.{ℕ, _-_, _*_, _%_, _≤_, _<_}
+use lib.ListN.{length, getD, take, drop, replicate}
+use Rattle.ground.specs.Lists.{listed}
+use Rattle.refusals.specs.declared.Refusal.the-variants.{Other, Slot, Size}
+use Rattle.refusals.specs.Told.{Told, acceptedWith, refusedAs}
 use Rattle.code.specs.Code.{Bytes, distance}
+use Rattle.code.specs.Repair.{Near}
+use Rattle.code.specs.Mend.{Mended, whole, broken}
 use Rattle.packet.specs.declared.Packet.{Packet}
 use Rattle.packet.specs.declared.Reading.the-variants.{Sent}
 use Rattle.packet.specs.declared.Settings.{Settings}
 use Rattle.packet.specs.Packet.{readOf}
 use Rattle.packet.specs.Settings.{settingsFit}
-use Rattle.pack.specs.declared.Packed.{Packed}
-use Rattle.pack.specs.declared.Packed.the-variants.{Written}
+use Rattle.layout.specs.Layout.{tablesOf}
 use Rattle.pack.specs.Pack.{largestFile, countOf, payloadOf, packetOf}
-use Rattle.places.specs.Places.{placeOf, coverOf}
-use Rattle.record.specs.declared.Offered.{Offered}
-use Rattle.record.specs.declared.Offered.the-variants.{Stored, Repeat}
-use Rattle.readout.specs.declared.Standing.{Standing}
-use Rattle.readout.specs.declared.Standing.the-variants.{Filled}
-use Rattle.record.specs.Mend.{payloadIn}
-use Rattle.record.specs.Offer.{judge, put}
-use Rattle.promises.specs.Calls.{Call, Answer, State, Program, run, fresh, names, about}
+use Rattle.places.specs.declared.Place.{Place}
+use Rattle.places.specs.declared.Found.{Found}
+use Rattle.places.specs.declared.Found.the-variants.{At, Nothing}
+use Rattle.places.specs.Places.{unused, inUse, names as holds, good, placeOf, coverOf}
+use Rattle.contents.specs.Contents.{Slot as Content, holding, slotOf, contents, anyWrong, filled, lowestEmpty}
+use Rattle.record.specs.Mend.{payloadIn, agrees}
+use Rattle.record.specs.Offer.{differs, judge, put}
+use Rattle.promises.specs.Calls.{Call, Answer, telling, State, Program, run, fresh, names, about}
 use Rattle.promises.specs.Calls.Call.{packing, opening, offering, asking, handing, closing}
-use Rattle.promises.specs.Calls.Answer.{packed, opened, offered, asked, handed, closed}
+
+-- ---- demand 2, of each row of a packet
+
+-- row i of a packet's payload
+abbrev pub rowIn : List ℕ → ℕ → List ℕ
+rowIn q i = take 255 (drop (i * 255) (payloadIn q))
+
+-- b has as many bytes as the payload of q, and each of its rows is a coded row that differs from that row of q in at most eight bytes
+pub record RowsNear (q b : List ℕ) : Type 0 where
+  pub sized : length b ≡ length (payloadIn q)
+  pub near : (i : ℕ) → i * 255 < length (payloadIn q) → Near (rowIn q i) (take 255 (drop (i * 255) b))
+
+-- row i of q is the first that has no coded row within eight bytes
+pub record FirstBroken (q : List ℕ) (i : ℕ) : Type 0 where
+  pub within : i * 255 < length (payloadIn q)
+  pub lost : (s : List ℕ) → Near (rowIn q i) s → ⊥
+  pub before : (j : ℕ) → j < i → (s : List ℕ) × Near (rowIn q j) s
+
+-- bytes whose payload is whole rows
+pub record WholeRows (q : List ℕ) : Type 0 where
+  pub bytes : Bytes q
+  pub multiple : length (payloadIn q) % 255 ≡ 0
+
+-- a repair of packets is exact in every row: with protection it answers b exactly if b is near in each row, and row i exactly if that is the first that has no coded row near
+pub record MendsEachRow (mend : ℕ → List ℕ → Mended) : Type 0 where
+  pub sound : (q b : List ℕ) → WholeRows q → mend 1 q ≡ whole b → RowsNear q b
+  pub complete : (q b : List ℕ) → WholeRows q → RowsNear q b → mend 1 q ≡ whole b
+  pub refusing : (q : List ℕ) (i : ℕ) → WholeRows q → mend 1 q ≡ broken i → FirstBroken q i
+  pub refused : (q : List ℕ) (i : ℕ) → WholeRows q → FirstBroken q i → mend 1 q ≡ broken i
 
 -- ---- demand 3
 
@@ -37,10 +68,6 @@ pub record Protected (g : Settings) (file : List ℕ) : Type 0 where
   pub fit : settingsFit g ≡ true
   pub protection : g .protection ≡ 1
   pub count : countOf g (length file) ≤ 1048575
-
--- row i of a packet's payload
-abbrev pub rowIn : List ℕ → ℕ → List ℕ
-rowIn q i = take 255 (drop (i * 255) (payloadIn q))
 
 -- q is packet n of the file, header and CRC intact, at most eight bytes altered in each row of its payload
 pub record Copy (g : Settings) (file : List ℕ) (n : ℕ) (q : List ℕ) : Type 0 where
@@ -82,17 +109,22 @@ pub record Carries (g : Settings) (file : List ℕ) (cs : List Call) : Type 0 wh
   pub fair : AllFair g file cs
   pub every : (n : ℕ) → n < countOf g (length file) → Offers g file n cs
 
+-- demand 3 is not empty: the packets of any such file, offered in order, carry it
+abbrev pub SomeCarry : Type 0
+SomeCarry =
+    (g : Settings) (file : List ℕ) → Protected g file → Carries g file (map offering (listed (packetOf g file) (countOf g (length file)) 0))
+
 -- hand out at the file's length, into room enough, answers the file, and leaves the output beyond it
 abbrev pub HandsOut : Program → Settings → List ℕ → State → Type 0
 HandsOut f g file x =
     (out : List ℕ) → length file ≤ length out
-    → f (handing (g .resource) (length file) out) x .answer ≡ handed Accepted (file ++ drop (length file) out)
+    → f (handing (g .resource) (length file) out) x .answer ≡ record { told = acceptedWith []; output = file ++ drop (length file) out }
 
--- from every state from which open with the file's own settings is accepted
+-- from every state from which open with the file's own settings is accepted, which is number 0
 abbrev pub Demand3 : Program → Type 0
 Demand3 f =
     (g : Settings) (file : List ℕ) → Protected g file
-    → (x : State) → f (opening g (countOf g (length file))) x .answer ≡ opened Accepted
+    → (x : State) → f (opening g (countOf g (length file))) x .answer .told .number ≡ 0
     → (cs : List Call) → Carries g file cs
     → HandsOut f g file (run f cs (f (opening g (countOf g (length file))) x .state) .state)
 
@@ -100,8 +132,8 @@ Demand3 f =
 pub record FreshHandsOut (f : Program) (g : Settings) (file s : List ℕ) (cs : List Call) : Type 0 where
   pub packs : (n : ℕ) → n < countOf g (length file) → (x : State) (out : List ℕ) → length (packetOf g file n) ≤ length out
       → f (packing file g n out) x .answer
-      ≡ packed (Written (length (packetOf g file n))) (packetOf g file n ++ drop (length (packetOf g file n)) out)
-  pub opens : f (opening g (countOf g (length file))) (fresh s) .answer ≡ opened Accepted
+      ≡ record { told = acceptedWith (length (packetOf g file n) ∷ []); output = packetOf g file n ++ drop (length (packetOf g file n)) out }
+  pub opens : f (opening g (countOf g (length file))) (fresh s) .answer ≡ telling (acceptedWith [])
   pub hands : HandsOut f g file (run f (opening g (countOf g (length file)) ∷ cs) (fresh s) .state)
 
 abbrev pub FromFresh : Program → Type 0
@@ -133,36 +165,20 @@ pub data Alike (r : ℕ) : List Call → List Call → Type 0 where
 
 -- those of the answers to calls that are about r
 abbrev pub pick : ℕ → List Call → List Answer → List Answer
-pick r [] told = []
+pick r [] answers = []
 pick r (c ∷ cs) [] = []
 pick r (c ∷ cs) (a ∷ rest) = cond (about r c) (a ∷ pick r cs rest) (pick r cs rest)
 
-abbrev pub told : Program → ℕ → List Call → State → List Answer
-told f r cs x = pick r cs (run f cs x .answers)
+abbrev pub answersAbout : Program → ℕ → List Call → State → List Answer
+answersAbout f r cs x = pick r cs (run f cs x .answers)
 
 -- from a fresh record and the same store, every answer about the resource is the same
 abbrev pub TwoSequences : Program → Type 0
-TwoSequences f = (r : ℕ) (s : List ℕ) (cs ds : List Call) → Alike r cs ds → told f r cs (fresh s) ≡ told f r ds (fresh s)
+TwoSequences f = (r : ℕ) (s : List ℕ) (cs ds : List Call) → Alike r cs ds → answersAbout f r cs (fresh s) ≡ answersAbout f r ds (fresh s)
 
--- ---- a refusal changes nothing
+-- ---- a refusal changes nothing: an answer whose number is not 0
 
-abbrev pub refusedVerdict : Verdict → Bool
-refusedVerdict Accepted = false
-refusedVerdict (Refused r) = true
-
-abbrev pub refusal : Answer → Bool
-refusal (packed (Written n) out) = false
-refusal (packed (Packed.Refused r) out) = true
-refusal (opened v) = refusedVerdict v
-refusal (offered Stored) = false
-refusal (offered Repeat) = false
-refusal (offered (Offered.Refused r)) = true
-refusal (asked (Filled n l)) = false
-refusal (asked (Standing.Refused r)) = true
-refusal (handed v out) = refusedVerdict v
-refusal (closed v) = refusedVerdict v
-
--- the output of a call, as it was lent and as it is answered
+-- the output that a call lends
 abbrev pub lent : Call → List ℕ
 lent (packing file g n out) = out
 lent (opening g count) = []
@@ -171,18 +187,93 @@ lent (asking r) = []
 lent (handing r n out) = out
 lent (closing r) = []
 
-abbrev pub output : Answer → List ℕ
-output (packed a out) = out
-output (opened v) = []
-output (offered a) = []
-output (asked a) = []
-output (handed v out) = out
-output (closed v) = []
-
 -- record, store and output are as they were
 pub record Unchanged (f : Program) (c : Call) (x : State) : Type 0 where
   pub state : f c x .state ≡ x
-  pub output-kept : output (f c x .answer) ≡ lent c
+  pub output-kept : f c x .answer .output ≡ lent c
 
 abbrev pub RefusalsChangeNothing : Program → Type 0
-RefusalsChangeNothing f = (c : Call) (x : State) → refusal (f c x .answer) ≡ true → Unchanged f c x
+RefusalsChangeNothing f = (c : Call) (x : State) → (f c x .answer .told .number ≡ 0 → ⊥) → Unchanged f c x
+
+-- ---- status and offers, by the slots
+
+-- place i of the record, and its slot k
+abbrev pub placeAt : State → ℕ → Place
+placeAt x i = getD (x .held .places) i unused
+
+abbrev pub slotIn : State → ℕ → ℕ → Content
+slotIn x i k = slotOf (placeAt x i) (x .store) k
+
+-- the record is good for the store, and place i holds the resource
+pub record Held (x : State) (r i : ℕ) : Type 0 where
+  pub sound : good (length (x .store)) (x .held .places) ≡ true
+  pub named : holds (placeAt x i) r ≡ true
+
+-- a number that was found, or none
+abbrev pub lowestValues : Found → List ℕ
+lowestValues (At k) = k ∷ []
+lowestValues Nothing = []
+
+-- the number of filled slots, and the lowest empty one where there is one; refusal 15 where a slot is wrong
+abbrev pub slotsTold : List Content → Told
+slotsTold c = cond (anyWrong c) (refusedAs Slot) (acceptedWith (filled c ∷ lowestValues (lowestEmpty c 0)))
+
+-- the status of a place that is open is told by its slots, and nothing changes
+abbrev pub StatusBySlots : Program → Type 0
+StatusBySlots f =
+    (x : State) (r i : ℕ) → Held x r i
+    → f (asking r) x ≡ record { answer = telling (slotsTold (contents (placeAt x i) (x .store))); state = x }
+
+-- q carries b for slot n of place i: it is a packet of the place's file with that number, b is its payload, as it came without protection and near in each row with it, and
+-- the CRC agrees with b
+pub record Carried (x : State) (q : List ℕ) (i n : ℕ) (b : List ℕ) : Type 0 where
+  pub fields : Packet
+  pub read : readOf q ≡ Sent fields
+  pub held : Held x (fields .resource) i
+  pub serves : differs (placeAt x i) fields ≡ false
+  pub number : n ≡ fields .number
+  pub below : n < placeAt x i .count
+  pub plain : fields .protection ≡ 0 → b ≡ payloadIn q
+  pub rows : (fields .protection ≡ 0 → ⊥) → RowsNear q b
+  pub crc : agrees q b ≡ true
+
+-- the record and the store's length are as they were, and so is every slot of every place in use, but slot n of place i
+pub record OthersStay (x y : State) (i n : ℕ) : Type 0 where
+  pub same-held : y .held ≡ x .held
+  pub sized : length (y .store) ≡ length (x .store)
+  pub slots : (j k : ℕ) → inUse (placeAt x j) ≡ true → k < placeAt x j .count → ((j ≡ i) × (k ≡ n) → ⊥) → slotIn y j k ≡ slotIn x j k
+
+-- what an accepted offer says, by its values: Stored (0), and the slot was empty and holds the payload; or Repeat (1), and it held the payload, and nothing changed
+pub data Accepts (x : State) (q : List ℕ) (y : State) : List ℕ → Type 0 where
+  stored : (i n : ℕ) (b : List ℕ) → Carried x q i n b → slotIn x i n ≡ holding [] → slotIn y i n ≡ holding b → OthersStay x y i n
+      → Accepts x q y (0 ∷ [])
+  again : (i n : ℕ) (b : List ℕ) → Carried x q i n b → slotIn x i n ≡ holding b → y ≡ x → Accepts x q y (1 ∷ [])
+
+abbrev pub OffersBySlots : Program → Type 0
+OffersBySlots f =
+    (x : State) (q : List ℕ) → f (offering q) x .answer .told .number ≡ 0
+    → Accepts x q (f (offering q) x .state) (f (offering q) x .answer .told .values)
+
+-- ---- files of different counts
+
+-- the same calls may carry two of them: each is collected in a place with its own count
+abbrev pub DifferentCounts : Type 0
+DifferentCounts =
+    (g : Settings) (a b : List ℕ) → Protected g a → Protected g b → (countOf g (length a) ≡ countOf g (length b) → ⊥)
+    → (cs : List Call) × Carries g a cs × Carries g b cs
+
+-- a place has one count: there a packet with another is refused (11)
+abbrev pub OneCount : Program → Type 0
+OneCount f =
+    (x : State) (q : List ℕ) (fields : Packet) (i : ℕ) → readOf q ≡ Sent fields → Held x (fields .resource) i
+    → (fields .count ≡ placeAt x i .count → ⊥) → f (offering q) x .answer .told ≡ refusedAs Other
+
+-- what was collected as in demand 3 is not handed out at a length that needs another number of packets or of tables (23)
+abbrev pub OtherLengthRefused : Program → Type 0
+OtherLengthRefused f =
+    (g : Settings) (file : List ℕ) → Protected g file
+    → (x : State) → f (opening g (countOf g (length file))) x .answer .told .number ≡ 0
+    → (cs : List Call) → Carries g file cs
+    → (n : ℕ) → (countOf g n ≡ countOf g (length file) → ⊥) ⊎ (tablesOf (g .rows) n ≡ tablesOf (g .rows) (length file) → ⊥)
+    → (out : List ℕ) → f (handing (g .resource) n out) (run f cs (f (opening g (countOf g (length file))) x .state) .state) .answer
+    ≡ record { told = refusedAs Size; output = out }

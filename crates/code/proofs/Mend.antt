@@ -1,0 +1,111 @@
+-- What the repair of rows comes to, said by `Near` (document 01, section 5, Offer, and demand 2 of each row): where it is whole, each row is the coded row within eight bytes of
+-- the row that came; it is broken at row k exactly if that row has none and each before it has one. Assumes nothing.
+use mathlib.Core.Path.{_≡_, refl, sym, ap, ap₂, _∙_}
+use mathlib.Core.List.{List, _++_}
+use Prim.Native.Nat.{ℕ, zero, suc, _+_, _*_, _<_}
+use native.Mathlib.Nat.{add-zero}
+use native.Mathlib.Omega.{arith}
+use lib.ListN.{length, take, drop, length-drop, take-append-drop}
+use lib.Seq.{length-take-le, drop-drop, take-at, drop-at}
+use Rattle.code.specs.Code.{Bytes}
+use Rattle.code.specs.Search.{Repaired}
+use Rattle.code.specs.Search.Repaired.{found, none}
+use Rattle.code.specs.Repair.{Near, repairOf}
+use Rattle.code.specs.Mend.{Mended, whole, broken, behind, mendRows}
+use Rattle.code.proofs.Lists.{bytes-parts}
+use Rattle.code.proofs.Exact.{repair-near, repair-found, repair-none, none-near}
+
+-- row j of some bytes
+abbrev pub rowOf : List ℕ → ℕ → List ℕ
+rowOf b j = take 255 (drop (j * 255) b)
+
+pub row-next : (b : List ℕ) (j : ℕ) → rowOf (drop 255 b) j ≡ rowOf b (suc j)
+row-next b j =
+    let e : 255 + j * 255 ≡ suc j * 255 = omega arith in
+    ap (take 255) (drop-drop (j * 255) 255 b ∙ ap (λ (x : ℕ). drop x b) e)
+
+pub bytes-split : (n : ℕ) (l : List ℕ) → Bytes l → Bytes (take n l) × Bytes (drop n l)
+bytes-split n l y = bytes-parts (take n l) (drop n l) (rw (take-append-drop n l) y)
+
+-- ---- whole: each row is near
+
+pub mend-near : (n i : ℕ) (b c : List ℕ) → mendRows n i b ≡ whole c → (j : ℕ) → j < n → Near (rowOf b j) (rowOf c j)
+unfolding mendRows
+mend-near zero i b c e = λ j l. absurd (omega arith)
+mend-near (suc n) i b c e = by (repairOf (take 255 b)) refl (mendRows n (suc i) (drop 255 b)) refl e (mend-near n (suc i) (drop 255 b))
+  where
+    at : (s d : List ℕ) → Near (take 255 b) s → s ++ d ≡ c → ((j : ℕ) → j < n → Near (rowOf (drop 255 b) j) (rowOf d j)) → (j : ℕ) → j < suc n → Near (rowOf b j) (rowOf c j)
+    at s d near w ih zero l = rw (← w, take-at s d 255 (near .coded .sized)) near
+    at s d near w ih (suc j) l =
+        let e : rowOf d j ≡ rowOf c (suc j) = ap (λ (x : List ℕ). rowOf x j) (sym (drop-at s d 255 (near .coded .sized)) ∙ ap (drop 255) w) ∙ row-next c j in
+        rw (← row-next b j, ← e) (ih j (omega arith))
+
+    by : (a : Repaired) → repairOf (take 255 b) ≡ a → (m : Mended) → mendRows n (suc i) (drop 255 b) ≡ m → behind a i m ≡ whole c
+        → ((d : List ℕ) → mendRows n (suc i) (drop 255 b) ≡ whole d → (j : ℕ) → j < n → Near (rowOf (drop 255 b) j) (rowOf d j))
+        → (j : ℕ) → j < suc n → Near (rowOf b j) (rowOf c j)
+    by (found s) p (whole d) r e ih = let w : s ++ d ≡ c = cc in at s d (repair-near (take 255 b) s p) w (ih d r)
+    by (found s) p (broken k) r e ih = let z : _≡_ {A = ℕ} 0 1 = cc in absurd (omega arith)
+    by none p m r e ih = let z : _≡_ {A = ℕ} 0 1 = cc in absurd (omega arith)
+
+-- ---- broken: at the first row that has none
+
+-- row j of the n rows of b is that row
+pub record FirstLost (n : ℕ) (b : List ℕ) (j : ℕ) : Type 0 where
+  pub within : j < n
+  pub lost : (s : List ℕ) → Near (rowOf b j) s → ⊥
+  pub before : (k : ℕ) → k < j → (s : List ℕ) × Near (rowOf b k) s
+
+-- one row more in front, which has one
+lost-next : (n : ℕ) (b : List ℕ) (j : ℕ) → (s : List ℕ) × Near (take 255 b) s → FirstLost n (drop 255 b) j → FirstLost (suc n) b (suc j)
+lost-next n b j first f = record {
+  within = omega (arith, f .within);
+  lost = λ s w. f .lost s (rw (row-next b j) w);
+  before = before;
+}
+  where
+    before : (k : ℕ) → k < suc j → (s : List ℕ) × Near (rowOf b k) s
+    before zero l = first
+    before (suc k) l = rw (row-next b k) at (f .before k (omega arith))
+
+pub mend-broken : (n i : ℕ) (b : List ℕ) (k : ℕ) → Bytes b → length b ≡ n * 255 → mendRows n i b ≡ broken k → (j : ℕ) × (k ≡ i + j) × FirstLost n b j
+unfolding mendRows
+mend-broken zero i b k y l e = let z : _≡_ {A = ℕ} 0 1 = cc in absurd (omega arith)
+mend-broken (suc n) i b k y l e =
+    by (repairOf (take 255 b)) refl (mendRows n (suc i) (drop 255 b)) refl e
+    (mend-broken n (suc i) (drop 255 b) k (bytes-split 255 b y .1) (length-drop 255 b ∙ omega arith))
+  where
+    by : (a : Repaired) → repairOf (take 255 b) ≡ a → (m : Mended) → mendRows n (suc i) (drop 255 b) ≡ m → behind a i m ≡ broken k
+        → (mendRows n (suc i) (drop 255 b) ≡ broken k → (j : ℕ) × (k ≡ suc i + j) × FirstLost n (drop 255 b) j)
+        → (j : ℕ) × (k ≡ i + j) × FirstLost (suc n) b j
+    by (found s) p (whole d) r e ih = let z : _≡_ {A = ℕ} 0 1 = cc in absurd (omega arith)
+    by (found s) p (broken m) r e ih =
+        let f = ih (r ∙ e) in
+        (suc (f .0), omega (arith, f .1), lost-next n b (f .0) (s, repair-near (take 255 b) s p) (f .2))
+    by none p m r e ih =
+        let w : i ≡ k = cc in (
+          0,
+          omega arith,
+          record {
+            within = omega arith;
+            lost = none-near (take 255 b) (length-take-le 255 b (omega arith)) (bytes-split 255 b y .0) p;
+            before = λ x h. absurd (omega arith);
+          },
+        )
+
+pub broken-mend : (n i : ℕ) (b : List ℕ) (j : ℕ) → Bytes b → length b ≡ n * 255 → FirstLost n b j → mendRows n i b ≡ broken (i + j)
+unfolding mendRows
+broken-mend zero i b j y l f = absurd (omega (arith, f .within))
+broken-mend (suc n) i b zero y l f =
+    ap (λ (a : Repaired). behind a i (mendRows n (suc i) (drop 255 b))) (repair-none (take 255 b) (length-take-le 255 b (omega arith)) (bytes-split 255 b y .0) (f .lost))
+    ∙ ap broken (sym (add-zero i))
+broken-mend (suc n) i b (suc j) y l f =
+    let first = f .before 0 (omega arith) in
+    let rest : mendRows n (suc i) (drop 255 b) ≡ broken (suc i + j) =
+    broken-mend n (suc i) (drop 255 b) j (bytes-split 255 b y .1) (length-drop 255 b ∙ omega arith) (record {
+      within = omega (arith, f .within);
+      lost = λ s w. f .lost s (rw (row-next b j) at w);
+      before = λ k h. rw (row-next b k) (f .before (suc k) (omega arith));
+    }) in
+    let e : suc i + j ≡ i + suc j = omega arith in
+    ap₂ (λ (a : Repaired) (m : Mended). behind a i m) (repair-found (take 255 b) (first .0) (length-take-le 255 b (omega arith)) (bytes-split 255 b y .0) (first .1)) rest
+    ∙ ap broken e

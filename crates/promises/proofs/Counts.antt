@@ -1,0 +1,108 @@
+-- Files of different counts: the packets of each are refused at the other's place, so one list can carry both; and what a place holds is handed out at no length that needs
+-- another number of packets or tables. Assumes nothing.
+use mathlib.Core.Path.{_≡_, refl, sym, ap, _∙_}
+use mathlib.Core.Logic.{⊎-elim}
+use mathlib.Core.Bool.{Bool, true, false}
+use mathlib.Core.List.{List, [], _∷_, _++_, map}
+use Prim.Native.Nat.{ℕ, zero, suc, _+_, _*_, _≤_, _<_}
+use native.Mathlib.Omega.{arith}
+use lib.ListN.{length, replicate}
+use Rattle.ground.specs.Lists.{listed, ceil}
+use Rattle.code.proofs.Lists.{zeros-bytes}
+use Rattle.refusals.specs.declared.Refusal.the-variants.{Other}
+use Rattle.layout.specs.Layout.{tablesOf}
+use Rattle.packet.specs.declared.Packet.{Packet}
+use Rattle.packet.specs.declared.Settings.{Settings}
+use Rattle.pack.specs.Pack.{countOf, packetOf}
+use Rattle.pack.proofs.Laws.{fieldsOf, packet-reads, length-tables}
+use Rattle.places.specs.declared.Place.{Place}
+use Rattle.places.specs.Places.{placeOf}
+use Rattle.record.specs.Offer.{Offering, differs, offerJudged}
+use Rattle.record.specs.Told.{offeredTold}
+use Rattle.record.proofs.OfferCases.{judge-other, offer-placed}
+use Rattle.record.proofs.OfferFacts.{same-file}
+use Rattle.promises.specs.Calls.{Call, step}
+use Rattle.promises.specs.Calls.Call.{offering}
+use Rattle.promises.specs.Statements.{Protected, Fair, AllFair, Offers, Carries, placeAt, DifferentCounts, OneCount, OtherLengthRefused}
+use Rattle.promises.proofs.Noise.{refused-is-noise}
+use Rattle.promises.proofs.Own.{own-fair, own-offers}
+use Rattle.promises.proofs.Demand.{collected, refuses}
+use Rattle.promises.proofs.Slots.{held-found}
+use Rattle.promises.proofs.Turned.{one, byte, protected}
+
+-- a packet with another count is not of the place's file
+count-differs : (p : Place) (f : Packet) → (f .count ≡ p .count → ⊥) → differs p f ≡ true
+count-differs p f d = by (differs p f) refl
+  where
+    by : (t : Bool) → differs p f ≡ t → t ≡ true
+    by true e = refl
+    by false e = absurd (d (same-file p f e .count))
+
+-- ---- two files, carried by one list
+
+fair-join : (g : Settings) (file : List ℕ) {cs ds : List Call} → AllFair g file cs → AllFair g file ds → AllFair g file (cs ++ ds)
+fair-join g file AllFair.ended e = e
+fair-join g file (AllFair.next f fs) e = AllFair.next f (fair-join g file fs e)
+
+offers-before : (g : Settings) (file : List ℕ) (n : ℕ) {cs : List Call} (ds : List Call) → Offers g file n cs → Offers g file n (cs ++ ds)
+offers-before g file n ds (Offers.here c) = Offers.here c
+offers-before g file n ds (Offers.later o) = Offers.later (offers-before g file n ds o)
+
+offers-behind : (g : Settings) (file : List ℕ) (n : ℕ) (cs : List Call) {ds : List Call} → Offers g file n ds → Offers g file n (cs ++ ds)
+offers-behind g file n [] o = o
+offers-behind g file n (c ∷ cs) o = Offers.later (offers-behind g file n cs o)
+
+-- the packets of b are noise at the place of a
+noise-fair : (g : Settings) (a b : List ℕ) → Protected g b → (countOf g (length b) ≡ countOf g (length a) → ⊥) → (k i : ℕ) → i + k ≤ countOf g (length b)
+    → AllFair g a (map offering (listed (packetOf g b) k i))
+noise-fair g a b p d zero i l = AllFair.ended
+noise-fair g a b p d (suc k) i l =
+    let below : i < countOf g (length b) = omega arith in
+    AllFair.next (Fair.noise (packetOf g b i) (refused-is-noise g a (packetOf g b i) Other (fieldsOf g b i) (packet-reads g b i (p .fit) (p .count) below)
+    (judge-other (placeOf g (countOf g (length a)) 0) (fieldsOf g b i) (packetOf g b i) (count-differs (placeOf g (countOf g (length a)) 0) (fieldsOf g b i) d))))
+    (noise-fair g a b p d k (suc i) (omega arith))
+
+pub different-counts : DifferentCounts
+different-counts g a b pa pb d = (
+  own a ++ own b,
+  record {
+    fair = fair-join g a (own-fair g a pa (countOf g (length a)) 0 (omega arith)) (noise-fair g a b pb (λ e. d (sym e)) (countOf g (length b)) 0 (omega arith));
+    every = λ n l. offers-before g a n (own b) (own-offers g a pa n (countOf g (length a)) 0 (omega arith) (omega arith) l);
+  },
+  record {
+    fair = fair-join g b (noise-fair g b a pa d (countOf g (length a)) 0 (omega arith)) (own-fair g b pb (countOf g (length b)) 0 (omega arith));
+    every = λ n l. offers-behind g b n (own a) (own-offers g b pb n (countOf g (length b)) 0 (omega arith) (omega arith) l);
+  },
+)
+  where
+    own : List ℕ → List Call
+    own file = map offering (listed (packetOf g file) (countOf g (length file)) 0)
+
+-- a file of one byte, in one packet, and one of 240, in two
+abbrev longer : List ℕ
+longer = replicate 240 0
+
+pub one-and-two-packets : (cs : List Call) × Carries one byte cs × Carries one longer cs
+one-and-two-packets =
+    different-counts one byte longer protected
+    (record { bytes = zeros-bytes 240; some = omega arith; limit = omega arith; fit = protected .fit; protection = refl; count = omega arith })
+    (λ e. omega arith)
+
+-- ---- at one place
+
+pub one-count : OneCount step
+unfolding step
+one-count x q f i read h d =
+    ap (λ (o : Offering). offeredTold (o .answer)) (offer-placed (x .held) (x .store) q (h .sound) f read i (held-found x (f .resource) i h)
+    ∙ ap (offerJudged (placeAt x i) (x .store)) (judge-other (placeAt x i) f q (count-differs (placeAt x i) f d)))
+
+-- as many tables, as many packets
+same-counts : (g : Settings) (m n : ℕ) → (g .protection ≡ 0 → ⊥) → tablesOf (g .rows) m ≡ tablesOf (g .rows) n → countOf g m ≡ countOf g n
+same-counts g m n z e =
+    ap (λ (c : ℕ). ceil c (g .size)) (length-tables g m z ∙ ap (λ (t : ℕ). 255 * g .rows * t) e ∙ sym (length-tables g n z))
+
+pub other-length-refused : OtherLengthRefused step
+other-length-refused g file p x answer cs carried n d out =
+    let c = collected g file p x answer cs carried in
+    refuses g file p (c .place) (c .start) _ (c .collecting) (c .all) n out
+    (λ e. ⊎-elim (λ o. o (same-counts g n (length file) (λ z. omega (arith, p .protection)) e)) (λ o. o e) d)

@@ -1,0 +1,207 @@
+-- Status and offers by the slots: the status of an open place is what its slots say; an offer that is accepted found its slot empty, and the slot then holds the payload, or
+-- found the payload there; no other slot changes. Assumes nothing.
+use mathlib.Core.Path.{_≡_, refl, sym, ap, _∙_}
+use mathlib.Core.Logic.{⊎-elim}
+use mathlib.Core.Bool.{Bool, true, false, cond}
+use mathlib.Core.List.{List, [], _∷_}
+use Prim.Native.Nat.{ℕ, zero, suc, _+_, _%_, _<_, _≤_}
+use native.Mathlib.Omega.{arith}
+use lib.Dec.{ltb}
+use lib.ListN.{length, getD, List·getD-eq-default}
+use Rattle.refusals.specs.declared.Refusal.the-variants.{Other, Wide, Crc, Slot, Conflict}
+use Rattle.refusals.specs.Told.{refusedAs}
+use Rattle.ground.proofs.Numbers.{lt-or-ge, same-or-not}
+use Rattle.packet.specs.declared.Packet.{Packet}
+use Rattle.packet.specs.declared.Reading.the-variants.{Sent}
+use Rattle.packet.specs.Packet.{readOf}
+use Rattle.places.specs.declared.Place.{Place}
+use Rattle.places.specs.declared.Found.{Found}
+use Rattle.places.specs.declared.Found.the-variants.{At, Nothing}
+use Rattle.places.specs.Places.{unused, inUse, names as holds, good, endOf, placeNamed}
+use Rattle.places.proofs.Truth.{differ, fails}
+use Rattle.places.proofs.Searches.{first-only}
+use Rattle.places.proofs.Named.{names-in-use}
+use Rattle.places.proofs.Facts.{named-facts, good-apart, one-holder}
+use Rattle.places.proofs.Holders.{found-names}
+use Rattle.contents.specs.Contents.{Slot as Content, wrong, holding, slotAt, slotOf, contents, anyWrong, filled, lowestEmpty}
+use Rattle.contents.specs.Slots.{stored}
+use Rattle.contents.proofs.Bytes.{length-stored, stored-off}
+use Rattle.contents.proofs.Slots.{slot-within, slots-off, slot-stored, slot-agree, fits-room}
+use Rattle.contents.proofs.Places.{reading-slots, storing-leaves, apart-meets}
+use Rattle.record.specs.declared.Offered.{Offered}
+use Rattle.record.specs.declared.Offered.the-variants.{Repeat}
+use Rattle.code.specs.Mend.{Mended, whole, broken}
+use Rattle.record.specs.Mend.{payloadIn, mendedIn, agrees}
+use Rattle.record.specs.Offer.{differs, Judged, refuse, put, judgeMended, judge, judgeBy, same, putInto, Offering, storing, offerJudged, offerOf}
+use Rattle.record.specs.Told.{offeredTold}
+use Rattle.record.proofs.SlotLaws.{same-equal}
+use Rattle.record.proofs.OfferCases.{payload-length, mended-plain, mended-rows}
+use Rattle.record.proofs.OfferFacts.{Read, read-known}
+use Rattle.record.proofs.OfferLaws.{Placed, Sound, Case, refused, placed, offer-case, offer-sound}
+use Rattle.readout.specs.declared.Standing.{Standing}
+use Rattle.readout.specs.declared.Standing.the-variants.{Filled}
+use Rattle.readout.specs.Hand.{standingIn, statusOf}
+use Rattle.readout.specs.Told.{standingTold}
+use Rattle.readout.proofs.HandCases.{status-found}
+use Rattle.promises.specs.Calls.{State, step, telling}
+use Rattle.promises.specs.Statements.{RowsNear, placeAt, slotIn, Held, lowestValues, slotsTold, StatusBySlots, Carried, OthersStay, Accepts, OffersBySlots}
+use Rattle.promises.proofs.Numbers.{number-not-0}
+use Rattle.promises.proofs.EachRow.{rows-near}
+
+-- ---- the place that holds a resource
+
+-- a place in use is one of the record's
+pub used-within : (x : State) (i : ℕ) → inUse (placeAt x i) ≡ true → i < length (x .held .places)
+used-within x i u = ⊎-elim (λ l. l) (λ h. absurd (beyond h)) (lt-or-ge i (length (x .held .places)))
+  where
+    beyond : length (x .held .places) ≤ i → ⊥
+    beyond h = differ (sym u ∙ ap inUse (List·getD-eq-default (x .held .places) unused h))
+
+module _ (x : State) (r i : ℕ) where
+  pub held-found : Held x r i → placeNamed (x .held .places) r ≡ At i
+  held-found h =
+      let within : i < length (x .held .places) = used-within x i (names-in-use (placeAt x i) r (h .named)) in
+      first-only (λ p. holds p r) (x .held .places) i within (h .named)
+      (λ k l d. fails (holds (placeAt x k) r) (λ e. d (one-holder (length (x .store)) (x .held .places) (h .sound) k i l within r e (h .named))))
+
+  pub found-held : good (length (x .store)) (x .held .places) ≡ true → placeNamed (x .held .places) r ≡ At i → Held x r i
+  found-held g e = record { sound = g; named = found-names (x .held .places) r i e .1 }
+
+-- ---- status
+
+standing-slots : (c : List Content) → standingTold (standingIn c) ≡ slotsTold c
+unfolding standingIn
+standing-slots c = by (anyWrong c) (lowestEmpty c 0)
+  where
+    by : (b : Bool) (f : Found) → standingTold (cond b (Standing.Refused Slot) (Filled (filled c) f)) ≡ cond b (refusedAs Slot) (record { number = 0; values = filled c ∷ lowestValues f })
+    by true f = refl
+    by false (At k) = refl
+    by false Nothing = refl
+
+pub status-by-slots : StatusBySlots step
+unfolding step
+status-by-slots x r i h =
+    let e : statusOf (x .held) (x .store) r ≡ standingIn (contents (placeAt x i) (x .store)) = sym (status-found (x .held) (x .store) r (h .sound) i (held-found x r i h)) in
+    λ j. record { answer = telling ((ap standingTold e ∙ standing-slots (contents (placeAt x i) (x .store))) j); state = x }
+
+-- ---- a packet that puts a payload
+
+record Puts (p : Place) (f : Packet) (q b : List ℕ) : Type 0 where
+  serves : differs p f ≡ false
+  mended : mendedIn (f .protection) q ≡ whole b
+  crc : agrees q b ≡ true
+
+module _ (p : Place) (f : Packet) (q : List ℕ) (k : ℕ) (b : List ℕ) where
+  puts-agreed : differs p f ≡ false → (c : List ℕ) → mendedIn (f .protection) q ≡ whole c → (t : Bool) → agrees q c ≡ t → cond t (put (f .number) c) (refuse Crc) ≡ put k b → Puts p f q b
+  puts-agreed d c e true a z = let w : c ≡ b = cc in record { serves = d; mended = e ∙ ap whole w; crc = ap (agrees q) (sym w) ∙ a }
+  puts-agreed d c e false a z = let o : _≡_ {A = ℕ} 0 1 = cc in absurd (omega arith)
+
+  puts-mended : differs p f ≡ false → (m : Mended) → mendedIn (f .protection) q ≡ m → judgeMended (f .number) q m ≡ put k b → Puts p f q b
+  puts-mended d (broken i) e z = let o : _≡_ {A = ℕ} 0 1 = cc in absurd (omega arith)
+  puts-mended d (whole c) e z = puts-agreed d c e (agrees q c) refl z
+
+  puts-known : judge p f q ≡ put k b → Puts p f q b
+  unfolding judgeBy
+  puts-known = other (differs p f) refl
+    where
+      wide : differs p f ≡ false → (t : Bool) → cond t (refuse Wide) (judgeMended (f .number) q (mendedIn (f .protection) q)) ≡ put k b → Puts p f q b
+      wide d true z = let o : _≡_ {A = ℕ} 0 1 = cc in absurd (omega arith)
+      wide d false z = puts-mended d (mendedIn (f .protection) q) refl z
+
+      other : (t : Bool) → differs p f ≡ t
+          → cond t (refuse Other) (cond (ltb (p .slot) (length (payloadIn q))) (refuse Wide) (judgeMended (f .number) q (mendedIn (f .protection) q))) ≡ put k b → Puts p f q b
+      other true e z = let o : _≡_ {A = ℕ} 0 1 = cc in absurd (omega arith)
+      other false e z = wide e (ltb (p .slot) (length (payloadIn q))) z
+
+-- rows that were repaired are near
+mended-near : (q b : List ℕ) (f : Packet) → Read q f → (f .protection ≡ 0 → ⊥) → mendedIn (f .protection) q ≡ whole b → RowsNear q b
+mended-near q b f r d e =
+    let one : f .protection ≡ 1 = positive (f .protection) (r .protection) d in
+    rows-near q b (ap (λ (n : ℕ). n % 255) (payload-length q (omega (arith, r .least))) ∙ r .multiple one) (sym (mended-rows (f .protection) q d) ∙ e)
+  where
+    positive : (t : ℕ) → t < 2 → (t ≡ 0 → ⊥) → t ≡ 1
+    positive zero l d = absurd (d refl)
+    positive (suc t) l d = omega arith
+
+-- ---- what is stored in a slot, and every other
+
+module _ (x : State) (i n : ℕ) (b : List ℕ) (u : inUse (placeAt x i) ≡ true) (g : good (length (x .store)) (x .held .places) ≡ true)
+    (below : n < placeAt x i .count) (room : length b ≤ placeAt x i .slot) where
+  abbrev after : List ℕ
+  after = stored (x .store) (slotAt (placeAt x i) n) b
+
+  own-slots : (k : ℕ) → (k ≡ n → ⊥) → slotOf (placeAt x i) after k ≡ slotOf (placeAt x i) (x .store) k
+  own-slots k d =
+      slot-agree (placeAt x i) after (x .store) k
+      (λ a l h. stored-off (x .store) (slotAt (placeAt x i) n) b a (slots-off (placeAt x i) k n a (length b + 2) d l h (omega arith)))
+
+  other-slots : (j k : ℕ) → (i ≡ j → ⊥) → inUse (placeAt x j) ≡ true → k < placeAt x j .count → slotOf (placeAt x j) after k ≡ slotOf (placeAt x j) (x .store) k
+  other-slots j k d v l =
+      let apart = good-apart (length (x .store)) (x .held .places) g i j (used-within x i u) (used-within x j v) d u v in
+      let same : contents (placeAt x j) after ≡ contents (placeAt x j) (x .store) =
+      storing-leaves (placeAt x i) (placeAt x j) (x .store) n b (apart-meets (placeAt x i) (placeAt x j) apart) below room in
+      sym (reading-slots (placeAt x j) after k l) ∙ ap (λ (c : List Content). getD c k wrong) same ∙ reading-slots (placeAt x j) (x .store) k l
+
+  others-stay : OthersStay x (record { held = x .held; store = after }) i n
+  others-stay = record {
+    same-held = refl;
+    sized = length-stored (x .store) (slotAt (placeAt x i) n) b;
+    slots = λ j k v l d. ⊎-elim (own j k d) (λ o. other-slots j k (λ z. o (sym z)) v l) (same-or-not j i);
+  }
+    where
+      own : (j k : ℕ) → ((j ≡ i) × (k ≡ n) → ⊥) → j ≡ i → slotOf (placeAt x j) after k ≡ slotOf (placeAt x j) (x .store) k
+      own j k d e = rw e (own-slots k (λ z. d (e, z)))
+
+-- ---- offers
+
+module _ (x : State) (q : List ℕ) where
+  abbrev Says : Offering → Type 0
+  Says o = offeredTold (o .answer) .number ≡ 0 → Accepts x q (record { held = x .held; store = o .store }) (offeredTold (o .answer) .values)
+
+  module _ (g : good (length (x .store)) (x .held .places) ≡ true) (f : Packet) (read : readOf q ≡ Sent f) (i : ℕ) (found : placeNamed (x .held .places) (f .resource) ≡ At i) where
+    carried : (n : ℕ) (b : List ℕ) → judge (placeAt x i) f q ≡ put n b → Placed (placeAt x i) f n b → Carried x q i n b
+    carried n b e w =
+        let k = puts-known (placeAt x i) f q n b e in
+        record {
+          fields = f;
+          read = read;
+          held = found-held x (f .resource) i g found;
+          serves = k .serves;
+          number = w .number;
+          below = w .below;
+          plain = λ z. plain z (k .mended);
+          rows = λ d. mended-near q b f (read-known q f read) d (k .mended);
+          crc = k .crc;
+        }
+      where
+        plain : f .protection ≡ 0 → mendedIn (f .protection) q ≡ whole b → b ≡ payloadIn q
+        plain z m = let o : whole b ≡ whole (payloadIn q) = sym m ∙ mended-plain (f .protection) q z in cc
+
+    slot-said : (n : ℕ) (b : List ℕ) → judge (placeAt x i) f q ≡ put n b → Placed (placeAt x i) f n b → (c : Content) → slotIn x i n ≡ c
+        → Says (storing (x .store) (slotAt (placeAt x i) n) b (putInto c b))
+    slot-said n b e w wrong z o = absurd (omega arith)
+    slot-said n b e w (holding []) z o =
+        let used = names-in-use (placeAt x i) (f .resource) (found-names (x .held .places) (f .resource) i found .1) in
+        let room : length b ≤ placeAt x i .slot = fits-room (placeAt x i) (length b) (w .fits) in
+        let ends : endOf (placeAt x i) ≤ length (x .store) = named-facts (length (x .store)) (x .held .places) g (f .resource) i found .ends-within in
+        Accepts.stored i n b (carried n b e w) z
+        (slot-stored (placeAt x i) (x .store) n b (omega (arith, slot-within (placeAt x i) n (w .below) .1)) (w .fits))
+        (others-stay x i n b used g (w .below) room)
+    slot-said n b e w (holding (y ∷ d)) z o = compared (same (y ∷ d) b) refl o
+      where
+        compared : (t : Bool) → same (y ∷ d) b ≡ t → Says (storing (x .store) (slotAt (placeAt x i) n) b (cond t Repeat (Offered.Refused Conflict)))
+        compared true h o = Accepts.again i n b (carried n b e w) (z ∙ ap holding (same-equal (y ∷ d) b h)) refl
+        compared false h o = absurd (omega arith)
+
+    judged-said : (j : Judged) → judge (placeAt x i) f q ≡ j → Sound (placeAt x i) f j → Says (offerJudged (placeAt x i) (x .store) j)
+    judged-said (refuse r) e w o = absurd (number-not-0 r o)
+    judged-said (put n b) e w o = slot-said n b e w (slotIn x i n) refl o
+
+  case-said : (o : Offering) → Case (x .held) (x .store) q o → Says o
+  case-said o (refused r) e = absurd (number-not-0 r e)
+  case-said o (placed g f read i found) e =
+      judged-said g f read i found (judge (placeAt x i) f q) refl (offer-sound (x .held) (x .store) q g f read i found) e
+
+pub offers-by-slots : OffersBySlots step
+unfolding step
+offers-by-slots x q = case-said x q (offerOf (x .held) (x .store) q) (offer-case (x .held) (x .store) q)
