@@ -19,7 +19,7 @@ CFLAGS = -std=gnu11 -O2 -Wall -Wextra -Wconversion -Iinclude
 sources = crates.txt $(shell find crates -path '*/must-fail' -prune -o -type f -print)
 command = $(wildcard command/*.c) command/command.h include/brithelva.h
 
-.PHONY: all test quick c-tests style reference cases demo command checked kill steps limits example bench fuzz install uninstall clean
+.PHONY: all test quick left-out style reference cases demo library command checked kill steps limits largest example bench fuzz install uninstall clean
 
 all: build/run
 
@@ -41,21 +41,28 @@ build/run: build/brithelva
 demo: build/run
 	@tests/demo build/run
 
-# ---- tests. The last line counts what passed: every proof from nothing, every wrong edit, every program
-test: quick
-	@rt ci
+# ---- tests. `test` is the gate: what shows a fault in seconds, then every proof and every wrong edit from nothing (`rt ci`), then what runs on the
+# proved library. tests/gate runs these parts one by one; its last line counts what passed.
+before = style reference
+in_c = library command kill steps limits largest example fuzz
+ifeq ($(machine),x86_64)
+in_c += checked
+endif
+c_parts = if $(tools) $(CC_FOR) >&2; then echo $(in_c); else echo left-out; fi
+
+test:
+	@tests/gate $(before) ci cases $$($(c_parts))
 
 # all that is no proof, in a few minutes once the library is there
-quick: style reference
-	@if $(tools) $(CC_FOR); then $(MAKE) --no-print-directory c-tests; else echo 'no C compiler for x86-64 can be had here: the tests in C are left out'; fi
+quick: $(before)
+	@$(MAKE) --no-print-directory $$($(c_parts))
 
-ifeq ($(machine),x86_64)
-c-tests: checked
-endif
-c-tests: command kill steps limits example fuzz
+left-out:
+	@echo 'no C compiler for x86-64 can be had here: the tests in C are left out'
 
 style:
 	@tests/style-test
+	@tests/gate-test
 	@tests/style
 	@rt fmt --check
 
@@ -64,10 +71,16 @@ reference:
 	@reference/test.py
 	@reference/compare
 
-# what `cases` prints, from the proved program itself, and random files of cases beside the second program
+# the proved program `cases` on random files of cases, which the second program answers; its own file of cases is run by every `rt check`
 cases:
 	@rt check cases
 	@tests/random-cases
+
+# the library, and on x86-64 the one that a fuzzer sees into. For each `rt` proves `brithelva` itself once more, and nothing below it
+library: build/libbrithelva.a
+ifeq ($(machine),x86_64)
+library: build/watched.a
+endif
 
 command: build/run
 	@tests/demo build/run
@@ -85,6 +98,10 @@ kill: build/run
 
 limits: build/limits
 	@$(tools) here build/limits
+
+# every packet of the largest protected file, beside the second program's
+largest: build/limits
+	@$(tools) here build/limits packets | reference/largest.py
 
 # one instruction at a time, which the emulator does not offer
 ifeq ($(machine),x86_64)

@@ -258,29 +258,37 @@ def up(a, b):
     return -(-a // b)
 
 
+def coded_table(file, m, t):
+    """The rows of table t with their checks. It is filled position by position, down each column, as the text says it."""
+    table = [bytearray(239) for _ in range(m)]
+    for place, byte in enumerate(file[t * 239 * m : (t + 1) * 239 * m]):
+        table[place % m][place // m] = byte
+    return b"".join(row + encode_row(row) for row in table)
+
+
 def coded_file(file, m):
-    """All bytes that are sent under protection. The tables are filled position by position, down each column, as the text says it."""
-    out = bytearray()
-    for t in range(up(len(file), 239 * m)):
-        table = [bytearray(239) for _ in range(m)]
-        part = file[t * 239 * m : (t + 1) * 239 * m]
-        for place, byte in enumerate(part):
-            table[place % m][place // m] = byte
-        for row in table:
-            out += row + encode_row(row)
-    return bytes(out)
+    """All bytes that are sent under protection, table after table."""
+    return b"".join(coded_table(file, m, t) for t in range(up(len(file), 239 * m)))
 
 
 class Packer:
-    """Packs one file, and keeps its coded bytes for each M, so that its packets can be asked for one after the other."""
+    """Packs one file. Its tables are coded when a packet asks for them, and kept, so that packets can be asked for one after the other."""
 
     def __init__(self, file):
-        self.file, self.kept = bytes(file), {0: bytes(file)}
+        self.file, self.kept = bytes(file), {}
 
-    def coded(self, m):
-        if m not in self.kept:
-            self.kept[m] = coded_file(self.file, m)
-        return self.kept[m]
+    def table(self, m, t):
+        if (m, t) not in self.kept:
+            self.kept[m, t] = coded_table(self.file, m, t)
+        return self.kept[m, t]
+
+    def sent(self, m, start, end):
+        """These bytes of what is sent: of the file itself where m is 0, else of the tables in which they stand."""
+        if m == 0:
+            return self.file[start:end]
+        first = start // (255 * m)
+        tables = b"".join(self.table(m, t) for t in range(first, up(end, 255 * m)))
+        return tables[start - first * 255 * m : end - first * 255 * m]
 
     def packet(self, s, n, room):
         """Packet n under the settings, for an output of that room; refusals 17, 23, 25, 6, 26."""
@@ -297,7 +305,7 @@ class Packer:
             raise Refused(6)
         if 18 + min(size, length - n * size) > room:
             raise Refused(26)
-        payload = self.coded(m)[n * size : (n + 1) * size]
+        payload = self.sent(m, n * size, min((n + 1) * size, length))
         packet = header_of({**s, "mark": MARK, "number": n, "length": 18 + len(payload), "count": count, "rows": m, "reserved": 0}) + payload
         return packet + crc32(packet).to_bytes(4, "big")
 

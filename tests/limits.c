@@ -1,4 +1,5 @@
-/* The cases that need more memory than the program `cases` has: the largest file, and stores longer than their usable part. */
+/* The cases that need more memory than the program `cases` has: the largest file, and stores longer than their usable part.
+   limits packets: writes every packet of the largest protected file to standard output instead, for reference/largest.py. */
 #include "brithelva.h"
 
 #include <stdio.h>
@@ -61,14 +62,32 @@ static void largest(uint8_t *file, uint8_t *store, uint8_t *out)
     expect("byte for byte", 0, (uint64_t)(memcmp(file, out, length) != 0));
 }
 
-int main(void)
+/* one row a packet, in 276 tables of 255 */
+static int packets(const uint8_t *file)
+{
+    uint8_t packet[BH_LARGEST_PACKET];
+    for (uint32_t n = 0; n < 276 * 255; n++) {
+        uint64_t answer = bh_pack(file, BH_LARGEST_FILE, 1, 1, 0, 1, 255, 255, n, packet, sizeof packet);
+        if (answer != 256 * 273 || fwrite(packet, 273, 1, stdout) != 1)
+            return 1;
+    }
+    return fflush(stdout) != 0;
+}
+
+int main(int count, char **words)
 {
     size_t room = BH_USABLE_STORE + 4096;
     uint8_t *file = malloc(room), *store = malloc(room), *out = malloc(room);
     if (file == NULL || store == NULL || out == NULL)
         return 2;
-    for (size_t i = 0; i < room; i++)
-        file[i] = (uint8_t)(i * 2654435761u >> 24);
+    /* the bytes from seed 1, as reference/README.md has them */
+    uint32_t x = 1;
+    for (size_t i = 0; i < room; i++) {
+        x = x * 1664525 + 1013904223;
+        file[i] = (uint8_t)(x >> 24);
+    }
+    if (count == 2 && strcmp(words[1], "packets") == 0)
+        return packets(file);
     memset(store, 0xEE, room);
     packing(file);
     stores(store);
