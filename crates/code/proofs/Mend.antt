@@ -1,11 +1,11 @@
 -- What the repair of rows comes to, said by `Near` (document 01, section 5, Offer, and demand 2 of each row): where it is whole, each row is the coded row within eight bytes of
 -- the row that came; it is broken at row k exactly if that row has none and each before it has one. Assumes nothing.
 use mathlib.Core.Path.{_≡_, refl, sym, ap, ap₂, _∙_}
-use mathlib.Core.List.{List, _++_}
-use Prim.Native.Nat.{ℕ, zero, suc, _+_, _*_, _<_}
+use mathlib.Core.List.{List, [], _∷_, _++_}
+use Prim.Native.Nat.{ℕ, zero, suc, _+_, _-_, _*_, _<_}
 use native.Mathlib.Nat.{add-zero}
 use native.Mathlib.Omega.{arith}
-use lib.ListN.{length, take, drop, length-drop, take-append-drop}
+use lib.ListN.{length, take, drop, length-append, length-drop, take-append-drop}
 use lib.Seq.{length-take-le, drop-drop, take-at, drop-at}
 use Rattle.code.specs.Code.{Bytes}
 use Rattle.code.specs.Search.{Repaired}
@@ -26,6 +26,45 @@ row-next b j =
 
 pub bytes-split : (n : ℕ) (l : List ℕ) → Bytes l → Bytes (take n l) × Bytes (drop n l)
 bytes-split n l y = bytes-parts (take n l) (drop n l) (rw (take-append-drop n l) y)
+
+pub none-left : (l : List ℕ) → length l ≡ 0 → [] ≡ l
+none-left [] e = refl
+none-left (x ∷ l) e = absurd (omega arith)
+
+-- ---- the first of some rows, and the others
+pub mend-first : (n i : ℕ) (b : List ℕ) → 0 < n → mendRows n i b ≡ behind (repairOf (take 255 b)) i (mendRows (n - 1) (suc i) (drop 255 b))
+unfolding mendRows
+mend-first n i b h = let e : n ≡ suc (n - 1) = omega arith in ap (λ (m : ℕ). mendRows m i b) e
+
+-- ---- rows, each within eight bytes of a coded row, come to those coded rows
+pub mend-whole : (n i : ℕ) (b c : List ℕ) → Bytes b → length b ≡ n * 255 → length c ≡ n * 255
+    → ((j : ℕ) → j < n → Near (rowOf b j) (rowOf c j)) → mendRows n i b ≡ whole c
+unfolding mendRows
+mend-whole zero i b c y e d near = ap whole (none-left c d)
+mend-whole (suc n) i b c y e d near =
+    let first : repairOf (take 255 b) ≡ found (take 255 c) =
+    repair-found (take 255 b) (take 255 c) (length-take-le 255 b (omega arith)) (bytes-split 255 b y .0) (near 0 (omega arith)) in
+    let rest : mendRows n (suc i) (drop 255 b) ≡ whole (drop 255 c) =
+    mend-whole n (suc i) (drop 255 b) (drop 255 c) (bytes-split 255 b y .1) (length-drop 255 b ∙ omega arith) (length-drop 255 c ∙ omega arith)
+    (λ j h. rw (row-next b j, row-next c j) (near (suc j) (omega arith))) in
+    ap₂ (λ (x : Repaired) (m : Mended). behind x i m) first rest ∙ ap whole (take-append-drop 255 c)
+
+-- ---- the length stays
+pub mend-length : (n i : ℕ) (b c : List ℕ) → mendRows n i b ≡ whole c → length c ≡ n * 255
+unfolding mendRows
+mend-length zero i b c e = let w : [] ≡ c = cc in ap length (sym w)
+mend-length (suc n) i b c e = by (repairOf (take 255 b)) refl (mendRows n (suc i) (drop 255 b)) refl e (mend-length n (suc i) (drop 255 b))
+  where
+    by : (a : Repaired) → repairOf (take 255 b) ≡ a → (m : Mended) → mendRows n (suc i) (drop 255 b) ≡ m → behind a i m ≡ whole c
+        → ((d : List ℕ) → mendRows n (suc i) (drop 255 b) ≡ whole d → length d ≡ n * 255) → length c ≡ suc n * 255
+    by (found s) p (whole d) r e ih =
+        let w : s ++ d ≡ c = cc in
+        let x : length s ≡ 255 = repair-near (take 255 b) s p .coded .sized in
+        let y : length d ≡ n * 255 = ih d r in
+        let z : length c ≡ length s + length d = ap length (sym w) ∙ length-append s d in
+        omega arith
+    by (found s) p (broken j) r e ih = let z : _≡_ {A = ℕ} 0 1 = cc in absurd (omega arith)
+    by none p m r e ih = let z : _≡_ {A = ℕ} 0 1 = cc in absurd (omega arith)
 
 -- ---- whole: each row is near
 

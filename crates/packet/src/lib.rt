@@ -26,6 +26,8 @@ impl Packet {
     pub const CRC: usize = 4;
     // The longest payload.
     pub const LARGEST: usize = 4077;
+    // The longest with protection: fifteen rows.
+    pub const PROTECTED: usize = 3825;
 }
 
 // What reading a packet's fields finds.
@@ -205,7 +207,7 @@ pub fn size_fits(protection: u8, size: u16) -> bool
     if size % 255 != 0 {
         return false;
     }
-    255 <= size && size <= 3825
+    255 <= size && size as usize <= Packet::PROTECTED
 }
 
 // Whether every setting is within its range, type 0 being outside. Without protection any M is taken.

@@ -11,7 +11,7 @@ use Rattle.code.specs.Mend.{whole, broken, mendRows}
 use Rattle.code.proofs.Mend.{bytes-split, mend-near, FirstLost, mend-broken, broken-mend}
 use Rattle.record.specs.Mend.{payloadIn, mendedIn}
 use Rattle.record.proofs.OfferCases.{mended-rows}
-use Rattle.record.proofs.MendLaws.{mend-whole, mend-length}
+use Rattle.code.proofs.Mend.{mend-whole, mend-length}
 use Rattle.promises.specs.Statements.{RowsNear, FirstBroken, WholeRows, MendsEachRow}
 
 module _ (q : List ℕ) where

@@ -11,62 +11,12 @@ use lib.Dec.{eqb, ltb}
 use lib.ListN.{length, getD, take, drop, length-append, length-drop, take-append-drop}
 use lib.Seq.{length-take-le, drop-drop, getD-drop, getD-take}
 use Rattle.code.specs.Code.{Bytes, Coded, distance}
-use Rattle.code.specs.Search.{Repaired}
-use Rattle.code.specs.Search.Repaired.{found, none}
-use Rattle.code.specs.Repair.{Near, repairOf}
-use Rattle.code.proofs.Lists.{bytes-parts}
-use Rattle.code.proofs.Exact.{repair-near, repair-found}
+use Rattle.code.proofs.Mend.{rowOf, bytes-split, mend-whole, mend-length}
 use Rattle.packet.specs.Packet.{readOf}
 use Rattle.packet.proofs.Laws.{fields-first}
 use Rattle.code.specs.Mend.{Mended, whole, broken, behind, mendRows}
 use Rattle.record.specs.Mend.{payloadIn, mendedIn, crcIn, agrees}
 use Rattle.record.proofs.OfferCases.{payload-length, mended-plain, mended-rows}
-
--- row j of some bytes
-abbrev pub rowOf : List ℕ → ℕ → List ℕ
-rowOf b j = take 255 (drop (j * 255) b)
-
-row-next : (b : List ℕ) (j : ℕ) → rowOf (drop 255 b) j ≡ rowOf b (suc j)
-row-next b j =
-    let e : 255 + j * 255 ≡ suc j * 255 = omega arith in
-    ap (take 255) (drop-drop (j * 255) 255 b ∙ ap (λ (x : ℕ). drop x b) e)
-
-bytes-split : (n : ℕ) (l : List ℕ) → Bytes l → Bytes (take n l) × Bytes (drop n l)
-bytes-split n l y = bytes-parts (take n l) (drop n l) (rw (take-append-drop n l) y)
-
-none-left : (l : List ℕ) → length l ≡ 0 → [] ≡ l
-none-left [] e = refl
-none-left (x ∷ l) e = absurd (omega arith)
-
--- ---- rows, each within eight bytes of a coded row, come to those coded rows
-pub mend-whole : (n i : ℕ) (b c : List ℕ) → Bytes b → length b ≡ n * 255 → length c ≡ n * 255
-    → ((j : ℕ) → j < n → Near (rowOf b j) (rowOf c j)) → mendRows n i b ≡ whole c
-unfolding mendRows
-mend-whole zero i b c y e d near = ap whole (none-left c d)
-mend-whole (suc n) i b c y e d near =
-    let first : repairOf (take 255 b) ≡ found (take 255 c) =
-    repair-found (take 255 b) (take 255 c) (length-take-le 255 b (omega arith)) (bytes-split 255 b y .0) (near 0 (omega arith)) in
-    let rest : mendRows n (suc i) (drop 255 b) ≡ whole (drop 255 c) =
-    mend-whole n (suc i) (drop 255 b) (drop 255 c) (bytes-split 255 b y .1) (length-drop 255 b ∙ omega arith) (length-drop 255 c ∙ omega arith)
-    (λ j h. rw (row-next b j, row-next c j) (near (suc j) (omega arith))) in
-    ap₂ (λ (x : Repaired) (m : Mended). behind x i m) first rest ∙ ap whole (take-append-drop 255 c)
-
--- ---- the length stays
-pub mend-length : (n i : ℕ) (b c : List ℕ) → mendRows n i b ≡ whole c → length c ≡ n * 255
-unfolding mendRows
-mend-length zero i b c e = let w : [] ≡ c = cc in ap length (sym w)
-mend-length (suc n) i b c e = by (repairOf (take 255 b)) refl (mendRows n (suc i) (drop 255 b)) refl e (mend-length n (suc i) (drop 255 b))
-  where
-    by : (a : Repaired) → repairOf (take 255 b) ≡ a → (m : Mended) → mendRows n (suc i) (drop 255 b) ≡ m → behind a i m ≡ whole c
-        → ((d : List ℕ) → mendRows n (suc i) (drop 255 b) ≡ whole d → length d ≡ n * 255) → length c ≡ suc n * 255
-    by (found s) p (whole d) r e ih =
-        let w : s ++ d ≡ c = cc in
-        let x : length s ≡ 255 = repair-near (take 255 b) s p .coded .sized in
-        let y : length d ≡ n * 255 = ih d r in
-        let z : length c ≡ length s + length d = ap length (sym w) ∙ length-append s d in
-        omega arith
-    by (found s) p (broken j) r e ih = let z : _≡_ {A = ℕ} 0 1 = cc in absurd (omega arith)
-    by none p m r e ih = let z : _≡_ {A = ℕ} 0 1 = cc in absurd (omega arith)
 
 pub mended-length : (t : ℕ) (q b : List ℕ) → 18 ≤ length q → (t ≡ 0) ⊎ ((length q - 18) % 255 ≡ 0) → mendedIn t q ≡ whole b → length b ≡ length q - 18
 mended-length t q b h m e = by (eqb t 0) refl

@@ -10,7 +10,6 @@ use borrow.Author.Tests.{eqb-true, eqb-false, ltb-false}
 use lib.Dec.{eqb, ltb}
 use lib.ListN.{length, getD, set}
 use lib.Seq.{getD-set-same, getD-set-other}
-use Rattle.ground.proofs.OneResult.{equation}
 use Rattle.refusals.specs.declared.Refusal.{Refusal}
 use Rattle.refusals.specs.declared.Refusal.the-variants.{Unknown, Other, Wide, Crc, Conflict}
 use Rattle.packet.specs.declared.Packet.{Packet}
@@ -353,8 +352,3 @@ module _ (h : Record) (s t q : List ℕ) (n : length s ≡ length t) where
         names : (x : Bool) → eqb (resourceIn q) r ≡ x → Alike
         names true z = judged (eqb-true _ _ z) (good (length s) (h .places)) refl
         names false z = offer-other h s q r j w (λ l. eqb-false _ _ z) ∙ c ∙ sym (offer-other h t q r j w (λ l. eqb-false _ _ z))
-
--- ---- one result: of two that the contract allows the answers are equal, and so are the stores
-pub offer-one : (h : Record) (s q : List ℕ) (a a′ : Offered) (t t′ : List ℕ)
-    → (a ≡ offerOf h s q .answer) × (t ≡ offerOf h s q .store) → (a′ ≡ offerOf h s q .answer) × (t′ ≡ offerOf h s q .store) → (a ≡ a′) × (t ≡ t′)
-offer-one h s q a a′ t t′ x y = (equation (x .0) (y .0), equation (x .1) (y .1))

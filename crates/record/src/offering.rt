@@ -96,7 +96,7 @@ fn offer_rows(p: Place, store: &mut [u8], number: u32, packet: &[u8]) -> Offered
     let end = packet.len() - Packet::CRC;
     let payload = &packet[Packet::HEADER..end];
     let n = payload.len();
-    let mut buffer = [0u8; 3825];
+    let mut buffer = [0u8; Packet::PROTECTED];
     contents::copy_in(&mut buffer, 0, payload);
     let verdict = repair::mend(&mut buffer[..n]);
     if let Verdict::Refused(refusal) = verdict {

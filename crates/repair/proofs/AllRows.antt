@@ -20,7 +20,7 @@ use Rattle.code.specs.Search.Repaired.{found, none}
 use Rattle.code.specs.Repair.{Near, repairOf}
 use Rattle.code.specs.Mend.{Mended as Whole, whole, broken, behind, mendRows}
 use Rattle.code.proofs.Exact.{repair-found, repair-none}
-use Rattle.code.proofs.Lists.{bytes-parts}
+use Rattle.code.proofs.Mend.{mend-first, none-left, bytes-split}
 use Rattle.encoding.specs.Encode.{restOf, remaindersOf}
 use Rattle.encoding.proofs.Feeding.{rest-there, length-rest}
 use Rattle.ground.proofs.Listed.{listed-part}
@@ -30,10 +30,6 @@ use Rattle.repair.specs.Repair.{mendedAs, mendOf, Mending, mendingAs, me
 use Rattle.repair.specs.InnerErrata.{entries, mendedBy, Searched}
 use Rattle.repair.specs.InnerRows.{Resting, addedIf}
 use Rattle.repair.proofs.Mending.{mended-length}
-
-none-left : (l : List ℕ) → length l ≡ 0 → l ≡ []
-none-left [] e = refl
-none-left (x ∷ l) e = absurd (omega arith)
 
 -- ---- the row at the front
 
@@ -50,7 +46,7 @@ mended-front x y a c (suc k) h =
 -- a part behind the first row, lent and given back
 pub lent-behind : (l ys : List ℕ) → 255 ≤ length l → putMid 255 (length l - 255) l ys ≡ take 255 l ++ ys
 lent-behind l ys h =
-    let d : drop (length l - 255) (drop 255 l) ≡ [] = none-left (drop (length l - 255) (drop 255 l)) (length-drop (length l - 255) (drop 255 l) ∙ omega (arith, length-drop 255 l)) in
+    let d : drop (length l - 255) (drop 255 l) ≡ [] = sym (none-left (drop (length l - 255) (drop 255 l)) (length-drop (length l - 255) (drop 255 l) ∙ omega (arith, length-drop 255 l))) in
     ap (λ (x : List ℕ). take 255 l ++ (ys ++ x)) d ∙ ap (λ (x : List ℕ). take 255 l ++ x) (append-nil ys)
 
 pub back-length : (l ys : List ℕ) → 255 ≤ length l → 255 ≤ length (putMid 255 (length l - 255) l ys)
@@ -61,10 +57,6 @@ pub behind-part : (b : List ℕ) → take (length b - 255) (drop 255 b) ≡ drop
 behind-part b = take-all (length b - 255) (drop 255 b) (omega (arith, length-drop 255 b))
 
 -- ---- rows one by one
-
-mend-first : (n i : ℕ) (b : List ℕ) → 0 < n → mendRows n i b ≡ behind (repairOf (take 255 b)) i (mendRows (n - 1) (suc i) (drop 255 b))
-unfolding mendRows
-mend-first n i b h = let e : n ≡ suc (n - 1) = omega arith in ap (λ (m : ℕ). mendRows m i b) e
 
 pub no-rows : (b : List ℕ) (i : ℕ) → length b ≡ 0 → Mends (mendingAs b (mendRows (length b / 255) i b)) Accepted b
 unfolding mendRows
@@ -163,7 +155,7 @@ module _ (b : List ℕ) (some : 255 ≤ length b) (bytes : Bytes b) (rest : List
   long = length-take-le 255 b some
 
   row-bytes : Bytes (take 255 b)
-  row-bytes = bytes-parts (take 255 b) (drop 255 b) (rw (take-append-drop 255 b) bytes) .0
+  row-bytes = bytes-split 255 b bytes .0
 
   module _ (n : ℕ) (at c : List ℕ) (fits : Bool) (w : Searched rest n at c fits) where
     pub row-found : fits ≡ true → repairOf (take 255 b) ≡ found (mendedBy (take 255 b) (entries at) (entries c) n)
