@@ -1,9 +1,1 @@
-pub mod SayLaws
-pub mod PackLaws
-pub mod RecordLaws
-pub mod LayoutLaws
-pub mod HoldLaws
-pub mod StatusLaws
-pub mod RefusedLaws
-pub mod FollowLaws
 pub mod OneResult

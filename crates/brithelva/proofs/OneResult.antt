@@ -4,7 +4,7 @@ use mathlib.Core.Path.{_≡_}
 use mathlib.Core.List.{List}
 use Prim.Native.Nat.{ℕ}
 use Rattle.ground.proofs.OneResult.{equation}
-use Rattle.brithelva.specs.Face.{Said, Says, Kept, Keeps}
+use Rattle.face.specs.Face.{Said, Says, Kept, Keeps}
 
 pub says-one : (p : Said) (r s : ℕ) (x y : List ℕ) → Says p r x → Says p s y → (r ≡ s) × (x ≡ y)
 says-one p r s x y a b = (equation (a .answers) (b .answers), equation (a .leaves) (b .leaves))

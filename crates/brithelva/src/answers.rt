@@ -3,7 +3,7 @@ ghost use mathlib.Core.Path.{_≡_};
 ghost use Prim.Native.Nat.{_+_, _<_, _≤_};
 ghost use lib.ListN.{length};
 ghost use lib.Seq.{sets};
-ghost use Rattle.brithelva.specs.Face.{Says, refused, verdictOf, puts, putsIf, packedAs, offeredAs, lowestAs, standingAs};
+ghost use Rattle.face.specs.Face.{Says, refused, verdictOf, puts, putsIf, packedAs, offeredAs, lowestAs, standingAs};
 use pack::Packed;
 use places::Found;
 use readout::Standing;

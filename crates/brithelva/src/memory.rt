@@ -2,7 +2,7 @@
 ghost use mathlib.Core.Path.{_≡_};
 ghost use Prim.Native.Nat.{_+_, _*_, _≤_};
 ghost use lib.ListN.{length};
-ghost use Rattle.brithelva.specs.Layout.{two, four, placeIn, recordIn, placeBytes, recordBytes};
+ghost use Rattle.face.specs.Layout.{two, four, placeIn, recordIn, placeBytes, recordBytes};
 use super::answers;
 use places::Place;
 use places::Record;

@@ -1,6 +1,6 @@
 -- Bytes that are no record are refused; else the record in them is closed and put back.
 use borrow.Author.Needs.{needs}
-use Rattle.brithelva.proofs.HoldLaws.{close-bad, close-says}
+use Rattle.face.proofs.HoldLaws.{close-bad, close-says}
 use Rattle.brithelva.proofs.bh_close.Statement.{statement}
 use Rattle.brithelva.proofs.bh_close.Tie as tie
 

@@ -1,5 +1,5 @@
 -- The verdict and the checks are those of the row that was encoded.
-use Rattle.brithelva.proofs.SayLaws.{encode-says}
+use Rattle.face.proofs.SayLaws.{encode-says}
 use borrow.Author.Needs.{needs}
 use Rattle.brithelva.proofs.bh_encode_row.Statement.{statement}
 use Rattle.brithelva.proofs.bh_encode_row.Tie as tie

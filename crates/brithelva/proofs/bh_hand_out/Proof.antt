@@ -1,6 +1,6 @@
 -- Bytes that are no record are refused; else the file is handed out from the record in them.
 use borrow.Author.Needs.{needs}
-use Rattle.brithelva.proofs.HoldLaws.{hand-bad, hand-says}
+use Rattle.face.proofs.HoldLaws.{hand-bad, hand-says}
 use Rattle.brithelva.proofs.bh_hand_out.Statement.{statement}
 use Rattle.brithelva.proofs.bh_hand_out.Tie as tie
 

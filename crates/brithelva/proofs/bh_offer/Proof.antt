@@ -1,6 +1,6 @@
 -- Bytes that are no record are refused; else the packet is offered to the record in them.
 use borrow.Author.Needs.{needs}
-use Rattle.brithelva.proofs.HoldLaws.{offer-bad, offer-says}
+use Rattle.face.proofs.HoldLaws.{offer-bad, offer-says}
 use Rattle.brithelva.proofs.bh_offer.Statement.{statement}
 use Rattle.brithelva.proofs.bh_offer.Tie as tie
 

@@ -1,6 +1,6 @@
 -- Bytes that are no record are refused; else the record in them is opened and put back.
 use borrow.Author.Needs.{needs}
-use Rattle.brithelva.proofs.HoldLaws.{open-bad, open-says}
+use Rattle.face.proofs.HoldLaws.{open-bad, open-says}
 use Rattle.brithelva.proofs.bh_open.Statement.{statement}
 use Rattle.brithelva.proofs.bh_open.Tie as tie
 

@@ -1,6 +1,6 @@
 -- The same under the house setting.
 use borrow.Author.Needs.{needs}
-use Rattle.brithelva.proofs.HoldLaws.{open-bad, open-says}
+use Rattle.face.proofs.HoldLaws.{open-bad, open-says}
 use Rattle.brithelva.proofs.bh_open_house.Statement.{statement}
 use Rattle.brithelva.proofs.bh_open_house.Tie as tie
 

@@ -1,5 +1,5 @@
 -- What packing answers and leaves, its answer as a number, which fits since no packet has more than 4095 bytes.
-use Rattle.brithelva.proofs.PackLaws.{packed-fits, pack-says}
+use Rattle.face.proofs.PackLaws.{packed-fits, pack-says}
 use borrow.Author.Needs.{needs}
 use Rattle.brithelva.proofs.bh_pack.Statement.{statement}
 use Rattle.brithelva.proofs.bh_pack.Tie as tie

@@ -1,5 +1,5 @@
 -- The same under the house setting.
-use Rattle.brithelva.proofs.PackLaws.{packed-fits, pack-says}
+use Rattle.face.proofs.PackLaws.{packed-fits, pack-says}
 use borrow.Author.Needs.{needs}
 use Rattle.brithelva.proofs.bh_pack_house.Statement.{statement}
 use Rattle.brithelva.proofs.bh_pack_house.Tie as tie

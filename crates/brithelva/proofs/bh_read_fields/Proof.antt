@@ -1,6 +1,6 @@
 -- The fields that were read are listed and put; a refusal is answered.
 use mathlib.Core.Path.{sym, _∙_}
-use Rattle.brithelva.proofs.SayLaws.{read-sent, read-refused}
+use Rattle.face.proofs.SayLaws.{read-sent, read-refused}
 use borrow.Author.Needs.{needs}
 use Rattle.brithelva.proofs.bh_read_fields.Statement.{statement}
 use Rattle.brithelva.proofs.bh_read_fields.Tie as tie

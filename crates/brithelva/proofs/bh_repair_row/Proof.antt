@@ -1,5 +1,5 @@
 -- The verdict and the row are those of the repair.
-use Rattle.brithelva.proofs.SayLaws.{repair-says}
+use Rattle.face.proofs.SayLaws.{repair-says}
 use borrow.Author.Needs.{needs}
 use Rattle.brithelva.proofs.bh_repair_row.Statement.{statement}
 use Rattle.brithelva.proofs.bh_repair_row.Tie as tie

@@ -1,6 +1,6 @@
 -- Bytes that are no record are refused; else the resource is looked up in the record in them, whose counts fit an answer.
 use borrow.Author.Needs.{needs}
-use Rattle.brithelva.proofs.StatusLaws.{status-bad, status-says, standing-fits}
+use Rattle.face.proofs.StatusLaws.{status-bad, status-says, standing-fits}
 use Rattle.brithelva.proofs.bh_status.Statement.{statement}
 use Rattle.brithelva.proofs.bh_status.Tie as tie
 

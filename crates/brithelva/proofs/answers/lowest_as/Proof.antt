@@ -3,7 +3,7 @@ use mathlib.Core.Path.{sym, ap, subst}
 use Prim.Native.Nat.{_<_}
 use native.Mathlib.Omega.{arith}
 use Rattle.places.specs.declared.Found.{Found}
-use Rattle.brithelva.specs.Face.{lowestAs}
+use Rattle.face.specs.Face.{lowestAs}
 use borrow.Author.Needs.{needs}
 use Rattle.brithelva.proofs.answers.lowest_as.Statement.{statement}
 use Rattle.brithelva.proofs.answers.lowest_as.Tie as tie

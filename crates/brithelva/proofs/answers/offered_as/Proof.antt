@@ -1,6 +1,6 @@
 -- Each answer of an offer has its number by definition.
 use mathlib.Core.Path.{sym, ap, _∙_}
-use Rattle.brithelva.specs.Face.{offeredAs}
+use Rattle.face.specs.Face.{offeredAs}
 use borrow.Author.Needs.{needs}
 use Rattle.brithelva.proofs.answers.offered_as.Statement.{statement}
 use Rattle.brithelva.proofs.answers.offered_as.Tie as tie

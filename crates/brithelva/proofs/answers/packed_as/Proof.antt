@@ -3,7 +3,7 @@ use mathlib.Core.Path.{sym, ap, subst, _∙_}
 use Prim.Native.Nat.{_<_}
 use native.Mathlib.Omega.{arith}
 use Rattle.pack.specs.declared.Packed.{Packed}
-use Rattle.brithelva.specs.Face.{packedAs}
+use Rattle.face.specs.Face.{packedAs}
 use borrow.Author.Needs.{needs}
 use Rattle.brithelva.proofs.answers.packed_as.Statement.{statement}
 use Rattle.brithelva.proofs.answers.packed_as.Tie as tie

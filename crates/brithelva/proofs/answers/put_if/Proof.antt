@@ -1,5 +1,5 @@
 -- An accepted verdict puts the bytes; a refused one is answered, and the output stays.
-use Rattle.brithelva.proofs.SayLaws.{puts-accepted, puts-refused}
+use Rattle.face.proofs.SayLaws.{puts-accepted, puts-refused}
 use borrow.Author.Needs.{needs}
 use Rattle.brithelva.proofs.answers.put_if.Statement.{statement}
 use Rattle.brithelva.proofs.answers.put_if.Tie as tie

@@ -5,7 +5,7 @@ use native.Mathlib.Omega.{arith}
 use Rattle.places.specs.declared.Found.{Found}
 use Rattle.readout.specs.declared.Standing.{Standing}
 use Rattle.readout.specs.declared.Standing.the-variants.{Filled}
-use Rattle.brithelva.specs.Face.{lowestAs, standingAs}
+use Rattle.face.specs.Face.{lowestAs, standingAs}
 use borrow.Author.Needs.{needs}
 use Rattle.brithelva.proofs.answers.standing_as.Statement.{statement}
 use Rattle.brithelva.proofs.answers.standing_as.Tie as tie

@@ -1,6 +1,6 @@
 -- Each verdict has its answer by definition.
 use mathlib.Core.Path.{sym, ap, _∙_}
-use Rattle.brithelva.specs.Face.{verdictOf}
+use Rattle.face.specs.Face.{verdictOf}
 use borrow.Author.Needs.{needs}
 use Rattle.brithelva.proofs.answers.verdict_of.Statement.{statement}
 use Rattle.brithelva.proofs.answers.verdict_of.Tie as tie

@@ -1,6 +1,6 @@
 -- The sixteen entries are those of the definition, and none is too large for a byte.
 use mathlib.Core.Path.{refl}
-use Rattle.brithelva.specs.Layout.{placeBytes}
+use Rattle.face.specs.Layout.{placeBytes}
 use borrow.Author.Needs.{needs}
 use Rattle.brithelva.proofs.memory.place_bytes.Statement.{statement}
 use Rattle.brithelva.proofs.memory.place_bytes.Tie as tie

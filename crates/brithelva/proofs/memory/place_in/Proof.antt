@@ -1,5 +1,5 @@
 -- Each field is taken from the bytes of the definition.
-use Rattle.brithelva.specs.Layout.{placeIn}
+use Rattle.face.specs.Layout.{placeIn}
 use borrow.Author.Needs.{needs}
 use Rattle.brithelva.proofs.memory.place_in.Statement.{statement}
 use Rattle.brithelva.proofs.memory.place_in.Tie as tie

@@ -5,8 +5,8 @@ use native.Mathlib.Omega.{arith}
 use borrow.Author.Needs.{needs}
 use lib.ListN.{length}
 use Rattle.places.proofs.Steps.{mapped-length}
-use Rattle.brithelva.specs.Layout.{recordBytes}
-use Rattle.brithelva.proofs.RecordLaws.{Putting, put-begin, put-step, put-end}
+use Rattle.face.specs.Layout.{recordBytes}
+use Rattle.face.proofs.RecordLaws.{Putting, put-begin, put-step, put-end}
 use Rattle.brithelva.proofs.memory.put_record.Statement.{statement}
 use Rattle.brithelva.proofs.memory.put_record.Tie as tie
 

@@ -1,5 +1,5 @@
 -- The eight places stand sixteen bytes apart.
-use Rattle.brithelva.specs.Layout.{recordIn}
+use Rattle.face.specs.Layout.{recordIn}
 use borrow.Author.Needs.{needs}
 use Rattle.brithelva.proofs.memory.record_in.Statement.{statement}
 use Rattle.brithelva.proofs.memory.record_in.Tie as tie

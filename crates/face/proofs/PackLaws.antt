@@ -16,7 +16,7 @@ use Rattle.pack.specs.declared.Packed.{Packed}
 use Rattle.pack.specs.declared.Packed.the-variants.{Written}
 use Rattle.pack.specs.Pack.{largestFile, countOf, packetOf, refusing, written, packOf, Packs}
 use Rattle.pack.proofs.Laws.{length-packet, length-payload}
-use Rattle.brithelva.specs.Face.{Says, packedAs, packSays}
+use Rattle.face.specs.Face.{Says, packedAs, packSays}
 
 module _ (file : List ℕ) (g : Settings) (n : ℕ) (out : List ℕ) where
   packet-short : settingsFit g ≡ true → length (packetOf g file n) ≤ 4095

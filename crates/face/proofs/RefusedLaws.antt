@@ -34,10 +34,10 @@ use Rattle.record.proofs.OpenLaws.{refused-record, refused-store, refused-plan}
 use Rattle.record.proofs.OfferLaws.{offer-refused}
 use Rattle.readout.proofs.HandLaws.{hand-refused}
 use Rattle.code.specs.Code.{Bytes}
-use Rattle.brithelva.specs.Layout.{recordIn, recordBytes}
-use Rattle.brithelva.specs.Face.{Said, Kept, refused, verdictOf, badRecord, puts, putsIf, encodeSays, repairSays, fieldList, readingSays, readSays, packedAs, packSays, openSays, closeSays, offeredAs, offerSays, handSays}
-use Rattle.brithelva.specs.Statements.{numberIn, OutputKept, RecordKept, RefusalsChangeNothing}
-use Rattle.brithelva.proofs.LayoutLaws.{bytes-again}
+use Rattle.face.specs.Layout.{recordIn, recordBytes}
+use Rattle.face.specs.Face.{Said, Kept, refused, verdictOf, badRecord, puts, putsIf, encodeSays, repairSays, fieldList, readingSays, readSays, packedAs, packSays, openSays, closeSays, offeredAs, offerSays, handSays}
+use Rattle.face.specs.Statements.{numberIn, OutputKept, RecordKept, RefusalsChangeNothing}
+use Rattle.face.proofs.LayoutLaws.{bytes-again}
 
 -- ---- what is said of the definitions is said of every result that a contract allows
 

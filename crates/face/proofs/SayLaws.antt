@@ -20,7 +20,7 @@ use Rattle.packet.specs.declared.Packet.{Packet}
 use Rattle.packet.specs.declared.Reading.{Reading}
 use Rattle.packet.specs.declared.Reading.the-variants.{Sent}
 use Rattle.packet.specs.Packet.{readOf}
-use Rattle.brithelva.specs.Face.{Said, Says, refused, puts, putsIf, encodeSays, repairSays, fieldList, readingSays, readSays}
+use Rattle.face.specs.Face.{Said, Says, refused, puts, putsIf, encodeSays, repairSays, fieldList, readingSays, readSays}
 
 -- the same said in another way
 says-as : {p q : Said} {r : ℕ} {out : List ℕ} → p ≡ q → Says p r out → Says q r out

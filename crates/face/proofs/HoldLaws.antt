@@ -15,8 +15,8 @@ use Rattle.record.specs.declared.Offered.{Offered}
 use Rattle.record.specs.Open.{openOf, Opens, closeOf}
 use Rattle.record.specs.Offer.{offerOf}
 use Rattle.readout.specs.Hand.{handOutOf}
-use Rattle.brithelva.specs.Layout.{recordIn, recordBytes}
-use Rattle.brithelva.specs.Face.{Keeps, verdictOf, badRecord, openSays, closeSays, Says, offeredAs, offerSays, handSays}
+use Rattle.face.specs.Layout.{recordIn, recordBytes}
+use Rattle.face.specs.Face.{Keeps, verdictOf, badRecord, openSays, closeSays, Says, offeredAs, offerSays, handSays}
 
 module _ (h s : List ℕ) where
   module _ (g : Settings) (count : ℕ) (r : ℕ) where

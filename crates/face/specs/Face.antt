@@ -29,7 +29,7 @@ use Rattle.readout.specs.declared.Standing.the-variants.{Filled}
 use Rattle.record.specs.Open.{openOf, closeOf}
 use Rattle.record.specs.Offer.{offerOf}
 use Rattle.readout.specs.Hand.{statusOf, handOutOf}
-use Rattle.brithelva.specs.Layout.{recordIn, recordBytes}
+use Rattle.face.specs.Layout.{recordIn, recordBytes}
 
 abbrev pub accepted : ℕ → ℕ
 accepted value = 256 * value

@@ -21,8 +21,8 @@ use Rattle.contents.proofs.Filled.{filled-most, lowest-found}
 use Rattle.readout.specs.declared.Standing.{Standing}
 use Rattle.readout.specs.declared.Standing.the-variants.{Filled}
 use Rattle.readout.specs.Hand.{standingIn, statusFound, statusOf}
-use Rattle.brithelva.specs.Layout.{recordIn}
-use Rattle.brithelva.specs.Face.{badRecord, lowestAs, standingAs, statusSays}
+use Rattle.face.specs.Layout.{recordIn}
+use Rattle.face.specs.Face.{badRecord, lowestAs, standingAs, statusSays}
 
 lowest-short : (c : List Content) → lowestAs (lowestEmpty c 0) ≤ length c
 lowest-short c = by (lowestEmpty c 0) refl
