@@ -3,7 +3,12 @@ ghost use mathlib.Core.Path.{_≡_};
 ghost use Prim.Native.Nat.{_+_, _<_, _≤_};
 ghost use lib.ListN.{length};
 ghost use lib.Seq.{sets};
-ghost use Rattle.face.specs.Face.{Says, refused, verdictOf, puts, putsIf, packedAs, offeredAs, lowestAs, standingAs};
+ghost use Rattle.refusals.specs.Told.{refusedAs, verdictTold};
+ghost use Rattle.pack.specs.Told.{packedTold};
+ghost use Rattle.record.specs.Told.{offeredTold};
+ghost use Rattle.readout.specs.declared.Standing.the-variants.{Filled};
+ghost use Rattle.readout.specs.Told.{standingTold};
+ghost use Rattle.face.specs.Face.{answerOf, Says, puts, putsIf};
 use pack::Packed;
 use places::Found;
 use readout::Standing;
@@ -13,14 +18,14 @@ use refusals::Verdict;
 
 // A refusal's number and value.
 pub(crate) fn refused(r: Refusal) -> u64
-    ensures { λ n. ⌜ n ≡ refused r ⌝ }
+    ensures { λ n. ⌜ n ≡ answerOf (refusedAs r) ⌝ }
 {
     refusals::number(r) as u64 + 256 * refusals::value(r) as u64
 }
 
 // What is answered where nothing is handed over.
 pub(crate) fn verdict_of(verdict: Verdict) -> u64
-    ensures { λ n. ⌜ n ≡ verdictOf verdict ⌝ }
+    ensures { λ n. ⌜ n ≡ answerOf (verdictTold verdict) ⌝ }
 {
     match verdict {
         Verdict::Accepted => 0,
@@ -30,8 +35,8 @@ pub(crate) fn verdict_of(verdict: Verdict) -> u64
 
 // What packing answers: a packet's length as the value.
 pub(crate) fn packed_as(packed: Packed) -> u64
-    requires { ⌜ packedAs packed < 18446744073709551616 ⌝ }
-    ensures { λ n. ⌜ n ≡ packedAs packed ⌝ }
+    requires { ⌜ answerOf (packedTold packed) < 18446744073709551616 ⌝ }
+    ensures { λ n. ⌜ n ≡ answerOf (packedTold packed) ⌝ }
 {
     match packed {
         Packed::Written(n) => 256 * n as u64,
@@ -41,7 +46,7 @@ pub(crate) fn packed_as(packed: Packed) -> u64
 
 // What offering answers: 1 as the value where the slot held the payload already.
 pub(crate) fn offered_as(offered: Offered) -> u64
-    ensures { λ n. ⌜ n ≡ offeredAs offered ⌝ }
+    ensures { λ n. ⌜ n ≡ answerOf (offeredTold offered) ⌝ }
 {
     match offered {
         Offered::Stored => 0,
@@ -50,24 +55,24 @@ pub(crate) fn offered_as(offered: Offered) -> u64
     }
 }
 
-// A slot's number plus one, or 0 for none.
-fn lowest_as(lowest: Found) -> u64
-    requires { ⌜ lowestAs lowest < 18446744073709551616 ⌝ }
-    ensures { λ n. ⌜ n ≡ lowestAs lowest ⌝ }
+// The filled slots, and the lowest empty one plus one in front of them where there is one.
+fn filled_as(n: u32, lowest: Found) -> u64
+    requires { ⌜ answerOf (standingTold (Filled n lowest)) < 18446744073709551616 ⌝ }
+    ensures { λ r. ⌜ r ≡ answerOf (standingTold (Filled n lowest)) ⌝ }
 {
     match lowest {
-        Found::At(i) => i as u64 + 1,
-        Found::Nothing => 0,
+        Found::At(i) => 256 * (n as u64 + 16777216 * (i as u64 + 1)),
+        Found::Nothing => 256 * n as u64,
     }
 }
 
 // What status answers: the filled slots and the lowest empty one.
 pub(crate) fn standing_as(standing: Standing) -> u64
-    requires { ⌜ standingAs standing < 18446744073709551616 ⌝ }
-    ensures { λ n. ⌜ n ≡ standingAs standing ⌝ }
+    requires { ⌜ answerOf (standingTold standing) < 18446744073709551616 ⌝ }
+    ensures { λ n. ⌜ n ≡ answerOf (standingTold standing) ⌝ }
 {
     match standing {
-        Standing::Filled(n, lowest) => 256 * (n as u64 + 16777216 * lowest_as(lowest)),
+        Standing::Filled(n, lowest) => filled_as(n, lowest),
         Standing::Refused(r) => refused(r),
     }
 }
@@ -97,7 +102,7 @@ pub(crate) fn put(bytes: &[u8], out: &mut [u8]) -> u64
 
 // The bytes that go with a verdict.
 pub(crate) fn put_if(verdict: Verdict, bytes: &[u8], out: &mut [u8]) -> u64
-    ensures { λ r. ⌜ Says (putsIf verdict (now (bytes .entry)) (now (out .entry))) r (now (out .exit)) ⌝ }
+    ensures { λ r. ⌜ Says (putsIf (verdictTold verdict) (now (bytes .entry)) (now (out .entry))) r (now (out .exit)) ⌝ }
 {
     match verdict {
         Verdict::Accepted => put(bytes, out),

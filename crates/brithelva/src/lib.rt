@@ -2,7 +2,8 @@
 ghost use mathlib.Core.Path.{_≡_};
 ghost use Rattle.crc.specs.Crc.{crc32Of};
 ghost use Rattle.packet.specs.Settings.{house};
-ghost use Rattle.face.specs.Face.{Says, Keeps, encodeSays, repairSays, readSays, fieldList, packSays, openSays, offerSays, statusSays, handSays, closeSays};
+ghost use Rattle.packet.specs.Told.{fieldList};
+ghost use Rattle.face.specs.Face.{Says, Keeps, encodeSays, repairSays, readSays, packSays, openSays, offerSays, statusSays, handSays, closeSays};
 use packet::Packet;
 use packet::Reading;
 use packet::Settings;
