@@ -16,6 +16,9 @@ use record::Offered;
 use refusals::Refusal;
 use refusals::Verdict;
 
+// Record's number, for bytes lent as a record that are not 128.
+pub(crate) const NO_RECORD: u64 = 9;
+
 // A refusal's number and value.
 pub(crate) fn refused(r: Refusal) -> u64
     ensures { λ n. ⌜ n ≡ answerOf (refusedAs r) ⌝ }

@@ -61,9 +61,9 @@ unfolding repairSays
 repair-says row out r x made e s = says-as (ap (λ (m : Mended). putsIf (verdictTold (m .verdict)) (m .row) out) e) s
 
 module _ (q out : List ℕ) (r : ℕ) where
-  pub read-sent : (x : List ℕ) (f : Packet) (l : List ℕ) → readOf q ≡ Sent f → l ≡ fieldList f → Says (puts l out) r x → Says (readSays q out) r x
+  pub read-sent : (x : List ℕ) (f : Packet) → readOf q ≡ Sent f → Says (puts (fieldList f) out) r x → Says (readSays q out) r x
   unfolding readSays putsIf
-  read-sent x f l e d s = says-as (ap (λ (y : List ℕ). puts y out) d ∙ ap (λ (y : Reading). readingSays y out) (sym e)) s
+  read-sent x f e s = says-as (ap (λ (y : Reading). readingSays y out) (sym e)) s
 
   pub read-refused : (z : Refusal) → readOf q ≡ Reading.Refused z → r ≡ answerOf (refusedAs z) → Says (readSays q out) r out
   unfolding readSays
