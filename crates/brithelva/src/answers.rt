@@ -1,8 +1,6 @@
 // Answers as one number, and bytes or numbers put at the start of an output: the header include/brithelva.h says how.
 ghost use mathlib.Core.Path.{_≡_};
-ghost use Prim.Native.Nat.{_+_, _<_, _≤_};
-ghost use lib.ListN.{length};
-ghost use lib.Seq.{sets};
+ghost use Prim.Native.Nat.{_<_};
 ghost use Rattle.refusals.specs.Told.{refusedAs, verdictTold};
 ghost use Rattle.pack.specs.Told.{packedTold};
 ghost use Rattle.record.specs.Told.{offeredTold};
@@ -18,6 +16,9 @@ use refusals::Verdict;
 
 // Record's number, for bytes lent as a record that are not 128.
 pub(crate) const NO_RECORD: u64 = 9;
+
+// Output's number, for an output that is too short.
+pub(crate) const NO_ROOM: u64 = 26;
 
 // A refusal's number and value.
 pub(crate) fn refused(r: Refusal) -> u64
@@ -80,26 +81,14 @@ pub(crate) fn standing_as(standing: Standing) -> u64
     }
 }
 
-// The bytes, from byte `at` of the output on.
-pub(crate) fn copy_in(bytes: &[u8], out: &mut [u8], at: usize)
-    requires { ⌜ at + length (now bytes) ≤ length (now out) ⌝ }
-    ensures { λ r. ⌜ now (out .exit) ≡ sets (now (out .entry)) at (now (bytes .entry)) ⌝ }
-{
-    let mut i: usize = 0;
-    while i < bytes.len() {
-        out[at + i] = bytes[i];
-        i += 1;
-    }
-}
-
 // The bytes at the start of the output, if it has room.
 pub(crate) fn put(bytes: &[u8], out: &mut [u8]) -> u64
     ensures { λ r. ⌜ Says (puts (now (bytes .entry)) (now (out .entry))) r (now (out .exit)) ⌝ }
 {
     if out.len() < bytes.len() {
-        return refused(Refusal::Output);
+        return NO_ROOM;
     }
-    copy_in(bytes, out, 0);
+    contents::copy_in(out, 0, bytes);
     0
 }
 
@@ -111,27 +100,4 @@ pub(crate) fn put_if(verdict: Verdict, bytes: &[u8], out: &mut [u8]) -> u64
         Verdict::Accepted => put(bytes, out),
         Verdict::Refused(r) => refused(r),
     }
-}
-
-// Numbers, from number `at` of the output on.
-fn copy_numbers(numbers: &[u32], out: &mut [u32], at: usize)
-    requires { ⌜ at + length (now numbers) ≤ length (now out) ⌝ }
-    ensures { λ r. ⌜ now (out .exit) ≡ sets (now (out .entry)) at (now (numbers .entry)) ⌝ }
-{
-    let mut i: usize = 0;
-    while i < numbers.len() {
-        out[at + i] = numbers[i];
-        i += 1;
-    }
-}
-
-// Numbers at the start of the output, if it has room.
-pub(crate) fn put_numbers(numbers: &[u32], out: &mut [u32]) -> u64
-    ensures { λ r. ⌜ Says (puts (now (numbers .entry)) (now (out .entry))) r (now (out .exit)) ⌝ }
-{
-    if out.len() < numbers.len() {
-        return refused(Refusal::Output);
-    }
-    copy_numbers(numbers, out, 0);
-    0
 }

@@ -47,18 +47,19 @@ pub extern "C" fn bh_repair_row(row: &[u8], fixed: &mut [u8]) -> u64
 fn put_fields(f: Packet, out: &mut [u32]) -> u64
     ensures { λ r. ⌜ Says (puts (fieldList f) (now (out .entry))) r (now (out .exit)) ⌝ }
 {
-    let list = [
-        f.resource as u32,
-        f.number,
-        f.update as u32,
-        f.length as u32,
-        f.count,
-        f.kind as u32,
-        f.protection as u32,
-        f.rows as u32,
-        f.reserved as u32,
-    ];
-    answers::put_numbers(&list, out)
+    if out.len() < 9 {
+        return answers::NO_ROOM;
+    }
+    out[0] = f.resource as u32;
+    out[1] = f.number;
+    out[2] = f.update as u32;
+    out[3] = f.length as u32;
+    out[4] = f.count;
+    out[5] = f.kind as u32;
+    out[6] = f.protection as u32;
+    out[7] = f.rows as u32;
+    out[8] = f.reserved as u32;
+    0
 }
 
 // The fields of a packet as nine numbers, at the start of `fields`.
