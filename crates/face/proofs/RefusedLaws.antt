@@ -12,7 +12,7 @@ use Rattle.refusals.specs.declared.Refusal.{Refusal}
 use Rattle.refusals.specs.declared.Refusal.the-variants.{Output}
 use Rattle.refusals.specs.declared.Verdict.{Verdict}
 use Rattle.refusals.specs.declared.Verdict.the-variants.{Accepted, Refused}
-use Rattle.refusals.specs.Told.{Told, acceptedWith, refusedAs, verdictTold}
+use Rattle.refusals.specs.Told.{Told, refusedAs, verdictTold}
 use Rattle.rows.specs.Rows.{encodeOf, repairRowOf}
 use Rattle.packet.specs.declared.Settings.{Settings}
 use Rattle.packet.specs.Packet.{readOf}

@@ -1,6 +1,6 @@
 -- Each case tells what is answered by definition, and fits by what is required.
 use mathlib.Core.Path.{_≡_, sym, ap, subst, _∙_}
-use Prim.Native.Nat.{ℕ, _<_}
+use Prim.Native.Nat.{_<_}
 use borrow.Author.Needs.{needs}
 use Rattle.readout.specs.declared.Standing.{Standing}
 use Rattle.readout.specs.Told.{standingTold}
