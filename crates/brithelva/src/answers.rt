@@ -1,4 +1,4 @@
-// Answers as one number, and bytes or numbers put at the start of an output: the header include/brithelva.h says how.
+// Answers as one number, and bytes put at the start of an output: the header include/brithelva.h says how.
 ghost use mathlib.Core.Path.{_≡_};
 ghost use Prim.Native.Nat.{_<_};
 ghost use Rattle.refusals.specs.Told.{refusedAs, verdictTold};

@@ -1,4 +1,4 @@
-// The record as 128 bytes, read and written: specs/Layout.antt.
+// The record as 128 bytes, read and written: specs/Layout.antt of the crate face.
 ghost use mathlib.Core.Path.{_≡_};
 ghost use Prim.Native.Nat.{_+_, _*_, _≤_};
 ghost use lib.ListN.{length};
