@@ -1,9 +1,12 @@
-// Answers as one number, and bytes or numbers put at the start of an output: the header include/brithelva.h says how.
+// Answers as one number, and bytes put at the start of an output: the header include/brithelva.h says how.
 ghost use mathlib.Core.Path.{_≡_};
-ghost use Prim.Native.Nat.{_+_, _<_, _≤_};
-ghost use lib.ListN.{length};
-ghost use lib.Seq.{sets};
-ghost use Rattle.brithelva.specs.Face.{Says, refused, verdictOf, puts, putsIf, packedAs, offeredAs, lowestAs, standingAs};
+ghost use Prim.Native.Nat.{_<_};
+ghost use Rattle.refusals.specs.Told.{refusedAs, verdictTold};
+ghost use Rattle.pack.specs.Told.{packedTold};
+ghost use Rattle.record.specs.Told.{offeredTold};
+ghost use Rattle.readout.specs.declared.Standing.the-variants.{Filled};
+ghost use Rattle.readout.specs.Told.{standingTold};
+ghost use Rattle.face.specs.Face.{answerOf, Says, puts, putsIf};
 use pack::Packed;
 use places::Found;
 use readout::Standing;
@@ -11,16 +14,22 @@ use record::Offered;
 use refusals::Refusal;
 use refusals::Verdict;
 
+// Record's number, for bytes lent as a record that are not 128.
+pub(crate) const NO_RECORD: u64 = 9;
+
+// Output's number, for an output that is too short.
+pub(crate) const NO_ROOM: u64 = 26;
+
 // A refusal's number and value.
 pub(crate) fn refused(r: Refusal) -> u64
-    ensures { λ n. ⌜ n ≡ refused r ⌝ }
+    ensures { λ n. ⌜ n ≡ answerOf (refusedAs r) ⌝ }
 {
     refusals::number(r) as u64 + 256 * refusals::value(r) as u64
 }
 
 // What is answered where nothing is handed over.
 pub(crate) fn verdict_of(verdict: Verdict) -> u64
-    ensures { λ n. ⌜ n ≡ verdictOf verdict ⌝ }
+    ensures { λ n. ⌜ n ≡ answerOf (verdictTold verdict) ⌝ }
 {
     match verdict {
         Verdict::Accepted => 0,
@@ -30,8 +39,8 @@ pub(crate) fn verdict_of(verdict: Verdict) -> u64
 
 // What packing answers: a packet's length as the value.
 pub(crate) fn packed_as(packed: Packed) -> u64
-    requires { ⌜ packedAs packed < 18446744073709551616 ⌝ }
-    ensures { λ n. ⌜ n ≡ packedAs packed ⌝ }
+    requires { ⌜ answerOf (packedTold packed) < 18446744073709551616 ⌝ }
+    ensures { λ n. ⌜ n ≡ answerOf (packedTold packed) ⌝ }
 {
     match packed {
         Packed::Written(n) => 256 * n as u64,
@@ -41,7 +50,7 @@ pub(crate) fn packed_as(packed: Packed) -> u64
 
 // What offering answers: 1 as the value where the slot held the payload already.
 pub(crate) fn offered_as(offered: Offered) -> u64
-    ensures { λ n. ⌜ n ≡ offeredAs offered ⌝ }
+    ensures { λ n. ⌜ n ≡ answerOf (offeredTold offered) ⌝ }
 {
     match offered {
         Offered::Stored => 0,
@@ -50,37 +59,25 @@ pub(crate) fn offered_as(offered: Offered) -> u64
     }
 }
 
-// A slot's number plus one, or 0 for none.
-fn lowest_as(lowest: Found) -> u64
-    requires { ⌜ lowestAs lowest < 18446744073709551616 ⌝ }
-    ensures { λ n. ⌜ n ≡ lowestAs lowest ⌝ }
+// The filled slots, and the lowest empty one plus one in front of them where there is one.
+fn filled_as(n: u32, lowest: Found) -> u64
+    requires { ⌜ answerOf (standingTold (Filled n lowest)) < 18446744073709551616 ⌝ }
+    ensures { λ r. ⌜ r ≡ answerOf (standingTold (Filled n lowest)) ⌝ }
 {
     match lowest {
-        Found::At(i) => i as u64 + 1,
-        Found::Nothing => 0,
+        Found::At(i) => 256 * (n as u64 + 16777216 * (i as u64 + 1)),
+        Found::Nothing => 256 * n as u64,
     }
 }
 
 // What status answers: the filled slots and the lowest empty one.
 pub(crate) fn standing_as(standing: Standing) -> u64
-    requires { ⌜ standingAs standing < 18446744073709551616 ⌝ }
-    ensures { λ n. ⌜ n ≡ standingAs standing ⌝ }
+    requires { ⌜ answerOf (standingTold standing) < 18446744073709551616 ⌝ }
+    ensures { λ n. ⌜ n ≡ answerOf (standingTold standing) ⌝ }
 {
     match standing {
-        Standing::Filled(n, lowest) => 256 * (n as u64 + 16777216 * lowest_as(lowest)),
+        Standing::Filled(n, lowest) => filled_as(n, lowest),
         Standing::Refused(r) => refused(r),
-    }
-}
-
-// The bytes, from byte `at` of the output on.
-pub(crate) fn copy_in(bytes: &[u8], out: &mut [u8], at: usize)
-    requires { ⌜ at + length (now bytes) ≤ length (now out) ⌝ }
-    ensures { λ r. ⌜ now (out .exit) ≡ sets (now (out .entry)) at (now (bytes .entry)) ⌝ }
-{
-    let mut i: usize = 0;
-    while i < bytes.len() {
-        out[at + i] = bytes[i];
-        i += 1;
     }
 }
 
@@ -89,41 +86,18 @@ pub(crate) fn put(bytes: &[u8], out: &mut [u8]) -> u64
     ensures { λ r. ⌜ Says (puts (now (bytes .entry)) (now (out .entry))) r (now (out .exit)) ⌝ }
 {
     if out.len() < bytes.len() {
-        return refused(Refusal::Output);
+        return NO_ROOM;
     }
-    copy_in(bytes, out, 0);
+    contents::copy_in(out, 0, bytes);
     0
 }
 
 // The bytes that go with a verdict.
 pub(crate) fn put_if(verdict: Verdict, bytes: &[u8], out: &mut [u8]) -> u64
-    ensures { λ r. ⌜ Says (putsIf verdict (now (bytes .entry)) (now (out .entry))) r (now (out .exit)) ⌝ }
+    ensures { λ r. ⌜ Says (putsIf (verdictTold verdict) (now (bytes .entry)) (now (out .entry))) r (now (out .exit)) ⌝ }
 {
     match verdict {
         Verdict::Accepted => put(bytes, out),
         Verdict::Refused(r) => refused(r),
     }
-}
-
-// Numbers, from number `at` of the output on.
-fn copy_numbers(numbers: &[u32], out: &mut [u32], at: usize)
-    requires { ⌜ at + length (now numbers) ≤ length (now out) ⌝ }
-    ensures { λ r. ⌜ now (out .exit) ≡ sets (now (out .entry)) at (now (numbers .entry)) ⌝ }
-{
-    let mut i: usize = 0;
-    while i < numbers.len() {
-        out[at + i] = numbers[i];
-        i += 1;
-    }
-}
-
-// Numbers at the start of the output, if it has room.
-pub(crate) fn put_numbers(numbers: &[u32], out: &mut [u32]) -> u64
-    ensures { λ r. ⌜ Says (puts (now (numbers .entry)) (now (out .entry))) r (now (out .exit)) ⌝ }
-{
-    if out.len() < numbers.len() {
-        return refused(Refusal::Output);
-    }
-    copy_numbers(numbers, out, 0);
-    0
 }

@@ -1,12 +1,16 @@
 // The library's C face: each function stands for one call of the crates below, with its answer as one number. include/brithelva.h documents it for C.
 ghost use mathlib.Core.Path.{_≡_};
+ghost use lib.ListN.{length};
+ghost use Rattle.refusals.specs.Told.{verdictTold};
 ghost use Rattle.crc.specs.Crc.{crc32Of};
 ghost use Rattle.packet.specs.Settings.{house};
-ghost use Rattle.brithelva.specs.Face.{Says, Keeps, encodeSays, repairSays, readSays, fieldList, packSays, openSays, offerSays, statusSays, handSays, closeSays};
+ghost use Rattle.packet.specs.Told.{fieldList};
+ghost use Rattle.face.specs.Layout.{recordBytes};
+ghost use Rattle.face.specs.Face.{answerOf, Says, Keeps, puts, encodeSays, repairSays, readSays, packSays, openSays, offerSays, statusSays, handSays, closeSays};
 use packet::Packet;
 use packet::Reading;
 use packet::Settings;
-use refusals::Refusal;
+use record::Kept;
 
 mod answers;
 mod memory;
@@ -24,10 +28,9 @@ pub extern "C" fn bh_crc32(bytes: &[u8]) -> u32
 pub extern "C" fn bh_encode_row(info: &[u8], checks: &mut [u8]) -> u64
     ensures { λ r. ⌜ Says (encodeSays (now (info .entry)) (now (checks .entry))) r (now (checks .exit)) ⌝ }
 {
-    let made = rows::encode_row(info);
+    let made = encoding::encode_row(info);
     let verdict = made.verdict;
-    let bytes = made.checks;
-    answers::put_if(verdict, &bytes, checks)
+    answers::put_if(verdict, &made.checks, checks)
 }
 
 // The row of 255 bytes as repaired, at the start of `fixed`.
@@ -35,27 +38,28 @@ pub extern "C" fn bh_encode_row(info: &[u8], checks: &mut [u8]) -> u64
 pub extern "C" fn bh_repair_row(row: &[u8], fixed: &mut [u8]) -> u64
     ensures { λ r. ⌜ Says (repairSays (now (row .entry)) (now (fixed .entry))) r (now (fixed .exit)) ⌝ }
 {
-    let mended = rows::repair_row(row);
+    let mended = repair::repair_row(row);
     let verdict = mended.verdict;
-    let bytes = mended.row;
-    answers::put_if(verdict, &bytes, fixed)
+    answers::put_if(verdict, &mended.row, fixed)
 }
 
-// The nine fields in the header's order.
-fn field_list(f: Packet) -> [u32; 9]
-    ensures { λ r. ⌜ r ≡ fieldList f ⌝ }
+// The nine fields in the header's order, at the start of `out`.
+fn put_fields(f: Packet, out: &mut [u32]) -> u64
+    ensures { λ r. ⌜ Says (puts (fieldList f) (now (out .entry))) r (now (out .exit)) ⌝ }
 {
-    [
-        f.resource as u32,
-        f.number,
-        f.update as u32,
-        f.length as u32,
-        f.count,
-        f.kind as u32,
-        f.protection as u32,
-        f.rows as u32,
-        f.reserved as u32,
-    ]
+    if out.len() < 9 {
+        return answers::NO_ROOM;
+    }
+    out[0] = f.resource as u32;
+    out[1] = f.number;
+    out[2] = f.update as u32;
+    out[3] = f.length as u32;
+    out[4] = f.count;
+    out[5] = f.kind as u32;
+    out[6] = f.protection as u32;
+    out[7] = f.rows as u32;
+    out[8] = f.reserved as u32;
+    0
 }
 
 // The fields of a packet as nine numbers, at the start of `fields`.
@@ -64,10 +68,7 @@ pub extern "C" fn bh_read_fields(packet: &[u8], fields: &mut [u32]) -> u64
     ensures { λ r. ⌜ Says (readSays (now (packet .entry)) (now (fields .entry))) r (now (fields .exit)) ⌝ }
 {
     match packet::read_fields(packet) {
-        Reading::Sent(f) => {
-            let list = field_list(f);
-            answers::put_numbers(&list, fields)
-        }
+        Reading::Sent(f) => put_fields(f, fields),
         Reading::Refused(r) => answers::refused(r),
     }
 }
@@ -115,6 +116,17 @@ pub extern "C" fn bh_pack_house(
     answers::packed_as(packed)
 }
 
+// Puts the record that a call answers back into its bytes. Its verdict is the answer.
+fn put_kept(held: &mut [u8], kept: Kept) -> u64
+    requires { ⌜ length (now held) ≡ 128 ⌝ }
+    ensures { λ r. ⌜ (r ≡ answerOf (verdictTold (kept .verdict))) × (now (held .exit) ≡ recordBytes (kept .«record»)) ⌝ }
+{
+    let next = kept.record;
+    memory::put_record(held, next);
+    let verdict = kept.verdict;
+    answers::verdict_of(verdict)
+}
+
 // Opens a place of the record: its 128 bytes and the slots' lengths in the store change, or nothing does.
 #[no_mangle]
 pub extern "C" fn bh_open(
@@ -131,7 +143,7 @@ pub extern "C" fn bh_open(
     ensures { λ r. ⌜ Keeps (openSays (now (held .entry)) (now (store .entry)) (record { resource = resource; kind = kind; update = update; protection = protection; rows = rows; size = slot }) count) r (now (held .exit)) (now (store .exit)) ⌝ }
 {
     if held.len() != 128 {
-        return answers::refused(Refusal::Record);
+        return answers::NO_RECORD;
     }
     let settings = Settings {
         resource,
@@ -142,10 +154,7 @@ pub extern "C" fn bh_open(
         size: slot,
     };
     let kept = record::open(memory::record_in(held), store, settings, count);
-    let next = kept.record;
-    memory::put_record(held, next);
-    let verdict = kept.verdict;
-    answers::verdict_of(verdict)
+    put_kept(held, kept)
 }
 
 // The same under the house setting.
@@ -161,14 +170,11 @@ pub extern "C" fn bh_open_house(
     ensures { λ r. ⌜ Keeps (openSays (now (held .entry)) (now (store .entry)) (house resource kind update) count) r (now (held .exit)) (now (store .exit)) ⌝ }
 {
     if held.len() != 128 {
-        return answers::refused(Refusal::Record);
+        return answers::NO_RECORD;
     }
     let before = memory::record_in(held);
     let kept = record::open_house(before, store, resource, kind, update, count);
-    let next = kept.record;
-    memory::put_record(held, next);
-    let verdict = kept.verdict;
-    answers::verdict_of(verdict)
+    put_kept(held, kept)
 }
 
 // Offers a packet to the record, which is only read. The value is 0 for stored, 1 for a repeat.
@@ -177,7 +183,7 @@ pub extern "C" fn bh_offer(held: &[u8], store: &mut [u8], packet: &[u8]) -> u64
     ensures { λ r. ⌜ Keeps (offerSays (now (held .entry)) (now (store .entry)) (now (packet .entry))) r (now (held .entry)) (now (store .exit)) ⌝ }
 {
     if held.len() != 128 {
-        return answers::refused(Refusal::Record);
+        return answers::NO_RECORD;
     }
     let offered = record::offer(memory::record_in(held), store, packet);
     answers::offered_as(offered)
@@ -189,7 +195,7 @@ pub extern "C" fn bh_status(held: &[u8], store: &[u8], resource: u16) -> u64
     ensures { λ r. ⌜ r ≡ statusSays (now (held .entry)) (now (store .entry)) resource ⌝ }
 {
     if held.len() != 128 {
-        return answers::refused(Refusal::Record);
+        return answers::NO_RECORD;
     }
     let standing = readout::status(memory::record_in(held), store, resource);
     answers::standing_as(standing)
@@ -207,7 +213,7 @@ pub extern "C" fn bh_hand_out(
     ensures { λ r. ⌜ Says (handSays (now (held .entry)) (now (store .entry)) resource length (now (out .entry))) r (now (out .exit)) ⌝ }
 {
     if held.len() != 128 {
-        return answers::refused(Refusal::Record);
+        return answers::NO_RECORD;
     }
     let before = memory::record_in(held);
     let verdict = readout::hand_out(before, store, resource, length as usize, out);
@@ -220,11 +226,8 @@ pub extern "C" fn bh_close(held: &mut [u8], store: &[u8], resource: u16) -> u64
     ensures { λ r. ⌜ Keeps (closeSays (now (held .entry)) (now (store .entry)) resource) r (now (held .exit)) (now (store .entry)) ⌝ }
 {
     if held.len() != 128 {
-        return answers::refused(Refusal::Record);
+        return answers::NO_RECORD;
     }
     let kept = record::close(memory::record_in(held), store, resource);
-    let next = kept.record;
-    memory::put_record(held, next);
-    let verdict = kept.verdict;
-    answers::verdict_of(verdict)
+    put_kept(held, kept)
 }

@@ -1,9 +1,8 @@
-// The record as 128 bytes, read and written: specs/Layout.antt.
+// The record as 128 bytes, read and written: specs/Layout.antt of the crate face.
 ghost use mathlib.Core.Path.{_≡_};
 ghost use Prim.Native.Nat.{_+_, _*_, _≤_};
 ghost use lib.ListN.{length};
-ghost use Rattle.brithelva.specs.Layout.{two, four, placeIn, recordIn, placeBytes, recordBytes};
-use super::answers;
+ghost use Rattle.face.specs.Layout.{two, four, placeIn, recordIn, placeBytes, recordBytes};
 use places::Place;
 use places::Record;
 
@@ -99,7 +98,7 @@ pub(crate) fn put_record(out: &mut [u8], held: Record)
     while i < 8 {
         let p = held.places[i];
         let bytes = place_bytes(p);
-        answers::copy_in(&bytes, out, i * 16);
+        contents::copy_in(out, i * 16, &bytes);
         i += 1;
     }
 }

@@ -1,44 +1,31 @@
 -- Bytes that are no record are refused; else the record in them is closed and put back.
-use borrow.Author.Needs.{needs}
-use Rattle.brithelva.proofs.HoldLaws.{close-bad, close-says}
+use mathlib.Core.Path.{refl}
+use native.Mathlib.Omega.{arith}
+use Rattle.face.proofs.HoldLaws.{close-bad, close-says}
 use Rattle.brithelva.proofs.bh_close.Statement.{statement}
 use Rattle.brithelva.proofs.bh_close.Tie as tie
 
-refused-requires : tie.Need-refused-requires
-refused-requires c κs = tt
-
 returns : tie.Need-returns
-returns c = close-bad _ _ _ _ (c .before .if1 .taken) (c .refused .ensures)
+returns c = close-bad _ _ _ _ (c .if1 .taken) refl
 
 record-in-requires : tie.Need-record-in-requires
-record-in-requires c κs = search needs
+record-in-requires c κs = c .before .if1 .left
 
 close-requires : tie.Need-close-requires
 close-requires c κs = tt
 
-put-record-requires : tie.Need-put-record-requires
-put-record-requires c κs = search needs
-
-verdict-of-requires : tie.Need-verdict-of-requires
-verdict-of-requires c κs = tt
+put-kept-requires : tie.Need-put-kept-requires
+put-kept-requires c κs = c .before .before .before .before .if1 .left
 
 same-length : tie.Need-same-length
-same-length c = search needs
+same-length c = omega arith
 
 returns-2 : tie.Need-returns-2
 returns-2 c =
-    close-says _ _ _ _ _ _ _ (search needs) (c .before .before .before .before .before .before .before .record-in .ensures) (c .before .before .before .before .before .before .close .ensures)
-    (c .before .before .before .put-record .ensures) (c .verdict-of .ensures)
+    close-says _ _ _ _ _ _ _ (c .before .before .before .before .before .before .before .if1 .left) (c .before .before .before .before .before .record-in .ensures) (c .before .before .before .before .close .ensures)
+    (c .before .before .put-kept .ensures .1) (c .before .before .put-kept .ensures .0)
 
 pub bh-close-spec : {M : Type 1} → statement M
 bh-close-spec =
     tie.close
-    (tie.spec
-    refused-requires
-    returns
-    record-in-requires
-    close-requires
-    put-record-requires
-    verdict-of-requires
-    same-length
-    returns-2)
+    (tie.spec returns record-in-requires close-requires put-kept-requires same-length returns-2)

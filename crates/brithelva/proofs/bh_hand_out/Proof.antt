@@ -1,17 +1,15 @@
 -- Bytes that are no record are refused; else the file is handed out from the record in them.
-use borrow.Author.Needs.{needs}
-use Rattle.brithelva.proofs.HoldLaws.{hand-bad, hand-says}
+use mathlib.Core.Path.{refl}
+use native.Mathlib.Omega.{arith}
+use Rattle.face.proofs.HoldLaws.{hand-bad, hand-says}
 use Rattle.brithelva.proofs.bh_hand_out.Statement.{statement}
 use Rattle.brithelva.proofs.bh_hand_out.Tie as tie
 
-refused-requires : tie.Need-refused-requires
-refused-requires c κs = tt
-
 returns : tie.Need-returns
-returns c = hand-bad _ _ _ _ _ _ (c .before .if1 .taken) (c .refused .ensures)
+returns c = hand-bad _ _ _ _ _ _ (c .if1 .taken) refl
 
 record-in-requires : tie.Need-record-in-requires
-record-in-requires c κs = search needs
+record-in-requires c κs = c .if1 .left
 
 hand-out-requires : tie.Need-hand-out-requires
 hand-out-requires c κs = tt
@@ -20,18 +18,17 @@ verdict-of-requires : tie.Need-verdict-of-requires
 verdict-of-requires c κs = tt
 
 same-length : tie.Need-same-length
-same-length c = search needs
+same-length c = omega arith
 
 returns-2 : tie.Need-returns-2
 returns-2 c =
-    hand-says _ _ _ _ _ _ _ _ _ (search needs) (c .before .before .before .before .before .record-in .ensures) (c .before .before .before .hand-out .ensures .0)
+    hand-says _ _ _ _ _ _ _ _ _ (c .before .before .before .before .before .before .if1 .left) (c .before .before .before .before .before .record-in .ensures) (c .before .before .before .hand-out .ensures .0)
     (c .before .before .before .hand-out .ensures .1) (c .verdict-of .ensures)
 
 pub bh-hand-out-spec : {M : Type 1} → statement M
 bh-hand-out-spec =
     tie.close
     (tie.spec
-    refused-requires
     returns
     record-in-requires
     hand-out-requires

@@ -1,7 +1,8 @@
--- The fields that were read are listed and put; a refusal is answered.
+-- The fields that were read are put; a refusal is answered.
 use mathlib.Core.Path.{sym, _∙_}
-use Rattle.brithelva.proofs.SayLaws.{read-sent, read-refused}
+use native.Mathlib.Omega.{arith}
 use borrow.Author.Needs.{needs}
+use Rattle.face.proofs.SayLaws.{read-sent, read-refused}
 use Rattle.brithelva.proofs.bh_read_fields.Statement.{statement}
 use Rattle.brithelva.proofs.bh_read_fields.Tie as tie
 
@@ -11,14 +12,8 @@ read-fields-requires c κs = tt
 enum-known-f : tie.Need-enum-known-f
 enum-known-f c = search needs
 
-field-list-requires : tie.Need-field-list-requires
-field-list-requires c κs = tt
-
-slice-aggregate-put-numbers : tie.Need-slice-aggregate-put-numbers
-slice-aggregate-put-numbers c = search needs
-
-put-numbers-requires : tie.Need-put-numbers-requires
-put-numbers-requires c κs = tt
+put-fields-requires : tie.Need-put-fields-requires
+put-fields-requires c κs = tt
 
 enum-known-r : tie.Need-enum-known-r
 enum-known-r c = search needs
@@ -27,12 +22,11 @@ refused-requires : tie.Need-refused-requires
 refused-requires c κs = tt
 
 same-length : tie.Need-same-length
-same-length c = search needs
+same-length c = omega arith
 
 returns : tie.Need-returns
 returns c =
-    read-sent _ _ _ _ _ _ (sym (c .before .before .before .before .before .before .before .before .before .read-fields .ensures) ∙ c .before .before .before .before .before .before .before .f .given .1)
-    (c .before .before .before .before .before .field-list .ensures) (c .before .before .put-numbers .ensures)
+    read-sent _ _ _ _ _ (sym (c .before .before .before .before .before .before .before .read-fields .ensures) ∙ c .before .before .before .before .before .f .given .1) (c .before .before .put-fields .ensures)
 
 returns-2 : tie.Need-returns-2
 returns-2 c =
@@ -44,9 +38,7 @@ bh-read-fields-spec =
     (tie.spec
     read-fields-requires
     enum-known-f
-    field-list-requires
-    slice-aggregate-put-numbers
-    put-numbers-requires
+    put-fields-requires
     enum-known-r
     refused-requires
     same-length

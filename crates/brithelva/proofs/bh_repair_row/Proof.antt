@@ -1,25 +1,20 @@
 -- The verdict and the row are those of the repair.
-use Rattle.brithelva.proofs.SayLaws.{repair-says}
-use borrow.Author.Needs.{needs}
+use native.Mathlib.Omega.{arith}
+use Rattle.face.proofs.SayLaws.{repair-says}
 use Rattle.brithelva.proofs.bh_repair_row.Statement.{statement}
 use Rattle.brithelva.proofs.bh_repair_row.Tie as tie
 
 repair-row-requires : tie.Need-repair-row-requires
 repair-row-requires c κs = tt
 
-slice-aggregate-put-if : tie.Need-slice-aggregate-put-if
-slice-aggregate-put-if c = search needs
-
 put-if-requires : tie.Need-put-if-requires
 put-if-requires c κs = tt
 
 same-length : tie.Need-same-length
-same-length c = search needs
+same-length c = omega arith
 
 returns : tie.Need-returns
-returns c = repair-says _ _ _ _ _ (c .before .before .before .before .before .before .repair-row .ensures) (c .before .before .put-if .ensures)
+returns c = repair-says _ _ _ _ _ (c .before .before .before .before .before .before .before .repair-row .ensures) (c .before .before .put-if .ensures)
 
 pub bh-repair-row-spec : {M : Type 1} → statement M
-bh-repair-row-spec =
-    tie.close
-    (tie.spec repair-row-requires slice-aggregate-put-if put-if-requires same-length returns)
+bh-repair-row-spec = tie.close (tie.spec repair-row-requires put-if-requires same-length returns)

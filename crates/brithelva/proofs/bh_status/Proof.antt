@@ -1,17 +1,14 @@
 -- Bytes that are no record are refused; else the resource is looked up in the record in them, whose counts fit an answer.
-use borrow.Author.Needs.{needs}
-use Rattle.brithelva.proofs.StatusLaws.{status-bad, status-says, standing-fits}
+use mathlib.Core.Path.{refl}
+use Rattle.face.proofs.StatusLaws.{status-bad, status-says, standing-fits}
 use Rattle.brithelva.proofs.bh_status.Statement.{statement}
 use Rattle.brithelva.proofs.bh_status.Tie as tie
 
-refused-requires : tie.Need-refused-requires
-refused-requires c κs = tt
-
 returns : tie.Need-returns
-returns c = status-bad _ _ _ _ (c .before .if1 .taken) (c .refused .ensures)
+returns c = status-bad _ _ _ _ (c .if1 .taken) refl
 
 record-in-requires : tie.Need-record-in-requires
-record-in-requires c κs = search needs
+record-in-requires c κs = c .if1 .left
 
 status-requires : tie.Need-status-requires
 status-requires c κs = tt
@@ -20,15 +17,8 @@ standing-as-requires : tie.Need-standing-as-requires
 standing-as-requires c κs = standing-fits _ _ _ _ (c .status .ensures)
 
 returns-2 : tie.Need-returns-2
-returns-2 c = status-says _ _ _ _ _ _ (search needs) (c .before .before .record-in .ensures) (c .before .status .ensures) (c .standing-as .ensures)
+returns-2 c = status-says _ _ _ _ _ _ (c .before .before .before .if1 .left) (c .before .before .record-in .ensures) (c .before .status .ensures) (c .standing-as .ensures)
 
 pub bh-status-spec : {M : Type 1} → statement M
 bh-status-spec =
-    tie.close
-    (tie.spec
-    refused-requires
-    returns
-    record-in-requires
-    status-requires
-    standing-as-requires
-    returns-2)
+    tie.close (tie.spec returns record-in-requires status-requires standing-as-requires returns-2)

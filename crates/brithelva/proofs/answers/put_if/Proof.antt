@@ -1,5 +1,6 @@
 -- An accepted verdict puts the bytes; a refused one is answered, and the output stays.
-use Rattle.brithelva.proofs.SayLaws.{puts-accepted, puts-refused}
+use Rattle.face.proofs.SayLaws.{puts-accepted, puts-refused}
+use native.Mathlib.Omega.{arith}
 use borrow.Author.Needs.{needs}
 use Rattle.brithelva.proofs.answers.put_if.Statement.{statement}
 use Rattle.brithelva.proofs.answers.put_if.Tie as tie
@@ -17,7 +18,7 @@ refused-requires : tie.Need-refused-requires
 refused-requires c κs = tt
 
 same-length : tie.Need-same-length
-same-length c = search needs
+same-length c = omega arith
 
 returns : tie.Need-returns
 returns c = puts-accepted _ _ _ _ _ (c .before .before .before .before .enum-told .given .1) (c .before .before .put .ensures)

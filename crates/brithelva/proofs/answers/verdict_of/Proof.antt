@@ -1,9 +1,14 @@
 -- Each verdict has its answer by definition.
-use mathlib.Core.Path.{sym, ap, _∙_}
-use Rattle.brithelva.specs.Face.{verdictOf}
+use mathlib.Core.Path.{_≡_, sym, ap, _∙_}
+use Rattle.refusals.specs.declared.Verdict.{Verdict}
+use Rattle.refusals.specs.Told.{verdictTold}
+use Rattle.face.specs.Face.{answerOf}
 use borrow.Author.Needs.{needs}
 use Rattle.brithelva.proofs.answers.verdict_of.Statement.{statement}
 use Rattle.brithelva.proofs.answers.verdict_of.Tie as tie
+
+told : {v w : Verdict} → v ≡ w → answerOf (verdictTold w) ≡ answerOf (verdictTold v)
+told e = ap (λ (y : Verdict). answerOf (verdictTold y)) (sym e)
 
 enum-told : tie.Need-enum-told
 enum-told c = search needs
@@ -15,10 +20,10 @@ refused-requires : tie.Need-refused-requires
 refused-requires c κs = tt
 
 returns : tie.Need-returns
-returns c = search needs
+returns c = told (c .enum-told .given .1)
 
 returns-2 : tie.Need-returns-2
-returns-2 c = c .refused .ensures ∙ ap verdictOf (sym (c .before .before .verdict .given .1))
+returns-2 c = c .refused .ensures ∙ told (c .before .before .verdict .given .1)
 
 pub verdict-of-spec : {M : Type 1} → statement M
 verdict-of-spec =

@@ -1,45 +1,45 @@
 -- The sixteen entries are those of the definition, and none is too large for a byte.
 use mathlib.Core.Path.{refl}
-use Rattle.brithelva.specs.Layout.{placeBytes}
-use borrow.Author.Needs.{needs}
+use Rattle.face.specs.Layout.{placeBytes}
+use native.Mathlib.Omega.{arith}
 use Rattle.brithelva.proofs.memory.place_bytes.Statement.{statement}
 use Rattle.brithelva.proofs.memory.place_bytes.Tie as tie
 
 cast-t3 : tie.Need-cast-t3
-cast-t3 c = search needs
+cast-t3 c = omega arith
 
 cast-t6 : tie.Need-cast-t6
-cast-t6 c = search needs
+cast-t6 c = omega arith
 
 cast-t8 : tie.Need-cast-t8
-cast-t8 c = search needs
+cast-t8 c = omega arith
 
 cast-t11 : tie.Need-cast-t11
-cast-t11 c = search needs
+cast-t11 c = omega arith
 
 cast-t14 : tie.Need-cast-t14
-cast-t14 c = search needs
+cast-t14 c = omega arith
 
 cast-t18 : tie.Need-cast-t18
-cast-t18 c = search needs
+cast-t18 c = omega arith
 
 cast-t20 : tie.Need-cast-t20
-cast-t20 c = search needs
+cast-t20 c = omega arith
 
 cast-t23 : tie.Need-cast-t23
-cast-t23 c = search needs
+cast-t23 c = omega arith
 
 cast-t25 : tie.Need-cast-t25
-cast-t25 c = search needs
+cast-t25 c = omega arith
 
 cast-t28 : tie.Need-cast-t28
-cast-t28 c = search needs
+cast-t28 c = omega arith
 
 cast-t31 : tie.Need-cast-t31
-cast-t31 c = search needs
+cast-t31 c = omega arith
 
 cast-t35 : tie.Need-cast-t35
-cast-t35 c = search needs
+cast-t35 c = omega arith
 
 returns : tie.Need-returns
 unfolding placeBytes

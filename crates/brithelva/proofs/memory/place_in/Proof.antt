@@ -1,53 +1,53 @@
 -- Each field is taken from the bytes of the definition.
-use Rattle.brithelva.specs.Layout.{placeIn}
-use borrow.Author.Needs.{needs}
+use Rattle.face.specs.Layout.{placeIn}
+use native.Mathlib.Omega.{arith}
 use Rattle.brithelva.proofs.memory.place_in.Statement.{statement}
 use Rattle.brithelva.proofs.memory.place_in.Tie as tie
 
 two-in-requires : tie.Need-two-in-requires
-two-in-requires c κs = search needs
+two-in-requires c κs = omega arith
 
 add-t4 : tie.Need-add-t4
-add-t4 c = search needs
+add-t4 c = omega arith
 
 shared-slice-read-t6 : tie.Need-shared-slice-read-t6
-shared-slice-read-t6 c = search needs
+shared-slice-read-t6 c = omega arith
 
 add-t7 : tie.Need-add-t7
-add-t7 c = search needs
+add-t7 c = omega arith
 
 shared-slice-read-t9 : tie.Need-shared-slice-read-t9
-shared-slice-read-t9 c = search needs
+shared-slice-read-t9 c = omega arith
 
 add-four-in : tie.Need-add-four-in
-add-four-in c = search needs
+add-four-in c = omega arith
 
 four-in-requires : tie.Need-four-in-requires
-four-in-requires c κs = search needs
+four-in-requires c κs = omega arith
 
 add-t12 : tie.Need-add-t12
-add-t12 c = search needs
+add-t12 c = omega arith
 
 shared-slice-read-t14 : tie.Need-shared-slice-read-t14
-shared-slice-read-t14 c = search needs
+shared-slice-read-t14 c = omega arith
 
 add-t15 : tie.Need-add-t15
-add-t15 c = search needs
+add-t15 c = omega arith
 
 shared-slice-read-t17 : tie.Need-shared-slice-read-t17
-shared-slice-read-t17 c = search needs
+shared-slice-read-t17 c = omega arith
 
 add-two-in : tie.Need-add-two-in
-add-two-in c = search needs
+add-two-in c = omega arith
 
 two-in-requires-2 : tie.Need-two-in-requires-2
-two-in-requires-2 c κs = search needs
+two-in-requires-2 c κs = omega arith
 
 add-four-in-2 : tie.Need-add-four-in-2
-add-four-in-2 c = search needs
+add-four-in-2 c = omega arith
 
 four-in-requires-2 : tie.Need-four-in-requires-2
-four-in-requires-2 c κs = search needs
+four-in-requires-2 c κs = omega arith
 
 returns : tie.Need-returns
 unfolding placeIn

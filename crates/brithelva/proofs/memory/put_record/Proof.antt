@@ -5,8 +5,8 @@ use native.Mathlib.Omega.{arith}
 use borrow.Author.Needs.{needs}
 use lib.ListN.{length}
 use Rattle.places.proofs.Steps.{mapped-length}
-use Rattle.brithelva.specs.Layout.{recordBytes}
-use Rattle.brithelva.proofs.RecordLaws.{Putting, put-begin, put-step, put-end}
+use Rattle.face.specs.Layout.{recordBytes}
+use Rattle.face.proofs.RecordLaws.{Putting, put-begin, put-step, put-end}
 use Rattle.brithelva.proofs.memory.put_record.Statement.{statement}
 use Rattle.brithelva.proofs.memory.put_record.Tie as tie
 
@@ -23,7 +23,7 @@ loop-holds : tie.Need-loop-holds Inv-loop μ-loop
 loop-holds c = put-begin _ (eight (c .before)) _ (search needs)
 
 mul-p : tie.Need-mul-p Inv-loop μ-loop
-mul-p c = search needs
+mul-p c = omega arith
 
 element-copy-out-p : tie.Need-element-copy-out-p Inv-loop μ-loop
 element-copy-out-p c = search needs
@@ -31,24 +31,25 @@ element-copy-out-p c = search needs
 place-bytes-requires : tie.Need-place-bytes-requires Inv-loop μ-loop
 place-bytes-requires c κs = tt
 
+mul-copy-in : tie.Need-mul-copy-in Inv-loop μ-loop
+mul-copy-in c = omega arith
+
 slice-aggregate-copy-in : tie.Need-slice-aggregate-copy-in Inv-loop μ-loop
 slice-aggregate-copy-in c = search needs
 
-mul-copy-in : tie.Need-mul-copy-in Inv-loop μ-loop
-mul-copy-in c = search needs
-
 copy-in-requires : tie.Need-copy-in-requires Inv-loop μ-loop
-copy-in-requires c κs = search needs
+copy-in-requires c κs = tt
 
 add-i : tie.Need-add-i Inv-loop μ-loop
-add-i c = search needs
+add-i c = omega arith
 
 loop-less : tie.Need-loop-less Inv-loop μ-loop
-loop-less c = search needs
+loop-less c = omega arith
 
 loop-again : tie.Need-loop-again Inv-loop μ-loop
 loop-again c =
-    put-step _ (eight (c .before .before .before .before .before .before .before .before .before .before)) _ _ (c .before .before .before .before .before .before .before .before .loop .inv) _ _ (c .before .before .before .before .before .before .before .loop-test .taken) (c .before .before .before .before .before .place-bytes .ensures) (c .before .before .copy-in .ensures)
+    put-step _ (eight (c .before .before .before .before .before .before .before .before .before .before)) _ _ (c .before .before .before .before .before .before .before .before .loop .inv) _ _ (c .before .before .before .before .before .before .before .loop-test .taken) (c .before .before .before .before .before .place-bytes .ensures)
+    (c .before .before .copy-in .ensures)
 
 same-length : tie.Need-same-length Inv-loop μ-loop
 same-length c = omega arith
@@ -67,8 +68,8 @@ put-record-spec =
     mul-p
     element-copy-out-p
     place-bytes-requires
-    slice-aggregate-copy-in
     mul-copy-in
+    slice-aggregate-copy-in
     copy-in-requires
     add-i
     loop-less

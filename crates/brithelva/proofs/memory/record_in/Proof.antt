@@ -1,32 +1,32 @@
 -- The eight places stand sixteen bytes apart.
-use Rattle.brithelva.specs.Layout.{recordIn}
-use borrow.Author.Needs.{needs}
+use Rattle.face.specs.Layout.{recordIn}
+use native.Mathlib.Omega.{arith}
 use Rattle.brithelva.proofs.memory.record_in.Statement.{statement}
 use Rattle.brithelva.proofs.memory.record_in.Tie as tie
 
 place-in-requires : tie.Need-place-in-requires
-place-in-requires c κs = search needs
+place-in-requires c κs = omega arith
 
 place-in-requires-2 : tie.Need-place-in-requires-2
-place-in-requires-2 c κs = search needs
+place-in-requires-2 c κs = omega arith
 
 place-in-requires-3 : tie.Need-place-in-requires-3
-place-in-requires-3 c κs = search needs
+place-in-requires-3 c κs = omega arith
 
 place-in-requires-4 : tie.Need-place-in-requires-4
-place-in-requires-4 c κs = search needs
+place-in-requires-4 c κs = omega arith
 
 place-in-requires-5 : tie.Need-place-in-requires-5
-place-in-requires-5 c κs = search needs
+place-in-requires-5 c κs = omega arith
 
 place-in-requires-6 : tie.Need-place-in-requires-6
-place-in-requires-6 c κs = search needs
+place-in-requires-6 c κs = omega arith
 
 place-in-requires-7 : tie.Need-place-in-requires-7
-place-in-requires-7 c κs = search needs
+place-in-requires-7 c κs = omega arith
 
 place-in-requires-8 : tie.Need-place-in-requires-8
-place-in-requires-8 c κs = search needs
+place-in-requires-8 c κs = omega arith
 
 returns : tie.Need-returns
 unfolding recordIn

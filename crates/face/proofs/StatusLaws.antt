@@ -20,31 +20,26 @@ use Rattle.contents.proofs.Places.{length-contents}
 use Rattle.contents.proofs.Filled.{filled-most, lowest-found}
 use Rattle.readout.specs.declared.Standing.{Standing}
 use Rattle.readout.specs.declared.Standing.the-variants.{Filled}
+use Rattle.readout.specs.Told.{standingTold}
 use Rattle.readout.specs.Hand.{standingIn, statusFound, statusOf}
-use Rattle.brithelva.specs.Layout.{recordIn}
-use Rattle.brithelva.specs.Face.{badRecord, lowestAs, standingAs, statusSays}
+use Rattle.face.specs.Layout.{recordIn}
+use Rattle.face.specs.Face.{answerOf, badRecord, statusSays}
 
-lowest-short : (c : List Content) → lowestAs (lowestEmpty c 0) ≤ length c
-lowest-short c = by (lowestEmpty c 0) refl
-  where
-    by : (f : Found) → lowestEmpty c 0 ≡ f → lowestAs f ≤ length c
-    by (At k) e = omega (arith, lowest-found c k e .below)
-    by Nothing e = omega arith
-
-standing-short : (c : List Content) → length c ≤ 1048575 → standingAs (standingIn c) < 18446744073709551616
+standing-short : (c : List Content) → length c ≤ 1048575 → answerOf (standingTold (standingIn c)) < 18446744073709551616
 unfolding standingIn
-standing-short c h = by (anyWrong c)
+standing-short c h = by (anyWrong c) (lowestEmpty c 0) refl
   where
-    by : (b : Bool) → standingAs (cond b (Standing.Refused Slot) (Filled (filled c) (lowestEmpty c 0))) < 18446744073709551616
-    by true = omega arith
-    by false = omega (arith, filled-most c, lowest-short c)
+    by : (b : Bool) (f : Found) → lowestEmpty c 0 ≡ f → answerOf (standingTold (cond b (Standing.Refused Slot) (Filled (filled c) f))) < 18446744073709551616
+    by true f e = omega arith
+    by false (At k) e = omega (arith, filled-most c, lowest-found c k e .below)
+    by false Nothing e = omega (arith, filled-most c)
 
-status-short : (h : Record) (s : List ℕ) (resource : ℕ) → standingAs (statusOf h s resource) < 18446744073709551616
+status-short : (h : Record) (s : List ℕ) (resource : ℕ) → answerOf (standingTold (statusOf h s resource)) < 18446744073709551616
 unfolding statusOf
 status-short h s resource = by (good (length s) (h .places)) refl (placeNamed (h .places) resource) refl
   where
     by : (b : Bool) → good (length s) (h .places) ≡ b → (f : Found) → placeNamed (h .places) resource ≡ f
-        → standingAs (cond b (statusFound h s f) (Standing.Refused Refusal.Record)) < 18446744073709551616
+        → answerOf (standingTold (cond b (statusFound h s f) (Standing.Refused Refusal.Record))) < 18446744073709551616
     by false g f e = omega arith
     by true g Nothing e = omega arith
     by true g (At i) e =
@@ -57,11 +52,11 @@ module _ (h s : List ℕ) (resource : ℕ) (r : ℕ) where
   unfolding statusSays
   status-bad d e = let t : eqb (length h) 128 ≡ false = ne-eqb (length h) 128 d in rw t e
 
-  pub status-says : (held : Record) (o : Standing) → length h ≡ 128 → held ≡ recordIn h → o ≡ statusOf held s resource → r ≡ standingAs o → r ≡ statusSays h s resource
+  pub status-says : (held : Record) (o : Standing) → length h ≡ 128 → held ≡ recordIn h → o ≡ statusOf held s resource → r ≡ answerOf (standingTold o) → r ≡ statusSays h s resource
   unfolding statusSays
   status-says held o n e a d =
       let t : eqb (length h) 128 ≡ true = eq-eqb (length h) 128 n in
-      rw t (d ∙ ap standingAs (a ∙ ap (λ (y : Record). statusOf y s resource) e))
+      rw t (d ∙ ap (λ (y : Standing). answerOf (standingTold y)) (a ∙ ap (λ (y : Record). statusOf y s resource) e))
 
-pub standing-fits : (held : Record) (s : List ℕ) (resource : ℕ) (o : Standing) → o ≡ statusOf held s resource → standingAs o < 18446744073709551616
-standing-fits held s resource o e = subst (λ (y : Standing). standingAs y < 18446744073709551616) (sym e) (status-short held s resource)
+pub standing-fits : (held : Record) (s : List ℕ) (resource : ℕ) (o : Standing) → o ≡ statusOf held s resource → answerOf (standingTold o) < 18446744073709551616
+standing-fits held s resource o e = subst (λ (y : Standing). answerOf (standingTold y) < 18446744073709551616) (sym e) (status-short held s resource)

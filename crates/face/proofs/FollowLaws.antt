@@ -24,10 +24,10 @@ use Rattle.places.proofs.Keeping.{at-set}
 use Rattle.record.specs.Open.{Plan, refuse, take, planOf, openOf, closedAt, closeOf}
 use Rattle.record.proofs.PlanLaws.{taking, open-by}
 use Rattle.record.proofs.OpenLaws.{open-good, open-named, open-own, refused-record}
-use Rattle.brithelva.specs.Layout.{two, four, placeIn, recordIn}
-use Rattle.brithelva.specs.Face.{openSays, closeSays}
-use Rattle.brithelva.specs.Statements.{RecordsFollow}
-use Rattle.brithelva.proofs.LayoutLaws.{Typed, record-again}
+use Rattle.face.specs.Layout.{two, four, placeIn, recordIn}
+use Rattle.face.specs.Face.{openSays, closeSays}
+use Rattle.face.specs.Statements.{RecordsFollow}
+use Rattle.face.proofs.LayoutLaws.{Typed, record-again}
 
 -- ---- places whose fields fit
 

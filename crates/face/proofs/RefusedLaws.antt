@@ -12,14 +12,16 @@ use Rattle.refusals.specs.declared.Refusal.{Refusal}
 use Rattle.refusals.specs.declared.Refusal.the-variants.{Output}
 use Rattle.refusals.specs.declared.Verdict.{Verdict}
 use Rattle.refusals.specs.declared.Verdict.the-variants.{Accepted, Refused}
-use Rattle.rows.specs.Rows.{encodeOf, repairRowOf}
-use Rattle.packet.specs.declared.Reading.{Reading}
-use Rattle.packet.specs.declared.Reading.the-variants.{Sent}
+use Rattle.refusals.specs.Told.{Told, refusedAs, verdictTold}
+use Rattle.encoding.specs.Encode.{encodeOf}
+use Rattle.repair.specs.Repair.{repairRowOf}
 use Rattle.packet.specs.declared.Settings.{Settings}
 use Rattle.packet.specs.Packet.{readOf}
+use Rattle.packet.specs.Told.{readingTold}
 use Rattle.pack.specs.declared.Packed.{Packed}
 use Rattle.pack.specs.declared.Packed.the-variants.{Written}
 use Rattle.pack.specs.Pack.{packOf}
+use Rattle.pack.specs.Told.{packedTold}
 use Rattle.pack.proofs.Plans.{pack-refused}
 use Rattle.places.specs.declared.Record.{Record}
 use Rattle.places.specs.declared.Found.{Found}
@@ -29,15 +31,16 @@ use Rattle.record.specs.declared.Offered.{Offered}
 use Rattle.record.specs.declared.Offered.the-variants.{Stored, Repeat}
 use Rattle.record.specs.Open.{openOf, closedAt, closeOf}
 use Rattle.record.specs.Offer.{offerOf}
+use Rattle.record.specs.Told.{offeredTold}
 use Rattle.readout.specs.Hand.{handOutOf}
 use Rattle.record.proofs.OpenLaws.{refused-record, refused-store, refused-plan}
 use Rattle.record.proofs.OfferLaws.{offer-refused}
 use Rattle.readout.proofs.HandLaws.{hand-refused}
 use Rattle.code.specs.Code.{Bytes}
-use Rattle.brithelva.specs.Layout.{recordIn, recordBytes}
-use Rattle.brithelva.specs.Face.{Said, Kept, refused, verdictOf, badRecord, puts, putsIf, encodeSays, repairSays, fieldList, readingSays, readSays, packedAs, packSays, openSays, closeSays, offeredAs, offerSays, handSays}
-use Rattle.brithelva.specs.Statements.{numberIn, OutputKept, RecordKept, RefusalsChangeNothing}
-use Rattle.brithelva.proofs.LayoutLaws.{bytes-again}
+use Rattle.face.specs.Layout.{recordIn, recordBytes}
+use Rattle.face.specs.Face.{Said, Kept, answerOf, badRecord, puts, putsIf, encodeSays, repairSays, readSays, packSays, openSays, closeSays, offerSays, handSays}
+use Rattle.face.specs.Statements.{numberIn, OutputKept, RecordKept, RefusalsChangeNothing}
+use Rattle.face.proofs.LayoutLaws.{bytes-again}
 
 -- ---- what is said of the definitions is said of every result that a contract allows
 
@@ -61,29 +64,29 @@ put-kept : (b out : List ℕ) → SaidKept (puts b out) out
 unfolding puts
 put-kept b out = by (ltb (length out) (length b))
   where
-    by : (t : Bool) → SaidKept (cond t (record { answer = refused Output; output = out }) (record { answer = 0; output = b ++ drop (length b) out })) out
+    by : (t : Bool) → SaidKept (cond t (record { answer = answerOf (refusedAs Output); output = out }) (record { answer = 0; output = b ++ drop (length b) out })) out
     by true d = refl
     by false d = absurd (d refl)
 
-put-if-kept : (v : Verdict) (b out : List ℕ) → SaidKept (putsIf v b out) out
-put-if-kept Accepted b out d = put-kept b out d
-put-if-kept (Refused r) b out d = refl
-
-reading-kept : (x : Reading) (out : List ℕ) → SaidKept (readingSays x out) out
-reading-kept (Sent f) out d = put-kept (fieldList f) out d
-reading-kept (Reading.Refused r) out d = refl
+put-if-kept : (t : Told) (b out : List ℕ) → SaidKept (putsIf t b out) out
+unfolding putsIf
+put-if-kept t b out = by (eqb (t .number) 0)
+  where
+    by : (x : Bool) → SaidKept (cond x (puts b out) (record { answer = answerOf t; output = out })) out
+    by true d = put-kept b out d
+    by false d = refl
 
 pub encode-refused-keeps : (info out : List ℕ) → SaidKept (encodeSays info out) out
 unfolding encodeSays
-encode-refused-keeps info out = put-if-kept (encodeOf info .verdict) (encodeOf info .checks) out
+encode-refused-keeps info out = put-if-kept (verdictTold (encodeOf info .verdict)) (encodeOf info .checks) out
 
 pub repair-refused-keeps : (row out : List ℕ) → SaidKept (repairSays row out) out
 unfolding repairSays
-repair-refused-keeps row out = put-if-kept (repairRowOf row .verdict) (repairRowOf row .row) out
+repair-refused-keeps row out = put-if-kept (verdictTold (repairRowOf row .verdict)) (repairRowOf row .row) out
 
 pub read-refused-keeps : (q out : List ℕ) → SaidKept (readSays q out) out
 unfolding readSays
-read-refused-keeps q out = reading-kept (readOf q) out
+read-refused-keeps q out = put-if-kept (readingTold (readOf q)) (readingTold (readOf q) .values) out
 
 -- ---- packing
 
@@ -91,7 +94,7 @@ pub pack-refused-keeps : (file : List ℕ) (g : Settings) (n : ℕ) (out : List 
 unfolding packSays
 pack-refused-keeps file g n out = by (packOf file g n out .answer) refl
   where
-    by : (a : Packed) → packOf file g n out .answer ≡ a → (numberIn (packedAs a) ≡ 0 → ⊥) → packOf file g n out .output ≡ out
+    by : (a : Packed) → packOf file g n out .answer ≡ a → (numberIn (answerOf (packedTold a)) ≡ 0 → ⊥) → packOf file g n out .output ≡ out
     by (Written k) e d = absurd (d (omega arith))
     by (Packed.Refused r) e d = pack-refused file g n out r e
 
@@ -100,11 +103,11 @@ pack-refused-keeps file g n out = by (packOf file g n out .answer) refl
 -- bytes that are no record stay; else a refused verdict stands beside the record in them, and beside the store as lent
 module _ (h s : List ℕ) (v : Verdict) (k : Record) (left : List ℕ) where
   put-back-kept : Bytes h → ((r : Refusal) → v ≡ Refused r → (k ≡ recordIn h) × (left ≡ s))
-      → AllKept (cond (eqb (length h) 128) (record { answer = verdictOf v; held = recordBytes k; store = left }) (record { answer = badRecord; held = h; store = s })) h s
+      → AllKept (cond (eqb (length h) 128) (record { answer = answerOf (verdictTold v); held = recordBytes k; store = left }) (record { answer = badRecord; held = h; store = s })) h s
   put-back-kept bytes same = by (eqb (length h) 128) refl v refl
     where
       by : (t : Bool) → eqb (length h) 128 ≡ t → (w : Verdict) → v ≡ w
-          → AllKept (cond t (record { answer = verdictOf w; held = recordBytes k; store = left }) (record { answer = badRecord; held = h; store = s })) h s
+          → AllKept (cond t (record { answer = answerOf (verdictTold w); held = recordBytes k; store = left }) (record { answer = badRecord; held = h; store = s })) h s
       by false t w e d = (refl, refl)
       by true t Accepted e d = absurd (d refl)
       by true t (Refused r) e d = (ap recordBytes (same r e .0) ∙ bytes-again h bytes (eqb-true (length h) 128 t), same r e .1)
@@ -137,7 +140,7 @@ unfolding offerSays
 offer-refused-keeps h s q = by (eqb (length h) 128) (offerOf (recordIn h) s q .answer) refl
   where
     by : (t : Bool) (a : Offered) → offerOf (recordIn h) s q .answer ≡ a
-        → AllKept (cond t (record { answer = offeredAs a; held = h; store = offerOf (recordIn h) s q .store }) (record { answer = badRecord; held = h; store = s })) h s
+        → AllKept (cond t (record { answer = answerOf (offeredTold a); held = h; store = offerOf (recordIn h) s q .store }) (record { answer = badRecord; held = h; store = s })) h s
     by false a e d = (refl, refl)
     by true Stored e d = absurd (d refl)
     by true Repeat e d = absurd (d refl)
@@ -148,7 +151,7 @@ unfolding handSays
 hand-refused-keeps h s resource n out = by (eqb (length h) 128) (handOutOf (recordIn h) s resource n out .answer) refl
   where
     by : (t : Bool) (v : Verdict) → handOutOf (recordIn h) s resource n out .answer ≡ v
-        → SaidKept (cond t (record { answer = verdictOf v; output = handOutOf (recordIn h) s resource n out .output }) (record { answer = badRecord; output = out })) out
+        → SaidKept (cond t (record { answer = answerOf (verdictTold v); output = handOutOf (recordIn h) s resource n out .output }) (record { answer = badRecord; output = out })) out
     by false v e d = refl
     by true Accepted e d = absurd (d refl)
     by true (Refused r) e d = hand-refused out (recordIn h) s resource n r e

@@ -13,10 +13,12 @@ use Rattle.record.specs.declared.Kept.{Kept}
 use Rattle.refusals.specs.declared.Verdict.{Verdict}
 use Rattle.record.specs.declared.Offered.{Offered}
 use Rattle.record.specs.Open.{openOf, Opens, closeOf}
+use Rattle.refusals.specs.Told.{verdictTold}
 use Rattle.record.specs.Offer.{offerOf}
+use Rattle.record.specs.Told.{offeredTold}
 use Rattle.readout.specs.Hand.{handOutOf}
-use Rattle.brithelva.specs.Layout.{recordIn, recordBytes}
-use Rattle.brithelva.specs.Face.{Keeps, verdictOf, badRecord, openSays, closeSays, Says, offeredAs, offerSays, handSays}
+use Rattle.face.specs.Layout.{recordIn, recordBytes}
+use Rattle.face.specs.Face.{answerOf, Says, Keeps, badRecord, openSays, closeSays, offerSays, handSays}
 
 module _ (h s : List ℕ) where
   module _ (g : Settings) (count : ℕ) (r : ℕ) where
@@ -27,13 +29,13 @@ module _ (h s : List ℕ) where
         record { answers = rw t e; holds = rw t; leaves = rw t }
 
     pub open-says : (held : Record) (kept : Kept) (h′ s′ : List ℕ) → length h ≡ 128 → held ≡ recordIn h → Opens held s g count kept s′
-        → h′ ≡ recordBytes (kept .«record») → r ≡ verdictOf (kept .verdict) → Keeps (openSays h s g count) r h′ s′
+        → h′ ≡ recordBytes (kept .«record») → r ≡ answerOf (verdictTold (kept .verdict)) → Keeps (openSays h s g count) r h′ s′
     unfolding openSays
     open-says held kept h′ s′ n e o b a =
         let t : eqb (length h) 128 ≡ true = eq-eqb (length h) 128 n in
         let k : kept ≡ openOf (recordIn h) s g count .kept = o .answers ∙ ap (λ (y : Record). openOf y s g count .kept) e in
         record {
-          answers = rw t (a ∙ ap (λ (y : Kept). verdictOf (y .verdict)) k);
+          answers = rw t (a ∙ ap (λ (y : Kept). answerOf (verdictTold (y .verdict))) k);
           holds = rw t (b ∙ ap (λ (y : Kept). recordBytes (y .«record»)) k);
           leaves = rw t (o .leaves ∙ ap (λ (y : Record). openOf y s g count .store) e);
         }
@@ -46,13 +48,13 @@ module _ (h s : List ℕ) where
         record { answers = rw t e; holds = rw t; leaves = rw t }
 
     pub close-says : (held : Record) (kept : Kept) (h′ : List ℕ) → length h ≡ 128 → held ≡ recordIn h → kept ≡ closeOf held s resource
-        → h′ ≡ recordBytes (kept .«record») → r ≡ verdictOf (kept .verdict) → Keeps (closeSays h s resource) r h′ s
+        → h′ ≡ recordBytes (kept .«record») → r ≡ answerOf (verdictTold (kept .verdict)) → Keeps (closeSays h s resource) r h′ s
     unfolding closeSays
     close-says held kept h′ n e o b a =
         let t : eqb (length h) 128 ≡ true = eq-eqb (length h) 128 n in
         let k : kept ≡ closeOf (recordIn h) s resource = o ∙ ap (λ (y : Record). closeOf y s resource) e in
         record {
-          answers = rw t (a ∙ ap (λ (y : Kept). verdictOf (y .verdict)) k);
+          answers = rw t (a ∙ ap (λ (y : Kept). answerOf (verdictTold (y .verdict))) k);
           holds = rw t (b ∙ ap (λ (y : Kept). recordBytes (y .«record»)) k);
           leaves = rw t;
         }
@@ -65,12 +67,12 @@ module _ (h s : List ℕ) where
         record { answers = rw t e; holds = rw t; leaves = rw t }
 
     pub offer-says : (held : Record) (o : Offered) (s′ : List ℕ) → length h ≡ 128 → held ≡ recordIn h → o ≡ offerOf held s q .answer → s′ ≡ offerOf held s q .store
-        → r ≡ offeredAs o → Keeps (offerSays h s q) r h s′
+        → r ≡ answerOf (offeredTold o) → Keeps (offerSays h s q) r h s′
     unfolding offerSays
     offer-says held o s′ n e a l d =
         let t : eqb (length h) 128 ≡ true = eq-eqb (length h) 128 n in
         record {
-          answers = rw t (d ∙ ap offeredAs (a ∙ ap (λ (y : Record). offerOf y s q .answer) e));
+          answers = rw t (d ∙ ap (λ (y : Offered). answerOf (offeredTold y)) (a ∙ ap (λ (y : Record). offerOf y s q .answer) e));
           holds = rw t;
           leaves = rw t (l ∙ ap (λ (y : Record). offerOf y s q .store) e);
         }
@@ -81,11 +83,11 @@ module _ (h s : List ℕ) where
     hand-bad d e = let t : eqb (length h) 128 ≡ false = ne-eqb (length h) 128 d in record { answers = rw t e; leaves = rw t }
 
     pub hand-says : (held : Record) (v : Verdict) (out′ : List ℕ) → length h ≡ 128 → held ≡ recordIn h → v ≡ handOutOf held s resource n out .answer
-        → out′ ≡ handOutOf held s resource n out .output → r ≡ verdictOf v → Says (handSays h s resource n out) r out′
+        → out′ ≡ handOutOf held s resource n out .output → r ≡ answerOf (verdictTold v) → Says (handSays h s resource n out) r out′
     unfolding handSays
     hand-says held v out′ k e a l d =
         let t : eqb (length h) 128 ≡ true = eq-eqb (length h) 128 k in
         record {
-          answers = rw t (d ∙ ap verdictOf (a ∙ ap (λ (y : Record). handOutOf y s resource n out .answer) e));
+          answers = rw t (d ∙ ap (λ (y : Verdict). answerOf (verdictTold y)) (a ∙ ap (λ (y : Record). handOutOf y s resource n out .answer) e));
           leaves = rw t (l ∙ ap (λ (y : Record). handOutOf y s resource n out .output) e);
         }

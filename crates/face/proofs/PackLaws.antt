@@ -14,9 +14,10 @@ use Rattle.packet.specs.Settings.{settingsFit}
 use Rattle.packet.proofs.Laws.{settings-facts}
 use Rattle.pack.specs.declared.Packed.{Packed}
 use Rattle.pack.specs.declared.Packed.the-variants.{Written}
+use Rattle.pack.specs.Told.{packedTold}
 use Rattle.pack.specs.Pack.{largestFile, countOf, packetOf, refusing, written, packOf, Packs}
 use Rattle.pack.proofs.Laws.{length-packet, length-payload}
-use Rattle.brithelva.specs.Face.{Says, packedAs, packSays}
+use Rattle.face.specs.Face.{answerOf, Says, packSays}
 
 module _ (file : List ℕ) (g : Settings) (n : ℕ) (out : List ℕ) where
   packet-short : settingsFit g ≡ true → length (packetOf g file n) ≤ 4095
@@ -24,16 +25,16 @@ module _ (file : List ℕ) (g : Settings) (n : ℕ) (out : List ℕ) where
       let limit : g .size ≤ 4077 = settings-facts g fit .size .most in
       omega (arith, length-packet g file n, length-payload g file n)
 
-  answer-short : packedAs (packOf file g n out .answer) < 18446744073709551616
+  answer-short : answerOf (packedTold (packOf file g n out .answer)) < 18446744073709551616
   unfolding packOf written
   answer-short =
       go (not (settingsFit g)) (eqb (length file) 0 || ltb largestFile (length file)) (ltb 1048575 (countOf g (length file))) (leb (countOf g (length file)) n)
       (ltb (length out) (length (packetOf g file n))) refl
     where
       go : (a b c d e : Bool) → not (settingsFit g) ≡ a
-          → packedAs (cond a (refusing Field out) (cond b (refusing Size out) (cond c (refusing Count out) (cond d (refusing Number out)
+          → answerOf (packedTold (cond a (refusing Field out) (cond b (refusing Size out) (cond c (refusing Count out) (cond d (refusing Number out)
           (cond e (refusing Output out) (record { answer = Written (length (packetOf g file n)); output = packetOf g file n ++ drop (length (packetOf g file n)) out })))))
-          .answer) < 18446744073709551616
+          .answer)) < 18446744073709551616
       go true b c d e t = omega arith
       go false true c d e t = omega arith
       go false false true d e t = omega arith
@@ -42,9 +43,9 @@ module _ (file : List ℕ) (g : Settings) (n : ℕ) (out : List ℕ) where
       go false false false false false t = omega (arith, packet-short (not-false (settingsFit g) t))
 
   module _ (p : Packed) (x : List ℕ) (h : Packs (packOf file g n out) p x) where
-    pub packed-fits : packedAs p < 18446744073709551616
-    packed-fits = subst (λ (y : Packed). packedAs y < 18446744073709551616) (sym (h .answer)) answer-short
+    pub packed-fits : answerOf (packedTold p) < 18446744073709551616
+    packed-fits = subst (λ (y : Packed). answerOf (packedTold y) < 18446744073709551616) (sym (h .answer)) answer-short
 
-    pub pack-says : (r : ℕ) → r ≡ packedAs p → Says (packSays file g n out) r x
+    pub pack-says : (r : ℕ) → r ≡ answerOf (packedTold p) → Says (packSays file g n out) r x
     unfolding packSays
-    pack-says r e = record { answers = e ∙ ap packedAs (h .answer); leaves = h .output }
+    pack-says r e = record { answers = e ∙ ap (λ (y : Packed). answerOf (packedTold y)) (h .answer); leaves = h .output }

@@ -14,8 +14,8 @@ use Rattle.code.proofs.Lists.{bytes-at}
 use Rattle.places.specs.declared.Place.{Place}
 use Rattle.places.specs.declared.Record.{Record}
 use Rattle.places.specs.Places.{unused}
-use Rattle.brithelva.proofs.RecordLaws.{length-place}
-use Rattle.brithelva.specs.Layout.{two, four, placeIn, recordIn, asTwo, asFour, placeBytes, allBytes, recordBytes}
+use Rattle.face.proofs.RecordLaws.{length-place}
+use Rattle.face.specs.Layout.{two, four, placeIn, recordIn, asTwo, asFour, placeBytes, allBytes, recordBytes}
 
 -- ---- bytes to numbers and back
 

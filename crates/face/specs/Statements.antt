@@ -8,8 +8,8 @@ use lib.ListN.{length}
 use Rattle.code.specs.Code.{Bytes}
 use Rattle.packet.specs.declared.Settings.{Settings}
 use Rattle.record.specs.Open.{openOf, closeOf}
-use Rattle.brithelva.specs.Layout.{recordIn}
-use Rattle.brithelva.specs.Face.{Said, Says, Kept, Keeps, encodeSays, repairSays, readSays, packSays, openSays, offerSays, handSays, closeSays}
+use Rattle.face.specs.Layout.{recordIn}
+use Rattle.face.specs.Face.{Said, Says, Kept, Keeps, encodeSays, repairSays, readSays, packSays, openSays, offerSays, handSays, closeSays}
 
 -- the number in an answer: 0 is accepted
 abbrev pub numberIn : ℕ → ℕ

@@ -1,3 +1,4 @@
+pub mod ToldLaws
 pub mod SayLaws
 pub mod PackLaws
 pub mod RecordLaws

@@ -1,0 +1,71 @@
+-- What a function of the face says, from what the call that it stands for says: rows and fields.
+-- Assumes nothing.
+use mathlib.Core.Path.{_≡_, sym, ap, _∙_}
+use mathlib.Core.Bool.{true, false}
+use mathlib.Core.List.{List}
+use Prim.Native.Nat.{ℕ, _<_, _≤_}
+use borrow.Author.Tests.{lt-ltb, le-ltb}
+use lib.ListN.{length}
+use lib.Dec.{ltb}
+use lib.Seq.{sets}
+use Rattle.ground.proofs.Writing.{sets-front}
+use Rattle.refusals.specs.declared.Refusal.{Refusal}
+use Rattle.refusals.specs.declared.Refusal.the-variants.{Output}
+use Rattle.refusals.specs.declared.Verdict.{Verdict}
+use Rattle.refusals.specs.declared.Verdict.the-variants.{Accepted, Refused}
+use Rattle.encoding.specs.declared.Encoded.{Encoded}
+use Rattle.repair.specs.declared.Mended.{Mended}
+use Rattle.encoding.specs.Encode.{encodeOf}
+use Rattle.repair.specs.Repair.{repairRowOf}
+use Rattle.packet.specs.declared.Packet.{Packet}
+use Rattle.packet.specs.declared.Reading.{Reading}
+use Rattle.packet.specs.declared.Reading.the-variants.{Sent}
+use Rattle.packet.specs.Packet.{readOf}
+use Rattle.refusals.specs.Told.{refusedAs, verdictTold}
+use Rattle.packet.specs.Told.{fieldList}
+use Rattle.face.specs.Face.{Said, Says, answerOf, puts, putsIf, encodeSays, repairSays, readingSays, readSays}
+use Rattle.face.proofs.ToldLaws.{refusing}
+
+-- the same said in another way
+says-as : {p q : Said} {r : ℕ} {out : List ℕ} → p ≡ q → Says p r out → Says q r out
+says-as e s = record { answers = s .answers ∙ ap (λ (x : Said). x .answer) e; leaves = s .leaves ∙ ap (λ (x : Said). x .output) e }
+
+module _ (b out : List ℕ) where
+  pub puts-short : (r : ℕ) → length out < length b → r ≡ answerOf (refusedAs Output) → Says (puts b out) r out
+  unfolding puts
+  puts-short r h e = let t : ltb (length out) (length b) ≡ true = lt-ltb (length out) (length b) h in record { answers = rw t e; leaves = rw t }
+
+  pub puts-fits : (x : List ℕ) → length b ≤ length out → x ≡ sets out 0 b → Says (puts b out) 0 x
+  unfolding puts
+  puts-fits x h e =
+      let t : ltb (length out) (length b) ≡ false = le-ltb (length out) (length b) h in
+      record { answers = rw t; leaves = rw t (e ∙ sets-front out b h) }
+
+refused-puts : (z : Refusal) (b out : List ℕ) (r : ℕ) → r ≡ answerOf (refusedAs z) → Says (putsIf (refusedAs z) b out) r out
+unfolding putsIf
+refused-puts z b out r e = record { answers = rw (refusing z .number) e; leaves = rw (refusing z .number) }
+
+module _ (v : Verdict) (b out : List ℕ) (r : ℕ) where
+  pub puts-accepted : (x : List ℕ) → v ≡ Accepted → Says (puts b out) r x → Says (putsIf (verdictTold v) b out) r x
+  unfolding putsIf
+  puts-accepted x e s = says-as (ap (λ (w : Verdict). putsIf (verdictTold w) b out) (sym e)) s
+
+  pub puts-refused : (z : Refusal) → v ≡ Refused z → r ≡ answerOf (refusedAs z) → Says (putsIf (verdictTold v) b out) r out
+  puts-refused z e s = says-as (ap (λ (w : Verdict). putsIf (verdictTold w) b out) (sym e)) (refused-puts z b out r s)
+
+pub encode-says : (info out : List ℕ) (r : ℕ) (x : List ℕ) (made : Encoded) → made ≡ encodeOf info → Says (putsIf (verdictTold (made .verdict)) (made .checks) out) r x → Says (encodeSays info out) r x
+unfolding encodeSays
+encode-says info out r x made e s = says-as (ap (λ (m : Encoded). putsIf (verdictTold (m .verdict)) (m .checks) out) e) s
+
+pub repair-says : (row out : List ℕ) (r : ℕ) (x : List ℕ) (made : Mended) → made ≡ repairRowOf row → Says (putsIf (verdictTold (made .verdict)) (made .row) out) r x → Says (repairSays row out) r x
+unfolding repairSays
+repair-says row out r x made e s = says-as (ap (λ (m : Mended). putsIf (verdictTold (m .verdict)) (m .row) out) e) s
+
+module _ (q out : List ℕ) (r : ℕ) where
+  pub read-sent : (x : List ℕ) (f : Packet) → readOf q ≡ Sent f → Says (puts (fieldList f) out) r x → Says (readSays q out) r x
+  unfolding readSays putsIf
+  read-sent x f e s = says-as (ap (λ (y : Reading). readingSays y out) (sym e)) s
+
+  pub read-refused : (z : Refusal) → readOf q ≡ Reading.Refused z → r ≡ answerOf (refusedAs z) → Says (readSays q out) r out
+  unfolding readSays
+  read-refused z e s = says-as (ap (λ (y : Reading). readingSays y out) (sym e)) (refused-puts z _ out r s)

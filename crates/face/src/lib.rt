@@ -1,0 +1,1 @@
+// No code: what each function of the C face answers and leaves, the record as bytes (specs/), and the laws of it (proofs/).
