@@ -1,7 +1,6 @@
 -- The fields that were read are put; a refusal is answered.
 use mathlib.Core.Path.{sym, _∙_}
 use native.Mathlib.Omega.{arith}
-use borrow.Author.Needs.{needs}
 use Rattle.face.proofs.SayLaws.{read-sent, read-refused}
 use Rattle.brithelva.proofs.bh_read_fields.Statement.{statement}
 use Rattle.brithelva.proofs.bh_read_fields.Tie as tie
@@ -10,13 +9,13 @@ read-fields-requires : tie.Need-read-fields-requires
 read-fields-requires c κs = tt
 
 enum-known-f : tie.Need-enum-known-f
-enum-known-f c = search needs
+enum-known-f c = omega arith
 
 put-fields-requires : tie.Need-put-fields-requires
 put-fields-requires c κs = tt
 
 enum-known-r : tie.Need-enum-known-r
-enum-known-r c = search needs
+enum-known-r c = omega arith
 
 refused-requires : tie.Need-refused-requires
 refused-requires c κs = tt

@@ -2,7 +2,6 @@
 use mathlib.Core.Path.{_≡_, ap}
 use Prim.Native.Nat.{_+_, _*_}
 use native.Mathlib.Omega.{arith}
-use borrow.Author.Needs.{needs}
 use Rattle.places.specs.declared.Found.{Found}
 use Rattle.readout.specs.declared.Standing.the-variants.{Filled}
 use Rattle.readout.specs.Told.{standingTold}
@@ -16,7 +15,7 @@ whole c =
     let e = ap (λ (f : Found). answerOf (standingTold (Filled (c .before .before .args .n) f))) (c .lowest .given .1) in omega (arith, e)
 
 enum-known-lowest : tie.Need-enum-known-lowest
-enum-known-lowest c = search needs
+enum-known-lowest c = omega arith
 
 add-result : tie.Need-add-result
 add-result c = omega (arith, whole (c .before), c .before .before .before .pre)
@@ -31,7 +30,7 @@ mul-result-2 : tie.Need-mul-result-2
 mul-result-2 c = omega (arith, whole (c .before), c .before .before .before .pre)
 
 enum-told : tie.Need-enum-told
-enum-told c = search needs
+enum-told c = omega arith
 
 mul-result-3 : tie.Need-mul-result-3
 mul-result-3 c = omega arith

@@ -3,7 +3,7 @@ use mathlib.Core.Path.{_≡_, sym, ap, _∙_}
 use Rattle.record.specs.declared.Offered.{Offered}
 use Rattle.record.specs.Told.{offeredTold}
 use Rattle.face.specs.Face.{answerOf}
-use borrow.Author.Needs.{needs}
+use native.Mathlib.Omega.{arith}
 use Rattle.brithelva.proofs.answers.offered_as.Statement.{statement}
 use Rattle.brithelva.proofs.answers.offered_as.Tie as tie
 
@@ -11,13 +11,13 @@ told : {o s : Offered} → o ≡ s → answerOf (offeredTold s) ≡ answerOf (of
 told e = ap (λ (y : Offered). answerOf (offeredTold y)) (sym e)
 
 enum-told : tie.Need-enum-told
-enum-told c = search needs
+enum-told c = omega arith
 
 enum-told-2 : tie.Need-enum-told-2
-enum-told-2 c = search needs
+enum-told-2 c = omega arith
 
 enum-known-offered : tie.Need-enum-known-offered
-enum-known-offered c = search needs
+enum-known-offered c = omega arith
 
 refused-requires : tie.Need-refused-requires
 refused-requires c κs = tt

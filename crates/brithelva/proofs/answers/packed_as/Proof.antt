@@ -5,19 +5,18 @@ use native.Mathlib.Omega.{arith}
 use Rattle.pack.specs.declared.Packed.{Packed}
 use Rattle.pack.specs.Told.{packedTold}
 use Rattle.face.specs.Face.{answerOf}
-use borrow.Author.Needs.{needs}
 use Rattle.brithelva.proofs.answers.packed_as.Statement.{statement}
 use Rattle.brithelva.proofs.answers.packed_as.Tie as tie
 
 enum-known-packed : tie.Need-enum-known-packed
-enum-known-packed c = search needs
+enum-known-packed c = omega arith
 
 mul-result : tie.Need-mul-result
 mul-result c =
     let h = subst (λ (y : Packed). answerOf (packedTold y) < 18446744073709551616) (c .before .packed .given .1) (c .before .before .before .pre) in omega (arith, h)
 
 enum-known-packed-2 : tie.Need-enum-known-packed-2
-enum-known-packed-2 c = search needs
+enum-known-packed-2 c = omega arith
 
 refused-requires : tie.Need-refused-requires
 refused-requires c κs = tt

@@ -1,18 +1,17 @@
 -- An accepted verdict puts the bytes; a refused one is answered, and the output stays.
 use Rattle.face.proofs.SayLaws.{puts-accepted, puts-refused}
 use native.Mathlib.Omega.{arith}
-use borrow.Author.Needs.{needs}
 use Rattle.brithelva.proofs.answers.put_if.Statement.{statement}
 use Rattle.brithelva.proofs.answers.put_if.Tie as tie
 
 enum-told : tie.Need-enum-told
-enum-told c = search needs
+enum-told c = omega arith
 
 put-requires : tie.Need-put-requires
 put-requires c κs = tt
 
 enum-known-verdict : tie.Need-enum-known-verdict
-enum-known-verdict c = search needs
+enum-known-verdict c = omega arith
 
 refused-requires : tie.Need-refused-requires
 refused-requires c κs = tt

@@ -1,7 +1,7 @@
 -- Each case tells what is answered by definition, and fits by what is required.
 use mathlib.Core.Path.{_≡_, sym, ap, subst, _∙_}
 use Prim.Native.Nat.{_<_}
-use borrow.Author.Needs.{needs}
+use native.Mathlib.Omega.{arith}
 use Rattle.readout.specs.declared.Standing.{Standing}
 use Rattle.readout.specs.Told.{standingTold}
 use Rattle.face.specs.Face.{answerOf}
@@ -12,13 +12,13 @@ told : {o s : Standing} → o ≡ s → answerOf (standingTold s) ≡ answerOf (
 told e = ap (λ (y : Standing). answerOf (standingTold y)) (sym e)
 
 enum-known-standing : tie.Need-enum-known-standing
-enum-known-standing c = search needs
+enum-known-standing c = omega arith
 
 filled-as-requires : tie.Need-filled-as-requires
 filled-as-requires c κs = subst (λ (y : Standing). answerOf (standingTold y) < 18446744073709551616) (c .before .standing .given .1) (c .before .before .before .pre)
 
 enum-known-standing-2 : tie.Need-enum-known-standing-2
-enum-known-standing-2 c = search needs
+enum-known-standing-2 c = omega arith
 
 refused-requires : tie.Need-refused-requires
 refused-requires c κs = tt

@@ -3,7 +3,7 @@ use mathlib.Core.Path.{_≡_, sym, ap, _∙_}
 use Rattle.refusals.specs.declared.Verdict.{Verdict}
 use Rattle.refusals.specs.Told.{verdictTold}
 use Rattle.face.specs.Face.{answerOf}
-use borrow.Author.Needs.{needs}
+use native.Mathlib.Omega.{arith}
 use Rattle.brithelva.proofs.answers.verdict_of.Statement.{statement}
 use Rattle.brithelva.proofs.answers.verdict_of.Tie as tie
 
@@ -11,10 +11,10 @@ told : {v w : Verdict} → v ≡ w → answerOf (verdictTold w) ≡ answerOf (ve
 told e = ap (λ (y : Verdict). answerOf (verdictTold y)) (sym e)
 
 enum-told : tie.Need-enum-told
-enum-told c = search needs
+enum-told c = omega arith
 
 enum-known-verdict : tie.Need-enum-known-verdict
-enum-known-verdict c = search needs
+enum-known-verdict c = omega arith
 
 refused-requires : tie.Need-refused-requires
 refused-requires c κs = tt

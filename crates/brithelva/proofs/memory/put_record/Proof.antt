@@ -26,7 +26,7 @@ mul-p : tie.Need-mul-p Inv-loop μ-loop
 mul-p c = omega arith
 
 element-copy-out-p : tie.Need-element-copy-out-p Inv-loop μ-loop
-element-copy-out-p c = search needs
+element-copy-out-p c = omega arith
 
 place-bytes-requires : tie.Need-place-bytes-requires Inv-loop μ-loop
 place-bytes-requires c κs = tt
@@ -35,7 +35,7 @@ mul-copy-in : tie.Need-mul-copy-in Inv-loop μ-loop
 mul-copy-in c = omega arith
 
 slice-aggregate-copy-in : tie.Need-slice-aggregate-copy-in Inv-loop μ-loop
-slice-aggregate-copy-in c = search needs
+slice-aggregate-copy-in c = omega arith
 
 copy-in-requires : tie.Need-copy-in-requires Inv-loop μ-loop
 copy-in-requires c κs = tt
