@@ -1,25 +1,25 @@
 -- A row goes into the register word by word, the first word one byte short: what the loop of `register::checks` keeps, and what comes out.
 -- Assumes nothing.
-use mathlib.Core.Path.{_≡_, sym, ap, ap₂, _∙_}
+use mathlib.Core.Path.{_≡_, refl, sym, ap, ap₂, _∙_}
 use mathlib.Core.List.{List, [], _∷_, _++_}
 use Prim.Native.Nat.{ℕ, _+_, _-_, _*_, _/_, _%_, _^_, _<_, _≤_}
 use native.Mathlib.Omega.{arith}
-use lib.ListN.{length, getD, take}
-use lib.Seq.{take-at}
+use lib.ListN.{length, getD, take, drop}
+use lib.Seq.{length-sets, take-at}
 use lib.Bits.{bitXor}
-use Rattle.ground.proofs.Listed.{length-listed, listed-append, listed-same, listed-whole, listed-part}
-use Rattle.ground.proofs.Numbers.{lt-or-ge}
-use borrow.Author.Tests.{lt-leb, le-leb}
-use mathlib.Core.Logic.{⊎-elim}
+use Rattle.ground.proofs.Listed.{length-listed, listed-append, listed-same, listed-whole, listed-part, part-of-front}
+use Rattle.ground.proofs.Writing.{sets-front}
+use Rattle.ground.proofs.Pieces.{pieces, length-pieces, piece-at}
+use native.Mathlib.Nat.{min-le-left}
 use Rattle.code.specs.Code.{add}
 use Rattle.code.specs.Search.{remainder}
 use Rattle.code.specs.Register.{run}
 use Rattle.code.specs.Repair.{checksOf}
-use Rattle.code.proofs.Lists.{zeros}
+use Rattle.code.proofs.Lists.{zeros, length-zeros}
 use Rattle.code.proofs.Division.{length-remainder, remainder-row, run-checks}
-use Rattle.encoding.specs.Encode.{restOf}
+use Rattle.encoding.specs.Encode.{restOf, rowsIn, remaindersOf}
 use Rattle.encoding.specs.InnerRegister.{part, column, unpack, both, Feeding}
-use Rattle.encoding.proofs.Words.{length-unpack, unpack-push, unpack-top, length-both, both-zero, both-xor}
+use Rattle.encoding.proofs.Words.{length-unpack, unpack-push, unpack-top, both-zero, both-xor}
 use Rattle.encoding.proofs.Turns.{run-append, next-zeros}
 
 -- n bytes and k more
@@ -98,19 +98,27 @@ rest-is d at h l x y e u v =
 
 -- ---- what row i of some bytes leaves
 
-pub rest-none : (b : List ℕ) (i : ℕ) → length b < i * 255 + 255 → both 0 0 ≡ restOf b i
-unfolding restOf
-rest-none b i h = rw (lt-leb (i * 255 + 255) (length b) h) both-zero
-
-pub rest-there : (b : List ℕ) (i : ℕ) → i * 255 + 255 ≤ length b → remainder 239 (part b (i * 255) 255) ≡ restOf b i
-unfolding restOf
-rest-there b i h = rw (le-leb (i * 255 + 255) (length b) h) (ap (remainder 239) (listed-part b 0 255 (i * 255) h))
-
 pub length-rest : (b : List ℕ) (i : ℕ) → length (restOf b i) ≡ 16
-length-rest b i = ⊎-elim none there (lt-or-ge (length b) (i * 255 + 255))
-  where
-    none : length b < i * 255 + 255 → length (restOf b i) ≡ 16
-    none h = ap length (sym (rest-none b i h)) ∙ length-both 0 0
+unfolding restOf
+length-rest b i = length-remainder 239 (part b (i * 255) 255) (length-part b (i * 255) 255)
 
-    there : i * 255 + 255 ≤ length b → length (restOf b i) ≡ 16
-    there h = ap length (sym (rest-there b i h)) ∙ length-remainder 239 (part b (i * 255) 255) (length-part b (i * 255) 255)
+pub rest-there : (b : List ℕ) (i : ℕ) → i * 255 + 255 ≤ length b → restOf b i ≡ remainder 239 (take 255 (drop (i * 255) b))
+unfolding restOf
+rest-there b i h = ap (remainder 239) (listed-part b 0 255 (i * 255) h)
+
+-- among the remainders, row j stands where it must
+pub rest-among : (b : List ℕ) (j : ℕ) → j < rowsIn b → take 16 (drop (j * 16) (remaindersOf b)) ≡ restOf b j
+unfolding remaindersOf
+rest-among b j h =
+    let p : List ℕ = pieces (restOf b) (rowsIn b) 0 in
+    let n : length p ≡ rowsIn b * 16 = length-pieces (restOf b) 16 (length-rest b) (rowsIn b) 0 in
+    let o : rowsIn b ≤ 15 = min-le-left 15 (length b / 255) in
+    let z : length (zeros 240) ≡ 240 = length-zeros 240 in
+    ap (λ (l : List ℕ). take 16 (drop (j * 16) l)) (sets-front (zeros 240) p (omega arith))
+    ∙ sym (part-of-front 16 (j * 16) (length p) (p ++ drop (length p) (zeros 240)) (omega arith))
+    ∙ ap (λ (l : List ℕ). take 16 (drop (j * 16) l)) (take-at p (drop (length p) (zeros 240)) (length p) refl)
+    ∙ piece-at (restOf b) 16 (length-rest b) (rowsIn b) j h
+
+pub length-remainders : (b : List ℕ) → length (remaindersOf b) ≡ 240
+unfolding remaindersOf
+length-remainders b = length-sets (zeros 240) 0 (pieces (restOf b) (rowsIn b) 0) ∙ length-zeros 240

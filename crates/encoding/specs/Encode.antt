@@ -2,9 +2,10 @@
 -- Assumes nothing.
 use mathlib.Core.Bool.{cond}
 use mathlib.Core.List.{List, flatten}
-use Prim.Native.Nat.{ℕ, _+_, _*_}
-use lib.Dec.{eqb, leb}
-use lib.ListN.{length, take, drop, replicate}
+use Prim.Native.Nat.{ℕ, _*_, _/_, min}
+use lib.Dec.{eqb}
+use lib.ListN.{length, getD, replicate}
+use lib.Seq.{sets}
 use Rattle.refusals.specs.declared.Verdict.the-variants.{Accepted, Refused}
 use Rattle.refusals.specs.declared.Refusal.the-variants.{Short}
 use Rattle.ground.specs.Lists.{listed}
@@ -19,10 +20,14 @@ encodeOf info =
     (record { verdict = Accepted; checks = checksOf info })
     (record { verdict = Refused Short; checks = replicate 16 0 })
 
--- what row i of some bytes leaves; zeros where there is no whole row
+-- what row i of some bytes leaves: the remainder of 255 of them
 unfoldable pub restOf : List ℕ → ℕ → List ℕ
-restOf b i = cond (leb (i * 255 + 255) (length b)) (remainder 239 (take 255 (drop (i * 255) b))) (replicate 16 0)
+restOf b i = remainder 239 (listed (λ k. getD b k 0) 255 (i * 255))
 
--- of the first fifteen
+-- how many whole rows there are, of fifteen at most
+abbrev pub rowsIn : List ℕ → ℕ
+rowsIn b = min 15 (length b / 255)
+
+-- what each of them leaves, at the front of 240 zeros
 unfoldable pub remaindersOf : List ℕ → List ℕ
-remaindersOf b = flatten (listed (restOf b) 15 0)
+remaindersOf b = sets (replicate 240 0) 0 (flatten (listed (restOf b) (rowsIn b) 0))

@@ -1,5 +1,6 @@
 // Encoding of rows of RS(255,239): checks, rows of a file's tables, and what rows leave when the generator divides them (document 01, section 3).
 ghost use mathlib.Core.Path.{_≡_};
+ghost use Prim.Native.Nat.{_/_, min};
 ghost use lib.ListN.{length};
 ghost use Rattle.code.specs.Code.{generator as generatorOf};
 ghost use Rattle.encoding.specs.Encode.{encodeOf, remaindersOf};
@@ -83,17 +84,26 @@ pub fn put_rows(file: &[u8], m: usize, at: usize, n: usize, out: &mut [u8]) -> V
 }
 
 // What the rows of 255 bytes at the front of `rows` leave when the generator divides them, sixteen bytes each, of fifteen at most: zeros exactly where a row is
-// coded. Where no whole row stands there are zeros too.
+// coded. Behind them there are zeros too.
 pub fn remainders(rows: &[u8]) -> [u8; 240]
     ensures { λ r. ⌜ r ≡ remaindersOf (now (rows .entry)) ⌝ }
 {
     let t = register::table(GENERATOR);
+    let n = rows_in(rows.len());
     let mut out = [0u8; 240];
     let mut i: usize = 0;
-    while i < 15 {
-        let r = register::rest_at(rows, i, &t);
+    while i < n {
+        let r = register::rest(rows, i * 255, &t);
         register::put(&mut out, i * 16, r);
         i += 1;
     }
     out
+}
+
+// How many whole rows n bytes have, of fifteen at most.
+fn rows_in(n: usize) -> usize
+    ensures { λ r. ⌜ r ≡ min 15 (n / 255) ⌝ }
+{
+    let rows = n / 255;
+    if 15 <= rows { 15 } else { rows }
 }

@@ -8,7 +8,6 @@ ghost use Rattle.code.specs.Code.{generator as generatorOf};
 ghost use Rattle.code.specs.Register.{run};
 ghost use Rattle.code.specs.Search.{remainder};
 ghost use Rattle.code.specs.Repair.{checksOf};
-ghost use Rattle.encoding.specs.Encode.{restOf};
 ghost use Rattle.encoding.specs.InnerRegister.{part, column, unpack, both, Halves, Feeding};
 use crate::halves;
 
@@ -130,7 +129,7 @@ pub(crate) fn checks_two(d: &[u8], at: usize, t: &[u64; 512]) -> Two
 }
 
 // The remainder of the row of 255 bytes from `at` on.
-fn rest(d: &[u8], at: usize, t: &[u64; 512]) -> Reg
+pub(crate) fn rest(d: &[u8], at: usize, t: &[u64; 512]) -> Reg
     requires { ⌜ (at + 255 ≤ length (now d)) × Halves (now t) ⌝ }
     ensures { λ r. ⌜ both (r .h) (r .l) ≡ remainder 239 (part (now (d .entry)) at 255) ⌝ }
 {
@@ -139,18 +138,6 @@ fn rest(d: &[u8], at: usize, t: &[u64; 512]) -> Reg
         h: q.h ^ word(d, 1, at + 239),
         l: q.l ^ word(d, 1, at + 247),
     }
-}
-
-// The remainder of row i; zeros where there is no whole row.
-pub(crate) fn rest_at(rows: &[u8], i: usize, t: &[u64; 512]) -> Reg
-    requires { ⌜ (i < 15) × Halves (now t) ⌝ }
-    ensures { λ r. ⌜ both (r .h) (r .l) ≡ restOf (now (rows .entry)) i ⌝ }
-{
-    let at = i * 255;
-    if rows.len() < at + 255 {
-        return Reg { h: 0, l: 0 };
-    }
-    rest(rows, at, t)
 }
 
 // Byte k of a word, the lowest one counted 0.

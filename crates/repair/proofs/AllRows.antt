@@ -4,6 +4,7 @@ use mathlib.Core.Path.{_≡_, refl, sym, ap, ap₂, subst, _∙_}
 use mathlib.Core.Bool.{Bool, true, false}
 use mathlib.Core.List.{List, [], _∷_, _++_, append-nil}
 use Prim.Native.Nat.{ℕ, zero, suc, _+_, _-_, _*_, _/_, _%_, _≤_, _<_}
+use native.Mathlib.Nat.{min-eq-right, lt-of-lt-of-le, le-of-eq}
 use native.Mathlib.Omega.{arith}
 use borrow.Author.Tests.{eq-eqb, ne-eqb, le-leb, lt-leb}
 use lib.ListN.{length, getD, take, drop, set, length-append, length-drop, take-append-drop, List·getD-append}
@@ -21,10 +22,8 @@ use Rattle.code.specs.Repair.{Near, repairOf}
 use Rattle.code.specs.Mend.{Mended as Whole, whole, broken, behind, mendRows}
 use Rattle.code.proofs.Exact.{repair-found, repair-none}
 use Rattle.code.proofs.Mend.{mend-first, none-left, bytes-split}
-use Rattle.encoding.specs.Encode.{restOf, remaindersOf}
-use Rattle.encoding.proofs.Feeding.{rest-there, length-rest}
-use Rattle.ground.proofs.Listed.{listed-part}
-use Rattle.ground.proofs.Pieces.{length-pieces, piece-at}
+use Rattle.encoding.specs.Encode.{remaindersOf}
+use Rattle.encoding.proofs.Feeding.{rest-there, rest-among, length-remainders}
 use Rattle.repair.specs.declared.Mended.{Mended}
 use Rattle.repair.specs.Repair.{mendedAs, mendOf, Mending, mendingAs, mendingOf, Mends}
 use Rattle.repair.specs.InnerErrata.{entries, mendedBy, Searched}
@@ -181,16 +180,16 @@ module _ (b : List ℕ) (m : length b % 255 ≡ 0) where
     mend-all r out p = rw (eq-eqb (length b % 255) 0 m, le-leb (length b) 3825 h) p
 
     pub all-resting : (rests : List ℕ) → rests ≡ remaindersOf b → Resting b 0 rests
-    unfolding remaindersOf
     all-resting rests e =
+        let n : length b / 255 ≤ 15 = omega arith in
         record {
           multiple = m;
           few = omega arith;
-          sized = ap length e ∙ length-pieces (restOf b) 16 (length-rest b) 15 0;
+          sized = ap length e ∙ length-remainders b;
           left = λ j l.
               let z : 0 + j ≡ j = omega arith in
-              ap₂ (λ (x : List ℕ) (y : ℕ). take 16 (drop (y * 16) x)) e z ∙ piece-at (restOf b) 16 (length-rest b) 15 j (omega arith)
-              ∙ sym (rest-there b j (omega arith)) ∙ ap (remainder 239) (listed-part b 0 255 (j * 255) (omega arith));
+              ap₂ (λ (x : List ℕ) (y : ℕ). take 16 (drop (y * 16) x)) e z
+              ∙ rest-among b j (lt-of-lt-of-le l (le-of-eq (sym (min-eq-right n)))) ∙ rest-there b j (omega arith);
         }
 
 -- one row, by value

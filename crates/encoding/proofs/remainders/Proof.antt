@@ -1,15 +1,17 @@
--- `remainders` writes what each of fifteen rows leaves, sixteen bytes after sixteen bytes: what is left to write makes what all make (`Laid`).
+-- `remainders` writes what each row leaves, sixteen bytes after sixteen bytes: what is left to write makes what all make (`Laid`).
 -- Assumes nothing.
 use mathlib.Core.Path.{_≡_, refl, sym, ap, _∙_}
 use mathlib.Core.List.{List}
-use Prim.Native.Nat.{ℕ, _+_, _-_, _*_}
+use Prim.Native.Nat.{ℕ, _+_, _-_, _*_, _/_, _<_, _≤_}
+use native.Mathlib.Nat.{min-le-left, min-le-right}
 use native.Mathlib.Omega.{arith}
 use lib.ListN.{length, replicate}
 use lib.Seq.{sets}
-use Rattle.ground.proofs.Writing.{sets-all}
-use Rattle.ground.proofs.Pieces.{pieces, pieces-one, length-pieces, Laid, laid-start, laid-more, laid-done}
+use Rattle.ground.proofs.Pieces.{pieces, pieces-one, Laid, laid-start, laid-more, laid-done}
 use Rattle.code.specs.Code.{generator}
-use Rattle.encoding.specs.Encode.{restOf, remaindersOf}
+use Rattle.code.specs.Search.{remainder}
+use Rattle.encoding.specs.Encode.{restOf, rowsIn, remaindersOf}
+use Rattle.encoding.specs.InnerRegister.{part}
 use Rattle.encoding.proofs.Feeding.{length-rest}
 use borrow.Author.Needs.{needs}
 use Rattle.encoding.proofs.remainders.Statement.{statement}
@@ -18,51 +20,79 @@ use Rattle.encoding.proofs.remainders.Tie as tie
 at-zero : (f : ℕ → List ℕ) (i : ℕ) → pieces f 1 (0 + i) ≡ f i
 at-zero f i = let e : 0 + i ≡ i = omega arith in pieces-one f (0 + i) ∙ ap f e
 
+rest-is-of : (b : List ℕ) (i : ℕ) → remainder 239 (part b (i * 255) 255) ≡ restOf b i
+unfolding restOf
+rest-is-of b i = refl
+
 abbrev Inv-loop : tie.InvT-loop
-Inv-loop rows t out₀ i₀ out i = Laid (restOf (rows)) 16 15 0 (replicate 240 0) out i
+Inv-loop rows t n out₀ i₀ out i = Laid (restOf rows) 16 (rowsIn rows) 0 (replicate 240 0) out i
 
 abbrev μ-loop : tie.MeasureT-loop
-μ-loop rows t out₀ i₀ out i = 15 - i
+μ-loop rows t n out₀ i₀ out i = n - i
 
 table-requires : tie.Need-table-requires Inv-loop μ-loop
 unfolding generator
 table-requires c κs = refl
 
+rows-in-requires : tie.Need-rows-in-requires Inv-loop μ-loop
+rows-in-requires c κs = tt
+
 loop-holds : tie.Need-loop-holds Inv-loop μ-loop
 loop-holds c = laid-start _ _ _ _ _
 
-rest-at-requires : tie.Need-rest-at-requires Inv-loop μ-loop
-rest-at-requires c κs = search needs
+-- within the loop row i is there
+module _ (c : tie.In-loop Inv-loop μ-loop) where
+  abbrev b : List ℕ
+  b = c .before .before .before .before .before .args .rows .now
+
+  inside : c .before .loop .i < rowsIn b
+  inside = rw (← c .before .before .rows-in .ensures) (c .loop-test .taken)
+
+  few : rowsIn b ≤ 15
+  few = min-le-left 15 (length b / 255)
+
+  there : rowsIn b ≤ length b / 255
+  there = min-le-right 15 (length b / 255)
+
+mul-rest : tie.Need-mul-rest Inv-loop μ-loop
+mul-rest c = record { fits = omega (arith, inside c, few c) }
+
+rest-requires : tie.Need-rest-requires Inv-loop μ-loop
+rest-requires c κs = (omega (arith, inside (c .before), there (c .before)), c .before .before .before .before .table .ensures)
 
 slice-aggregate-put : tie.Need-slice-aggregate-put Inv-loop μ-loop
 slice-aggregate-put c = search needs
 
 mul-put : tie.Need-mul-put Inv-loop μ-loop
-mul-put c = search needs
+mul-put c = record { fits = omega (arith, inside (c .before .before .before), few (c .before .before .before)) }
 
 put-requires : tie.Need-put-requires Inv-loop μ-loop
-put-requires c κs = omega (arith, c .before .before .before .before .loop .inv .long)
+put-requires c κs =
+    let turn = c .before .before .before in
+    omega (arith, inside turn, few turn, turn .before .loop .inv .long)
 
 add-i : tie.Need-add-i Inv-loop μ-loop
-add-i c = search needs
+add-i c =
+    let turn = c .before .before .before .before .before in
+    record { fits = omega (arith, inside turn, few turn) }
 
 loop-less : tie.Need-loop-less Inv-loop μ-loop
-loop-less c = search needs
+loop-less c = omega arith
 
 loop-again : tie.Need-loop-again Inv-loop μ-loop
 loop-again c =
-    let loop = c .before .before .before .before .before .before in
-    let b : List ℕ = loop .before .before .before .args .rows .now in
-    laid-more (restOf b) 16 (length-rest b) 15 0 _ _ _ (loop .loop .i) 1 (search needs)
-    (c .before .put .ensures ∙ ap (sets (loop .loop .out) (loop .loop .i * 16)) (c .before .before .before .rest-at .ensures ∙ sym (at-zero (restOf b) (loop .loop .i))))
+    let turn = c .before .before .before .before .before in
+    let loop = turn .before in
+    laid-more (restOf (b turn)) 16 (length-rest (b turn)) (rowsIn (b turn)) 0 _ _ _ (loop .loop .i) 1 (omega (arith, inside turn))
+    (c .before .put .ensures
+    ∙ ap (sets (loop .loop .out) (loop .loop .i * 16)) (c .before .before .before .rest .ensures ∙ rest-is-of (b turn) (loop .loop .i) ∙ sym (at-zero (restOf (b turn)) (loop .loop .i))))
     (loop .loop .inv)
 
 returns : tie.Need-returns Inv-loop μ-loop
 unfolding remaindersOf
 returns c =
-    let b : List ℕ = c .before .before .before .before .args .rows .now in
-    laid-done (restOf b) 16 15 0 _ _ _ (search needs) (c .before .loop .inv)
-    ∙ sets-all (replicate 240 0) (pieces (restOf b) 15 0) (length-pieces (restOf b) 16 (length-rest b) 15 0)
+    let b : List ℕ = c .before .before .before .before .before .args .rows .now in
+    laid-done (restOf b) 16 (rowsIn b) 0 _ _ _ (rw (← c .before .before .rows-in .ensures) (c .loop-test .left)) (c .before .loop .inv)
 
 pub remainders-spec : {M : Type 1} → statement M
 remainders-spec =
@@ -71,8 +101,10 @@ remainders-spec =
     Inv-loop
     μ-loop
     table-requires
+    rows-in-requires
     loop-holds
-    rest-at-requires
+    mul-rest
+    rest-requires
     slice-aggregate-put
     mul-put
     put-requires
