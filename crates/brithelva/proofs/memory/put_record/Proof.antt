@@ -38,7 +38,7 @@ slice-aggregate-copy-in : tie.Need-slice-aggregate-copy-in Inv-loop μ-loop
 slice-aggregate-copy-in c = omega arith
 
 copy-in-requires : tie.Need-copy-in-requires Inv-loop μ-loop
-copy-in-requires c κs = tt
+copy-in-requires c κs = search needs
 
 add-i : tie.Need-add-i Inv-loop μ-loop
 add-i c = omega arith
