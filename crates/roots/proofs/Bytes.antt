@@ -13,7 +13,8 @@ use Rattle.ground.proofs.Numbers.{push-digit}
 use Rattle.ground.proofs.Sums.{sum-comm, sum-self}
 use Rattle.field.specs.Field.{product, power}
 use Rattle.field.proofs.Laws.{product-sum-left}
-use Rattle.roots.specs.InnerWords.{byteAt, Words}
+use Rattle.words.specs.Words.{byteAt}
+use Rattle.roots.specs.InnerWords.{Words}
 
 pub byte-zero : (k : ℕ) → byteAt 0 k ≡ 0
 unfolding byteAt
