@@ -1,7 +1,7 @@
 // The values at up to sixteen given places that give the syndromes (document 01, section 3). A place is told by its exponent a: byte 254 - a of a row has the locator α^a. The
 // places are shifted out of the syndromes one after the other, which leaves one equation for the last place, and are then brought back, last first.
 ghost use mathlib.Core.Path.{_≡_};
-ghost use Prim.Native.Nat.{_+_, _≤_, _<_};
+ghost use Prim.Native.Nat.{_≤_, _<_};
 ghost use lib.ListN.{length};
 ghost use Rattle.field.specs.Tables.{Powers, Logs};
 ghost use Rattle.repair.specs.InnerErrata.{Placed, ShiftedOut, Sifted, Restored, Solved, Searched, mendedBy, entries};

@@ -3,10 +3,9 @@
 use mathlib.Core.Path.{_≡_, refl, sym, ap, ap₂, _∙_}
 use mathlib.Core.List.{List}
 use Prim.Native.Nat.{ℕ, zero, suc, _+_, _*_, _/_, _%_, _^_, _<_, _≤_}
-use native.Mathlib.Nat.{zero-div, div-div-eq-div-mul, mul-assoc, mul-add, mul-one, not-suc-le-zero, le-of-suc-le-suc}
+use native.Mathlib.Nat.{zero-div, mul-assoc, mul-add, mul-one, not-suc-le-zero, le-of-suc-le-suc}
 use native.Mathlib.Omega.{arith}
 use lib.ListN.{getD}
-use lib.Pow.{pow-add}
 use lib.Bits.{bitXor, bitAnd, bitOr, and-shr, and-mod, or-shr, or-mod, and-le-r, xor-shr, xor-mod, xor-shifted}
 use Rattle.ground.specs.Bits.{sum}
 use Rattle.ground.proofs.Numbers.{push-digit}

@@ -1,7 +1,7 @@
 // The roots that are found, in the order of their exponents: the first sixteen are kept.
 ghost use mathlib.Core.Path.{_≡_};
 ghost use mathlib.Core.Bool.{true};
-ghost use Prim.Native.Nat.{ℕ, _+_, _<_};
+ghost use Prim.Native.Nat.{ℕ, _<_};
 ghost use lib.ListN.{length};
 ghost use Rattle.words.specs.Words.{byteAt};
 ghost use Rattle.roots.specs.InnerWords.{Noted, Looked};

@@ -4,7 +4,7 @@ use mathlib.Core.Path.{_≡_, refl, sym, ap, _∙_}
 use mathlib.Core.List.{List}
 use Prim.Native.Nat.{ℕ, _+_, _-_, _*_}
 use native.Mathlib.Omega.{arith}
-use lib.ListN.{length, replicate}
+use lib.ListN.{replicate}
 use lib.Seq.{sets}
 use Rattle.ground.proofs.Writing.{sets-all}
 use Rattle.ground.proofs.Pieces.{pieces, pieces-one, length-pieces, Laid, laid-start, laid-more, laid-done}

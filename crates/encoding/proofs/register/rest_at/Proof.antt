@@ -1,7 +1,6 @@
 -- `register::rest_at` looks whether the row is whole.
 -- Assumes nothing.
 use mathlib.Core.Path.{_∙_}
-use native.Mathlib.Omega.{arith}
 use Rattle.encoding.proofs.Feeding.{rest-none, rest-there}
 use borrow.Author.Needs.{needs}
 use Rattle.encoding.proofs.register.rest_at.Statement.{statement}

@@ -1,6 +1,6 @@
 -- `factors::log` reads the table of logarithms, whose rule says it.
 -- Assumes nothing.
-use mathlib.Core.Path.{_≡_, ap, subst, sym, _∙_}
+use mathlib.Core.Path.{ap, _∙_}
 use Prim.Native.Nat.{ℕ, _<_}
 use Rattle.field.specs.Field.{power}
 use borrow.Author.Needs.{needs}
