@@ -1,6 +1,5 @@
 // Lent bytes: parts of them, copies, fillings and comparisons.
 ghost use Prim.Native.Nat.{_≤_};
-ghost use lib.ListN.{length};
 ghost use Rattle.io.specs.Counts.{Counts};
 
 // The smaller number.

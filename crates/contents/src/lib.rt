@@ -19,7 +19,7 @@ pub fn slot_length(store: &[u8], at: usize) -> usize
     if n - 1 <= at {
         return low_byte(store, at);
     }
-    wide(store[at]) + wide(store[at + 1]) * 256
+    words::index(store[at]) + words::index(store[at + 1]) * 256
 }
 
 // The same where the store has at most the first byte of it.
@@ -30,13 +30,7 @@ fn low_byte(store: &[u8], at: usize) -> usize
     if store.len() <= at {
         return 0;
     }
-    wide(store[at])
-}
-
-fn wide(byte: u8) -> usize
-    ensures { λ r. ⌜ (r ≡ byte) × (r < 256) ⌝ }
-{
-    byte as usize
+    words::index(store[at])
 }
 
 // Whether a slot of a place may hold `n` bytes.

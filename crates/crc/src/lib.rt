@@ -104,7 +104,7 @@ fn one(t: &[u32; 512], register: u32, bytes: &[u8], i: usize) -> u32
     requires { ⌜ i < length (now bytes) ⌝ }
     ensures { λ r. ⌜ r ≡ groupBy 32 (now (t .entry)) 1 register (drop i (now (bytes .entry))) ⌝ }
 {
-    two(t, 0, (register >> 24) ^ wide(bytes[i])) ^ (register << 8)
+    two(t, 0, (register >> 24) ^ words::wide32(bytes[i])) ^ (register << 8)
 }
 
 // The entries of a word's eight half bytes, from row k on.
@@ -136,15 +136,8 @@ fn word(bytes: &[u8], i: usize) -> u32
     requires { ⌜ i + 4 ≤ length (now bytes) ⌝ }
     ensures { λ r. ⌜ r ≡ number (take 4 (drop i (now (bytes .entry)))) ⌝ }
 {
-    wide(bytes[i]) * 16777216
-        + wide(bytes[i + 1]) * 65536
-        + wide(bytes[i + 2]) * 256
-        + wide(bytes[i + 3])
-}
-
-// A byte as a word.
-fn wide(b: u8) -> u32
-    ensures { λ r. ⌜ (r ≡ b) × (r < 256) ⌝ }
-{
-    b as u32
+    words::wide32(bytes[i]) * 16777216
+        + words::wide32(bytes[i + 1]) * 65536
+        + words::wide32(bytes[i + 2]) * 256
+        + words::wide32(bytes[i + 3])
 }

@@ -2,7 +2,7 @@
 -- Assumes nothing.
 use mathlib.Core.Path.{_≡_, refl, sym, ap, ap₂, _∙_, subst}
 use mathlib.Core.List.{List, [], _∷_, _++_}
-use Prim.Native.Nat.{ℕ, suc, _+_, _-_, _*_, _/_, _%_, _^_, _<_, _≤_}
+use Prim.Native.Nat.{ℕ, suc, _+_, _-_, _*_, _^_, _<_, _≤_}
 use native.Mathlib.Nat.{lt-of-lt-of-le}
 use native.Mathlib.Numerals.{add-one}
 use native.Mathlib.Omega.{arith}
@@ -12,6 +12,7 @@ use lib.Arith.{digits-lt}
 use lib.Pow.{pow-add, pow-mono}
 use Rattle.ground.proofs.Listed.{listed-append}
 use Rattle.ground.proofs.Writing.{sets-append}
+use Rattle.words.specs.Words.{byteAt}
 use Rattle.encoding.specs.InnerRegister.{column, unpack, both}
 use Rattle.encoding.proofs.Words.{length-unpack, unpack-push}
 
@@ -59,9 +60,9 @@ pub record Unpacking (w at : ℕ) (out₀ out : List ℕ) (i k : ℕ) : Type 0 w
 pub unpacking-start : (w at : ℕ) (out : List ℕ) → Unpacking w at out out at 8
 unpacking-start w at out = record { within = omega arith; place = refl; long = refl; left = refl }
 
-pub unpacking-more : (w at : ℕ) (out₀ out : List ℕ) (i k b : ℕ) → 0 < k → b ≡ w / 2 ^ ((k - 1) * 8) % 256 → Unpacking w at out₀ out i k
+pub unpacking-more : (w at : ℕ) (out₀ out : List ℕ) (i k b : ℕ) → 0 < k → b ≡ byteAt w (k - 1) → Unpacking w at out₀ out i k
     → Unpacking w at out₀ (set out i b) (i + 1) (k - 1)
-unfolding unpack
+unfolding unpack byteAt
 unpacking-more w at out₀ out i k b h e u =
     let p : i + k ≡ at + 8 = u .place in
     let m : k ≤ 8 = u .within in

@@ -1,7 +1,7 @@
 // The register that divides by the generator (document 01, section 3), eight bytes at a time: sixteen bytes in two words. The table of what a half byte leaves
 // is taken once a public call and lent down.
 ghost use mathlib.Core.Path.{_≡_};
-ghost use Prim.Native.Nat.{_+_, _*_, _/_, _%_, _^_, _<_, _≤_};
+ghost use Prim.Native.Nat.{_+_, _*_, _%_, _<_, _≤_};
 ghost use lib.ListN.{length};
 ghost use lib.Seq.{sets};
 ghost use Rattle.code.specs.Code.{generator as generatorOf};
@@ -60,12 +60,6 @@ fn turn(r: Reg, x: u64, t: &[u64; 512]) -> Reg
     Reg { h, l }
 }
 
-fn wide(b: u8) -> u64
-    ensures { λ r. ⌜ (r ≡ b) × (r < 256) ⌝ }
-{
-    b as u64
-}
-
 // Eight bytes of `d`, from `at` on and m apart, as a word, the first one highest.
 pub(crate) fn word(d: &[u8], m: usize, at: usize) -> u64
     requires { ⌜ (m ≤ 255) × (at + 7 * m < length (now d)) ⌝ }
@@ -74,7 +68,7 @@ pub(crate) fn word(d: &[u8], m: usize, at: usize) -> u64
     let mut w: u64 = 0;
     let mut n: usize = 0;
     while n < 8 {
-        w = w * 256 + wide(d[at + n * m]);
+        w = w * 256 + words::wide(d[at + n * m]);
         n += 1;
     }
     w
@@ -140,14 +134,6 @@ pub(crate) fn rest(d: &[u8], at: usize, t: &[u64; 512]) -> Reg
     }
 }
 
-// Byte k of a word, the lowest one counted 0.
-fn low(w: u64, k: u64) -> u8
-    requires { ⌜ k < 8 ⌝ }
-    ensures { λ r. ⌜ r ≡ w / 2 ^ (k * 8) % 256 ⌝ }
-{
-    ((w >> (k * 8)) % 256) as u8
-}
-
 // Writes the eight bytes of a word.
 pub(crate) fn put_word(out: &mut [u8], at: usize, w: u64)
     requires { ⌜ at + 8 ≤ length (now out) ⌝ }
@@ -157,7 +143,7 @@ pub(crate) fn put_word(out: &mut [u8], at: usize, w: u64)
     let mut k: u64 = 8;
     while 0 < k {
         k -= 1;
-        out[i] = low(w, k);
+        out[i] = words::byte(w, k);
         i += 1;
     }
 }

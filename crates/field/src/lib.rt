@@ -66,11 +66,5 @@ pub fn inverse_by(powers: &[u8; 512], logs: &[u8; 256], a: u8) -> u8
 fn log(logs: &[u8; 256], x: u8) -> usize
     ensures { λ r. ⌜ (r ≡ getD (now (logs .entry)) x 0) × (r < 256) ⌝ }
 {
-    wide(logs[x as usize])
-}
-
-fn wide(x: u8) -> usize
-    ensures { λ r. ⌜ (r ≡ x) × (r < 256) ⌝ }
-{
-    x as usize
+    words::index(logs[x as usize])
 }

@@ -8,7 +8,7 @@ use native.Mathlib.Nat.{add-mul, one-mul, mul-assoc, mul-comm, mul-left-comm, mu
 use native.Mathlib.Omega.{arith}
 use borrow.Author.Tests.{eq-eqb, ne-eqb, eqb-false}
 use lib.Dec.{eqb}
-use lib.ListN.{length, getD, take, drop, replicate, length-append, length-take, length-drop, take-append-drop}
+use lib.ListN.{length, getD, take, drop, length-append, length-take, length-drop, take-append-drop}
 use lib.Seq.{take-at, drop-at, drop-drop, getD-append-add}
 use Rattle.ground.specs.Lists.{listed}
 use Rattle.ground.proofs.Listed.{part-of-front, joined-all, ceil-upper, ceil-short, ceil-below, ceil-lower}
@@ -24,7 +24,7 @@ use Rattle.packet.specs.Range.{InRange}
 use Rattle.packet.specs.Settings.{settingsFit, rowsHeld}
 use Rattle.packet.proofs.Laws.{header-length, header-bytes, marked-header, fields-header, SentFacts, read-accepts, SettingsFacts, settings-facts}
 use Rattle.layout.specs.Layout.{tablesOf, rowOf, codedFile, undone}
-use Rattle.layout.proofs.Coded.{length-coded, coded-bytes, coded-row, row-coded, undone-coded, undone-file}
+use Rattle.layout.proofs.Coded.{length-coded, coded-bytes, coded-row, row-coded, undone-file}
 use Rattle.pack.specs.Pack.{codedLength, countOf, sentOf, payloadOf, fourBytes, sealed, fieldsFor, headerFor, packetOf}
 
 -- ---- settings that fit
@@ -187,12 +187,6 @@ module _ (g : Settings) (file : List ℕ) (fit : settingsFit g ≡ true) where
     payload-coded b n i l =
         subst Coded (sym (payload-row n i l))
         (row-coded (g .rows) file ((n * (g .size / 255) + i) / g .rows) ((n * (g .size / 255) + i) % g .rows) b)
-
-    pub joined-undone : undone (g .rows) (flatten (listed (payloadOf g file) (countOf g (length file)) 0)) (239 * g .rows * tablesOf (g .rows) (length file)) 0
-        ≡ file ++ replicate (239 * g .rows * tablesOf (g .rows) (length file) - length file) 0
-    joined-undone =
-        ap (λ (x : List ℕ). undone (g .rows) x (239 * g .rows * tablesOf (g .rows) (length file)) 0) (joined-payloads ∙ sent-coded g file not-plain)
-        ∙ undone-coded (g .rows) (facts .rows p) file
 
     pub joined-file : undone (g .rows) (flatten (listed (payloadOf g file) (countOf g (length file)) 0)) (length file) 0 ≡ file
     joined-file =

@@ -1,20 +1,20 @@
 -- What repair makes of a payload, and when the CRC agrees: document 01, section 5, Offer; what demand 3 asks of an altered copy.
 -- Assumes nothing.
-use mathlib.Core.Path.{_≡_, refl, sym, ap, ap₂, _∙_}
+use mathlib.Core.Path.{_≡_, refl, sym, ap, _∙_}
 use mathlib.Core.Logic.{_⊎_, ⊎-elim}
 use mathlib.Core.Bool.{Bool, true, false}
-use mathlib.Core.List.{List, [], _∷_, _++_}
-use Prim.Native.Nat.{ℕ, zero, suc, _+_, _-_, _*_, _/_, _%_, _<_, _≤_}
+use mathlib.Core.List.{List}
+use Prim.Native.Nat.{ℕ, _+_, _-_, _*_, _/_, _%_, _<_, _≤_}
 use native.Mathlib.Omega.{arith}
 use borrow.Author.Tests.{eqb-true, eqb-false, ltb-true}
 use lib.Dec.{eqb, ltb}
-use lib.ListN.{length, getD, take, drop, length-append, length-drop, take-append-drop}
-use lib.Seq.{length-take-le, drop-drop, getD-drop, getD-take}
+use lib.ListN.{length, getD, take, drop}
+use lib.Seq.{getD-drop, getD-take}
 use Rattle.code.specs.Code.{Bytes, Coded, distance}
 use Rattle.code.proofs.Mend.{rowOf, bytes-split, mend-whole, mend-length}
 use Rattle.packet.specs.Packet.{readOf}
 use Rattle.packet.proofs.Laws.{fields-first}
-use Rattle.code.specs.Mend.{Mended, whole, broken, behind, mendRows}
+use Rattle.code.specs.Mend.{whole}
 use Rattle.record.specs.Mend.{payloadIn, mendedIn, crcIn, agrees}
 use Rattle.record.proofs.OfferCases.{payload-length, mended-plain, mended-rows}
 

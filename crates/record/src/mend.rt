@@ -5,23 +5,16 @@ ghost use lib.ListN.{length};
 ghost use Rattle.record.specs.Mend.{crcIn, agrees};
 use packet::Packet;
 
-// A byte as a word.
-fn wide(byte: u8) -> u32
-    ensures { λ r. ⌜ (r ≡ byte) × (r ≤ 255) ⌝ }
-{
-    byte as u32
-}
-
 // The CRC as sent.
 fn crc_in(packet: &[u8]) -> u32
     requires { ⌜ 4 ≤ length (now packet) ⌝ }
     ensures { λ r. ⌜ r ≡ crcIn (now (packet .entry)) ⌝ }
 {
     let n = packet.len();
-    wide(packet[n - Packet::CRC]) * 16777216
-        + wide(packet[n - 3]) * 65536
-        + wide(packet[n - 2]) * 256
-        + wide(packet[n - 1])
+    words::wide32(packet[n - Packet::CRC]) * 16777216
+        + words::wide32(packet[n - 3]) * 65536
+        + words::wide32(packet[n - 2]) * 256
+        + words::wide32(packet[n - 1])
 }
 
 // Whether the CRC as sent is that of the packet's header and of a payload, which may be the repaired one.

@@ -18,7 +18,7 @@ use Rattle.refusals.specs.declared.Refusal.the-variants.{Short, Repair}
 use Rattle.code.specs.Code.{Bytes}
 use Rattle.code.specs.Search.{Repaired, remainder}
 use Rattle.code.specs.Search.Repaired.{found, none}
-use Rattle.code.specs.Repair.{Near, repairOf}
+use Rattle.code.specs.Repair.{repairOf}
 use Rattle.code.specs.Mend.{Mended as Whole, whole, broken, behind, mendRows}
 use Rattle.code.proofs.Exact.{repair-found, repair-none}
 use Rattle.code.proofs.Mend.{mend-first, none-left, bytes-split}

@@ -7,7 +7,7 @@ use mathlib.Core.Logic.{_≢_, ⊎-elim}
 use mathlib.Core.Bool.{Bool, true, false}
 use mathlib.Core.List.{List, [], _∷_}
 use Prim.Native.Nat.{ℕ, zero, suc, _+_, _-_, _≤_, _<_}
-use native.Mathlib.Nat.{le-refl, le-trans, not-suc-le-zero}
+use native.Mathlib.Nat.{le-refl, not-suc-le-zero}
 use native.Mathlib.Numerals.{add-one}
 use native.Mathlib.Omega.{arith}
 use lib.ListN.{length, getD, set, length-set}
@@ -16,10 +16,10 @@ use Rattle.ground.specs.Bits.{sum}
 use Rattle.ground.proofs.Sums.{sum-assoc, sum-self, sum-zero, sum-cancel}
 use Rattle.field.specs.Field.{product, expo, power}
 use Rattle.field.proofs.Laws.{sum-byte}
-use Rattle.code.specs.Code.{Bytes, add, Coded, distance}
+use Rattle.code.specs.Code.{Bytes, add, distance}
 use Rattle.code.specs.Search.{remainder}
 use Rattle.code.specs.Repair.{Near}
-use Rattle.code.specs.Value.{value, eval, dot}
+use Rattle.code.specs.Value.{value, dot}
 use Rattle.code.proofs.Lists.{zeros, bytes-of, bytes-at, add-bytes, length-add, add-same}
 use Rattle.code.proofs.Weights.{weight, terms, values-zeros}
 use Rattle.code.proofs.Values.{value-add, value-set, value-remainder, coded-values, values-coded}
@@ -31,7 +31,7 @@ use Rattle.repair.specs.InnerNull.{Annihilated}
 use Rattle.repair.specs.InnerErrata.{entries, shareOf, Rooted, Solved, mendedBy, Agreeing, Searched}
 use Rattle.ground.proofs.Numbers.{same-or-not, below-suc}
 use Rattle.repair.proofs.Totals.{total-ext, total-first}
-use Rattle.repair.proofs.Shares.{expo-swap, share-more}
+use Rattle.repair.proofs.Shares.{expo-swap}
 
 -- ---- the row with the values added
 

@@ -5,7 +5,7 @@ use mathlib.Core.List.{List}
 use Prim.Native.Nat.{ℕ, zero, suc, _+_}
 use lib.ListN.{getD}
 use Rattle.ground.specs.Bits.{sum}
-use Rattle.field.specs.Field.{product, expo, power}
+use Rattle.field.specs.Field.{product}
 
 -- f 0 + .. + f (n - 1)
 unfoldable pub total : ℕ → (ℕ → ℕ) → ℕ

@@ -1,7 +1,7 @@
 // The values at up to sixteen given places that give the syndromes (document 01, section 3). A place is told by its exponent a: byte 254 - a of a row has the locator α^a. The
 // places are shifted out of the syndromes one after the other, which leaves one equation for the last place, and are then brought back, last first.
 ghost use mathlib.Core.Path.{_≡_};
-ghost use Prim.Native.Nat.{_+_, _≤_, _<_};
+ghost use Prim.Native.Nat.{_≤_, _<_};
 ghost use lib.ListN.{length};
 ghost use Rattle.field.specs.Tables.{Powers, Logs};
 ghost use Rattle.repair.specs.InnerErrata.{Placed, ShiftedOut, Sifted, Restored, Solved, Searched, mendedBy, entries};
@@ -84,7 +84,7 @@ fn sift(s: [u8; 16], at: [u8; 16], n: usize, powers: &[u8; 512], logs: &[u8; 256
     let mut out = s;
     let mut k: usize = 0;
     while k < n {
-        let next = shift_out(out, factors::wide(at[k]), n, k, powers, logs);
+        let next = shift_out(out, words::index(at[k]), n, k, powers, logs);
         out = next;
         k += 1;
     }
@@ -145,7 +145,7 @@ pub(crate) fn mend(rows: &mut [u8], at: [u8; 16], values: [u8; 16], n: usize)
 {
     let mut k: usize = 0;
     while k < n {
-        let i = 254 - factors::wide(at[k]);
+        let i = 254 - words::index(at[k]);
         rows[i] = rows[i] ^ values[k];
         k += 1;
     }

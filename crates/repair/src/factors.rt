@@ -48,7 +48,7 @@ pub(crate) fn log(logs: &[u8; 256], x: u8) -> usize
     requires { ⌜ (x ≢ 0) × Logs (now logs) ⌝ }
     ensures { λ r. ⌜ (r < 255) × (power r ≡ x) ⌝ }
 {
-    wide(logs[x as usize])
+    words::index(logs[x as usize])
 }
 
 // The exponent below 255 of α^e.
@@ -64,11 +64,5 @@ pub(crate) fn power(powers: &[u8; 512], a: u8) -> u8
     requires { ⌜ Powers (now powers) ⌝ }
     ensures { λ r. ⌜ r ≡ power a ⌝ }
 {
-    powers[wide(a)]
-}
-
-pub(crate) fn wide(x: u8) -> usize
-    ensures { λ r. ⌜ (r ≡ x) × (r < 256) ⌝ }
-{
-    x as usize
+    powers[words::index(a)]
 }

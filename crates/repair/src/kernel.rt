@@ -1,9 +1,7 @@
 // A vector of nine bytes, not zero, that the eight runs of the sixteen syndromes annihilate: the coefficients, the constant first, of a polynomial that is zero at the
 // locator of each wrong byte where at most eight are wrong (document 01, section 3).
 ghost use mathlib.Core.Path.{_≡_};
-ghost use mathlib.Core.List.{List, []};
-ghost use Prim.Native.Nat.{ℕ, suc, _+_, _-_, _<_, _≤_};
-ghost use lib.ListN.{length, getD};
+ghost use Prim.Native.Nat.{_-_, _<_, _≤_};
 ghost use Rattle.field.specs.Tables.{Powers, Logs};
 ghost use Rattle.repair.specs.InnerSums.{runOf};
 ghost use Rattle.repair.specs.InnerNull.{Short, Mixed, Shifted, Basis, Reducing, Reduced, Annihilated};

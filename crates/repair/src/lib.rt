@@ -9,6 +9,7 @@ mod kernel;
 mod rows;
 mod terms;
 
+use packet::Packet;
 use refusals::Refusal;
 use refusals::Verdict;
 
@@ -26,7 +27,7 @@ pub fn mend(rows: &mut [u8]) -> Verdict
     if rows.len() % 255 != 0 {
         return Verdict::Refused(Refusal::Short);
     }
-    if 3825 < rows.len() {
+    if Packet::PROTECTED < rows.len() {
         return Verdict::Refused(Refusal::Short);
     }
     let rests = encoding::remainders(rows);

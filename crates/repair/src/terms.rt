@@ -57,7 +57,7 @@ pub(crate) fn agrees(
     let mut left = s;
     let mut k: usize = 0;
     while k < n {
-        let next = add_term(left, values[k], factors::wide(at[k]), powers, logs);
+        let next = add_term(left, values[k], words::index(at[k]), powers, logs);
         left = next;
         k += 1;
     }

@@ -1,6 +1,7 @@
 mod Lent
 pub mod Weak
 pub mod Refusals
+pub mod Words
 pub mod Field
 pub mod Crc
 pub mod Roots

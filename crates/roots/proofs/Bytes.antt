@@ -3,17 +3,17 @@
 use mathlib.Core.Path.{_≡_, refl, sym, ap, ap₂, _∙_}
 use mathlib.Core.List.{List}
 use Prim.Native.Nat.{ℕ, zero, suc, _+_, _*_, _/_, _%_, _^_, _<_, _≤_}
-use native.Mathlib.Nat.{zero-div, div-div-eq-div-mul, mul-assoc, mul-add, mul-one, not-suc-le-zero, le-of-suc-le-suc}
+use native.Mathlib.Nat.{zero-div, mul-assoc, mul-add, mul-one, not-suc-le-zero, le-of-suc-le-suc}
 use native.Mathlib.Omega.{arith}
 use lib.ListN.{getD}
-use lib.Pow.{pow-add}
 use lib.Bits.{bitXor, bitAnd, bitOr, and-shr, and-mod, or-shr, or-mod, and-le-r, xor-shr, xor-mod, xor-shifted}
 use Rattle.ground.specs.Bits.{sum}
 use Rattle.ground.proofs.Numbers.{push-digit}
 use Rattle.ground.proofs.Sums.{sum-comm, sum-self}
 use Rattle.field.specs.Field.{product, power}
 use Rattle.field.proofs.Laws.{product-sum-left}
-use Rattle.roots.specs.InnerWords.{byteAt, Words}
+use Rattle.words.specs.Words.{byteAt}
+use Rattle.roots.specs.InnerWords.{Words}
 
 pub byte-zero : (k : ℕ) → byteAt 0 k ≡ 0
 unfolding byteAt

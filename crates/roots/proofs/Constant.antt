@@ -10,7 +10,8 @@ use Rattle.ground.proofs.Listed.{getD-listed-0}
 use Rattle.field.specs.Field.{product, power}
 use Rattle.field.proofs.Laws.{product-zero}
 use Rattle.code.specs.Code.{scale}
-use Rattle.roots.specs.InnerWords.{byteAt, Words}
+use Rattle.words.specs.Words.{byteAt}
+use Rattle.roots.specs.InnerWords.{Words}
 
 -- the eight bytes of a word, the lowest first
 abbrev pub bytes : ℕ → List ℕ

@@ -20,7 +20,8 @@ use Rattle.code.specs.Value.{eval}
 use Rattle.code.proofs.Weights.{one-product}
 use Rattle.roots.specs.declared.Roots.{Roots}
 use Rattle.roots.specs.Roots.{passing, isRoot, rootList, rootsOf}
-use Rattle.roots.specs.InnerWords.{byteAt, Short, Moved, Held}
+use Rattle.words.specs.Words.{byteAt}
+use Rattle.roots.specs.InnerWords.{Short, Moved, Held}
 use Rattle.roots.proofs.Passing.{passing-append, passing-same, passing-none}
 use Rattle.roots.proofs.Holding.{held-nothing}
 use Rattle.roots.proofs.Values.{Stretched, stretched-value}

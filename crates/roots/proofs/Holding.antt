@@ -12,7 +12,8 @@ use lib.Dec.{eqb, ltb}
 use lib.ListN.{length, getD, take, set, length-set, length-append, replicate, getD-replicate, List·getD-append, List·getD-eq-default}
 use lib.Seq.{take-all, take-append-le, length-take-le, getD-append-seam, getD-set-same, getD-set-other}
 use Rattle.roots.specs.Roots.{passing}
-use Rattle.roots.specs.InnerWords.{byteAt, Held}
+use Rattle.words.specs.Words.{byteAt}
+use Rattle.roots.specs.InnerWords.{Held}
 use Rattle.ground.proofs.Numbers.{lt-or-ge, same-or-not}
 use Rattle.roots.proofs.Passing.{single, passing-more, passing-none}
 

@@ -16,7 +16,8 @@ use Rattle.field.specs.Field.{product, expo, power}
 use Rattle.field.proofs.Laws.{ring, product-zero, zero-product, power-byte, expo-power}
 use Rattle.code.specs.Value.{eval}
 use Rattle.code.proofs.Weights.{expo-zero, expo-suc, one-product}
-use Rattle.roots.specs.InnerWords.{byteAt, Short, Moved}
+use Rattle.words.specs.Words.{byteAt}
+use Rattle.roots.specs.InnerWords.{Short, Moved}
 use Rattle.ground.proofs.Numbers.{lt-or-ge, below-suc}
 use Rattle.roots.proofs.Bytes.{byte-zero, byte-sum}
 use Rattle.roots.proofs.Values.{eval-drop, eval-above}

@@ -3,17 +3,14 @@
 use mathlib.Core.Path.{_≡_}
 use mathlib.Core.Bool.{Bool, cond, _&&_}
 use mathlib.Core.List.{List, [], _∷_, _++_}
-use Prim.Native.Nat.{ℕ, suc, _+_, _*_, _/_, _%_, _^_, _<_}
+use Prim.Native.Nat.{ℕ, suc, _+_, _*_, _<_}
 use lib.Dec.{eqb, ltb}
 use lib.ListN.{length, getD, take}
 use Rattle.ground.specs.Bits.{sum}
+use Rattle.words.specs.Words.{byteAt}
 use Rattle.field.specs.Field.{product, power}
 use Rattle.code.specs.Value.{eval}
 use Rattle.roots.specs.Roots.{passing}
-
--- byte k of a word, the lowest one counted 0
-unfoldable pub byteAt : ℕ → ℕ → ℕ
-byteAt w k = w / 2 ^ (k * 8) % 256
 
 -- the table: a word for each coefficient i + 1 and each half byte h, at the low and at the high place
 pub record Words (t : List ℕ) : Type 0 where

@@ -7,9 +7,9 @@ ghost use Rattle.roots.specs.InnerWords.{Short};
 ghost use Rattle.code.specs.Value.{eval};
 ghost use Rattle.field.specs.Field.{power};
 
+mod products;
 mod search;
 mod table;
-mod words;
 
 // The exponents of the first n roots, in increasing order; zeros behind them.
 pub struct Roots {
@@ -21,7 +21,7 @@ pub struct Roots {
 pub fn find(v: [u8; 9]) -> Roots
     ensures { λ r. ⌜ r ≡ rootsOf v ⌝ }
 {
-    let table = words::table();
+    let table = products::table();
     let top = last(v);
     let mut at = [0u8; 16];
     let mut n = search::note(&mut at, 0, at_one(v), 0, 0);
@@ -29,7 +29,7 @@ pub fn find(v: [u8; 9]) -> Roots
     let mut t = v;
     let mut b: usize = 0;
     while b < 32 {
-        let w = words::move_on(&mut t, top, &table);
+        let w = products::move_on(&mut t, top, &table);
         n = search::look(&mut at, n, w, first, 8 * b);
         b += 1;
     }

@@ -1,10 +1,10 @@
 // The roots that are found, in the order of their exponents: the first sixteen are kept.
 ghost use mathlib.Core.Path.{_≡_};
 ghost use mathlib.Core.Bool.{true};
-ghost use Prim.Native.Nat.{ℕ, _+_, _<_};
+ghost use Prim.Native.Nat.{ℕ, _<_};
 ghost use lib.ListN.{length};
-ghost use Rattle.roots.specs.InnerWords.{byteAt, Noted, Looked};
-use crate::words;
+ghost use Rattle.words.specs.Words.{byteAt};
+ghost use Rattle.roots.specs.InnerWords.{Noted, Looked};
 
 // Keeps the exponent e where x equals y, unless it is 255 or more or sixteen are kept already.
 pub(crate) fn note(at: &mut [u8; 16], n: usize, x: u8, y: u8, e: usize) -> usize

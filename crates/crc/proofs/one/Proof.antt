@@ -6,11 +6,11 @@ use Rattle.crc.proofs.Steps.{one-is}
 use Rattle.crc.proofs.one.Statement.{statement}
 use Rattle.crc.proofs.one.Tie as tie
 
-shared-slice-read-wide : tie.Need-shared-slice-read-wide
-shared-slice-read-wide c = search needs
+shared-slice-read-wide32 : tie.Need-shared-slice-read-wide32
+shared-slice-read-wide32 c = search needs
 
-wide-requires : tie.Need-wide-requires
-wide-requires c κs = search needs
+wide32-requires : tie.Need-wide32-requires
+wide32-requires c κs = tt
 
 two-requires : tie.Need-two-requires
 two-requires c κs = search needs
@@ -19,7 +19,7 @@ returns : tie.Need-returns
 unfolding sum
 returns c =
     let s = c .before .before .before .before .args in
-    one-is (s .t .now) (s .register) (s .bytes .now) (s .i) (c .before .wide .result) (c .two .result) (search needs) (c .before .wide .ensures) (c .two .ensures)
+    one-is (s .t .now) (s .register) (s .bytes .now) (s .i) (c .before .wide32 .result) (c .two .result) (search needs) (c .before .wide32 .ensures) (c .two .ensures)
 
 pub one-spec : {M : Type 1} → statement M
-one-spec = tie.close (tie.spec shared-slice-read-wide wide-requires two-requires returns)
+one-spec = tie.close (tie.spec shared-slice-read-wide32 wide32-requires two-requires returns)

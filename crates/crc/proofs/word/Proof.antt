@@ -5,23 +5,23 @@ use Rattle.crc.proofs.Steps.{word-is}
 use Rattle.crc.proofs.word.Statement.{statement}
 use Rattle.crc.proofs.word.Tie as tie
 
-shared-slice-read-wide : tie.Need-shared-slice-read-wide
-shared-slice-read-wide c = search needs
+shared-slice-read-wide32 : tie.Need-shared-slice-read-wide32
+shared-slice-read-wide32 c = search needs
 
-wide-requires : tie.Need-wide-requires
-wide-requires c κs = search needs
+wide32-requires : tie.Need-wide32-requires
+wide32-requires c κs = tt
 
 mul-result : tie.Need-mul-result
 mul-result c = search needs
 
-add-wide : tie.Need-add-wide
-add-wide c = search needs
+add-wide32 : tie.Need-add-wide32
+add-wide32 c = search needs
 
-shared-slice-read-wide-2 : tie.Need-shared-slice-read-wide-2
-shared-slice-read-wide-2 c = search needs
+shared-slice-read-wide32-2 : tie.Need-shared-slice-read-wide32-2
+shared-slice-read-wide32-2 c = search needs
 
-wide-requires-2 : tie.Need-wide-requires-2
-wide-requires-2 c κs = search needs
+wide32-requires-2 : tie.Need-wide32-requires-2
+wide32-requires-2 c κs = tt
 
 mul-result-2 : tie.Need-mul-result-2
 mul-result-2 c = search needs
@@ -29,14 +29,14 @@ mul-result-2 c = search needs
 add-result : tie.Need-add-result
 add-result c = search needs
 
-add-wide-2 : tie.Need-add-wide-2
-add-wide-2 c = search needs
+add-wide32-2 : tie.Need-add-wide32-2
+add-wide32-2 c = search needs
 
-shared-slice-read-wide-3 : tie.Need-shared-slice-read-wide-3
-shared-slice-read-wide-3 c = search needs
+shared-slice-read-wide32-3 : tie.Need-shared-slice-read-wide32-3
+shared-slice-read-wide32-3 c = search needs
 
-wide-requires-3 : tie.Need-wide-requires-3
-wide-requires-3 c κs = search needs
+wide32-requires-3 : tie.Need-wide32-requires-3
+wide32-requires-3 c κs = tt
 
 mul-result-3 : tie.Need-mul-result-3
 mul-result-3 c = search needs
@@ -44,14 +44,14 @@ mul-result-3 c = search needs
 add-result-2 : tie.Need-add-result-2
 add-result-2 c = search needs
 
-add-wide-3 : tie.Need-add-wide-3
-add-wide-3 c = search needs
+add-wide32-3 : tie.Need-add-wide32-3
+add-wide32-3 c = search needs
 
-shared-slice-read-wide-4 : tie.Need-shared-slice-read-wide-4
-shared-slice-read-wide-4 c = search needs
+shared-slice-read-wide32-4 : tie.Need-shared-slice-read-wide32-4
+shared-slice-read-wide32-4 c = search needs
 
-wide-requires-4 : tie.Need-wide-requires-4
-wide-requires-4 c κs = search needs
+wide32-requires-4 : tie.Need-wide32-requires-4
+wide32-requires-4 c κs = tt
 
 add-result-3 : tie.Need-add-result-3
 add-result-3 c = search needs
@@ -60,28 +60,28 @@ returns : tie.Need-returns
 returns c =
     let s = c .before .before .before .before .before .before .before .before .before .args in
     word-is (s .bytes .now) (s .i) _ _ _ _ (search needs)
-    (c .before .before .before .before .before .before .wide .ensures) (c .before .before .before .before .wide2 .ensures)
-    (c .before .before .wide3 .ensures) (c .wide4 .ensures)
+    (c .before .before .before .before .before .before .wide32 .ensures) (c .before .before .before .before .wide322 .ensures)
+    (c .before .before .wide323 .ensures) (c .wide324 .ensures)
 
 pub word-spec : {M : Type 1} → statement M
 word-spec =
     tie.close
     (tie.spec
-    shared-slice-read-wide
-    wide-requires
+    shared-slice-read-wide32
+    wide32-requires
     mul-result
-    add-wide
-    shared-slice-read-wide-2
-    wide-requires-2
+    add-wide32
+    shared-slice-read-wide32-2
+    wide32-requires-2
     mul-result-2
     add-result
-    add-wide-2
-    shared-slice-read-wide-3
-    wide-requires-3
+    add-wide32-2
+    shared-slice-read-wide32-3
+    wide32-requires-3
     mul-result-3
     add-result-2
-    add-wide-3
-    shared-slice-read-wide-4
-    wide-requires-4
+    add-wide32-3
+    shared-slice-read-wide32-4
+    wide32-requires-4
     add-result-3
     returns)

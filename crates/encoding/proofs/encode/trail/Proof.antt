@@ -22,7 +22,7 @@ loop-holds c =
     (omega arith, run-begin (λ j. getD (s .file .now) (s .at + j * s .m) 0) (s .n) (s .o) (s .out .now))
 
 byte-requires : tie.Need-byte-requires Inv-loop μ-loop
-byte-requires c κs = search needs
+byte-requires c κs = tt
 
 add-out : tie.Need-add-out Inv-loop μ-loop
 add-out c = search needs

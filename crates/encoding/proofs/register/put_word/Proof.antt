@@ -17,8 +17,8 @@ loop-holds c = unpacking-start _ _ _
 sub-k : tie.Need-sub-k Inv-loop μ-loop
 sub-k c = search needs
 
-low-requires : tie.Need-low-requires Inv-loop μ-loop
-low-requires c κs = search needs
+byte-requires : tie.Need-byte-requires Inv-loop μ-loop
+byte-requires c κs = tt
 
 slice-write-out : tie.Need-slice-write-out Inv-loop μ-loop
 slice-write-out c = search needs
@@ -30,7 +30,7 @@ loop-less : tie.Need-loop-less Inv-loop μ-loop
 loop-less c = search needs
 
 loop-again : tie.Need-loop-again Inv-loop μ-loop
-loop-again c = unpacking-more _ _ _ _ _ _ _ (search needs) (c .low .ensures) (c .before .before .loop .inv)
+loop-again c = unpacking-more _ _ _ _ _ _ _ (search needs) (c .byte .ensures) (c .before .before .loop .inv)
 
 same-length : tie.Need-same-length Inv-loop μ-loop
 same-length c = search needs
@@ -46,7 +46,7 @@ put-word-spec =
     μ-loop
     loop-holds
     sub-k
-    low-requires
+    byte-requires
     slice-write-out
     add-i
     loop-less

@@ -31,7 +31,7 @@ shared-slice-read-wide c =
     omega (arith, mul-le-mul-right {m = c .before .before .loop .n} {n = 7} (c .before .before .before .before .args .m) (search needs))
 
 wide-requires : tie.Need-wide-requires Inv-loop μ-loop
-wide-requires c κs = search needs
+wide-requires c κs = tt
 
 add-w : tie.Need-add-w Inv-loop μ-loop
 add-w c = omega (arith, packing-room _ _ _ _ _ (c .before .before .before .loop .inv) (search needs))

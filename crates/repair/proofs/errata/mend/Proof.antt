@@ -1,8 +1,7 @@
 -- `errata::mend` adds one value after the other.
 -- Assumes nothing.
 use mathlib.Core.Path.{_≡_, refl, ap, _∙_}
-use mathlib.Core.List.{List}
-use Prim.Native.Nat.{ℕ, _-_, _≤_}
+use Prim.Native.Nat.{_-_, _≤_}
 use native.Mathlib.Omega.{arith}
 use lib.ListN.{length, length-set}
 use Rattle.ground.specs.Bits.{sum}
@@ -21,11 +20,11 @@ abbrev μ-loop : tie.MeasureT-loop
 loop-holds : tie.Need-loop-holds Inv-loop μ-loop
 loop-holds c = (omega arith, refl, mended-start _ _ _)
 
-array-read-wide : tie.Need-array-read-wide Inv-loop μ-loop
-array-read-wide c = omega (arith, c .before .before .before .pre .0 .few)
+array-read-index : tie.Need-array-read-index Inv-loop μ-loop
+array-read-index c = omega (arith, c .before .before .before .pre .0 .few)
 
-wide-requires : tie.Need-wide-requires Inv-loop μ-loop
-wide-requires c κs = search needs
+index-requires : tie.Need-index-requires Inv-loop μ-loop
+index-requires c κs = tt
 
 sub-i : tie.Need-sub-i Inv-loop μ-loop
 sub-i c = omega (arith, c .before .before .before .before .pre .0 .below (c .before .before .loop .k) (omega arith))
@@ -50,11 +49,11 @@ unfolding sum
 loop-again c =
     let at = c .before .before .before in
     let start = at .before .before in
-    let wide = c .before .wide in (
+    let index = c .before .index in (
       omega arith,
-      length-set (at .loop .rows) (254 - wide .result) _ ∙ at .loop .inv .1,
-      mended-more (start .args .rows .now) (entries (start .args .t2)) (entries (start .args .t3)) (at .loop .k) (wide .result) (at .loop .rows)
-          (at .loop .inv .2) (wide .ensures .0),
+      length-set (at .loop .rows) (254 - index .result) _ ∙ at .loop .inv .1,
+      mended-more (start .args .rows .now) (entries (start .args .t2)) (entries (start .args .t3)) (at .loop .k) (index .result) (at .loop .rows)
+          (at .loop .inv .2) (index .ensures .0),
     )
 
 same-length : tie.Need-same-length Inv-loop μ-loop
@@ -73,8 +72,8 @@ mend-spec =
     Inv-loop
     μ-loop
     loop-holds
-    array-read-wide
-    wide-requires
+    array-read-index
+    index-requires
     sub-i
     slice-read-rows
     array-read-rows

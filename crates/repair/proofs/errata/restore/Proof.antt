@@ -1,7 +1,7 @@
 -- `errata::restore` divides one entry after the other, and adds up what it gets: those up to entry i are divided.
 -- Assumes nothing.
 use mathlib.Core.Path.{_≡_, sym, ap₂, _∙_}
-use Prim.Native.Nat.{ℕ, _-_, _≤_}
+use Prim.Native.Nat.{ℕ, _-_}
 use native.Mathlib.Omega.{arith}
 use lib.ListN.{getD}
 use Rattle.ground.specs.Bits.{sum}

@@ -1,6 +1,5 @@
 -- `factors::inverse`: read off tables that keep their rules, it is one over a.
 -- Assumes nothing.
-use Rattle.field.specs.Field.{product}
 use Rattle.field.proofs.ByTables.{inverse-by-tables}
 use borrow.Author.Needs.{needs}
 use Rattle.repair.proofs.factors.inverse.Statement.{statement}

@@ -7,16 +7,16 @@ use borrow.Author.Needs.{needs}
 use Rattle.repair.proofs.factors.power.Statement.{statement}
 use Rattle.repair.proofs.factors.power.Tie as tie
 
-wide-requires : tie.Need-wide-requires
-wide-requires c κs = search needs
+index-requires : tie.Need-index-requires
+index-requires c κs = tt
 
 element-copy-out-result : tie.Need-element-copy-out-result
 element-copy-out-result c = search needs
 
 returns : tie.Need-returns
 returns c =
-    let wide = c .before .wide .ensures in
-    c .before .before .pre .entry _ (omega arith) ∙ ap power (wide .0)
+    let index = c .before .index .ensures in
+    c .before .before .pre .entry _ (omega arith) ∙ ap power (index .0)
 
 pub power-spec : {M : Type 1} → statement M
-power-spec = tie.close (tie.spec wide-requires element-copy-out-result returns)
+power-spec = tie.close (tie.spec index-requires element-copy-out-result returns)

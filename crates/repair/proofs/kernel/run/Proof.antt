@@ -1,12 +1,10 @@
 -- `kernel::run` adds up the products one by one: after m turns it has the sum over the first m entries.
 -- Assumes nothing.
 use mathlib.Core.Path.{_≡_, ap, ap₂, sym, _∙_}
-use Prim.Native.Nat.{ℕ, suc, _+_, _-_, _≤_}
+use Prim.Native.Nat.{_-_, _≤_}
 use native.Mathlib.Numerals.{add-one}
 use native.Mathlib.Omega.{arith}
-use lib.ListN.{getD}
 use Rattle.ground.specs.Bits.{sum}
-use Rattle.field.specs.Tables.{Powers, Logs}
 use Rattle.repair.specs.InnerSums.{total, runOf}
 use borrow.Author.Needs.{needs}
 use Rattle.repair.proofs.kernel.run.Statement.{statement}

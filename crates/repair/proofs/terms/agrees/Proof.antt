@@ -19,16 +19,16 @@ loop-holds c = (omega arith, leaving-start _ _ _)
 array-read-add-term : tie.Need-array-read-add-term Inv-loop μ-loop
 array-read-add-term c = omega (arith, c .before .before .pre .0 .few)
 
-array-read-wide : tie.Need-array-read-wide Inv-loop μ-loop
-array-read-wide c = search needs
+array-read-index : tie.Need-array-read-index Inv-loop μ-loop
+array-read-index c = search needs
 
-wide-requires : tie.Need-wide-requires Inv-loop μ-loop
-wide-requires c κs = search needs
+index-requires : tie.Need-index-requires Inv-loop μ-loop
+index-requires c κs = tt
 
 add-term-requires : tie.Need-add-term-requires Inv-loop μ-loop
 add-term-requires c κs =
     let start = c .before .before .before in
-    (rw (c .wide .ensures .0) (start .pre .0 .below _ (omega arith)), start .pre .1, start .pre .2)
+    (rw (c .index .ensures .0) (start .pre .0 .below _ (omega arith)), start .pre .1, start .pre .2)
 
 add-k : tie.Need-add-k Inv-loop μ-loop
 add-k c = search needs
@@ -37,7 +37,7 @@ loop-less : tie.Need-loop-less Inv-loop μ-loop
 loop-less c = search needs
 
 loop-again : tie.Need-loop-again Inv-loop μ-loop
-loop-again c = (omega arith, leaving-more (c .before .before .before .loop .inv .1) _ _ (c .before .wide .ensures .0) (c .add-term .ensures))
+loop-again c = (omega arith, leaving-more (c .before .before .before .loop .inv .1) _ _ (c .before .index .ensures .0) (c .add-term .ensures))
 
 is-nought-requires : tie.Need-is-nought-requires Inv-loop μ-loop
 is-nought-requires c κs = search needs
@@ -54,8 +54,8 @@ agrees-spec =
     μ-loop
     loop-holds
     array-read-add-term
-    array-read-wide
-    wide-requires
+    array-read-index
+    index-requires
     add-term-requires
     add-k
     loop-less

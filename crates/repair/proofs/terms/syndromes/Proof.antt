@@ -1,7 +1,6 @@
 -- `terms::syndromes` takes one coefficient more each turn, from the last: the sums are the values of the coefficients from i on.
 -- Assumes nothing.
 use mathlib.Core.Path.{ap, _≡_, _∙_}
-use mathlib.Core.List.{List}
 use Prim.Native.Nat.{ℕ}
 use native.Mathlib.Omega.{arith}
 use lib.ListN.{drop}

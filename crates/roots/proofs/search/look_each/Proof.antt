@@ -16,7 +16,7 @@ loop-holds : tie.Need-loop-holds Inv-loop μ-loop
 loop-holds c = looking-start _ _ _ _ _ (c .pre .0)
 
 byte-requires : tie.Need-byte-requires Inv-loop μ-loop
-byte-requires c κs = omega arith
+byte-requires c κs = tt
 
 add-note : tie.Need-add-note Inv-loop μ-loop
 add-note c = omega arith

@@ -2,7 +2,8 @@
 ghost use mathlib.Core.Path.{_≡_};
 ghost use Prim.Native.Nat.{ℕ, _+_, _*_, _<_, _≤_};
 ghost use Rattle.field.specs.Field.{product, power};
-ghost use Rattle.roots.specs.InnerWords.{byteAt, Words, Short, Moved};
+ghost use Rattle.words.specs.Words.{byteAt};
+ghost use Rattle.roots.specs.InnerWords.{Words, Short, Moved};
 use crate::table;
 
 // The table.
@@ -10,20 +11,6 @@ pub(crate) fn table() -> [u64; 256]
     ensures { λ t. ⌜ Words t ⌝ }
 {
     table::WORDS
-}
-
-// Byte k of a word, the lowest one counted 0.
-pub(crate) fn byte(w: u64, k: u64) -> u8
-    requires { ⌜ k < 8 ⌝ }
-    ensures { λ r. ⌜ r ≡ byteAt w k ⌝ }
-{
-    ((w >> (k * 8)) % 256) as u8
-}
-
-pub(crate) fn wide(x: u8) -> u64
-    ensures { λ r. ⌜ (r ≡ x) × (r < 256) ⌝ }
-{
-    x as u64
 }
 
 // The products of x and α^((i + 1) * (k + 1)), k from 0 to 7.
@@ -46,7 +33,7 @@ pub(crate) fn move_on(t: &mut [u8; 9], top: usize, words: &[u64; 256]) -> u64
     while i < top {
         let w = word(words, i, t[i + 1]);
         sum = sum ^ w;
-        t[i + 1] = byte(w, 7);
+        t[i + 1] = words::byte(w, 7);
         i += 1;
     }
     sum

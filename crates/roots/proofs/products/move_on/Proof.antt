@@ -1,10 +1,10 @@
--- `roots::words::move_on` moves one coefficient after the other (`Moving`).
+-- `roots::products::move_on` moves one coefficient after the other (`Moving`).
 -- Assumes nothing.
 use Prim.Native.Nat.{_-_, _≤_}
 use native.Mathlib.Omega.{arith}
 use Rattle.roots.proofs.Moving.{Moving, moving-start, moving-more, moving-end}
-use Rattle.roots.proofs.words.move_on.Statement.{statement}
-use Rattle.roots.proofs.words.move_on.Tie as tie
+use Rattle.roots.proofs.products.move_on.Statement.{statement}
+use Rattle.roots.proofs.products.move_on.Tie as tie
 
 abbrev Inv-loop : tie.InvT-loop
 Inv-loop t₀ top words sum₀ i₀ t sum i = (i ≤ top) × Moving t₀ t sum i
@@ -25,7 +25,7 @@ word-requires : tie.Need-word-requires Inv-loop μ-loop
 word-requires c κs = (omega (arith, c .before .before .before .pre .0), c .before .before .before .pre .2)
 
 byte-requires : tie.Need-byte-requires Inv-loop μ-loop
-byte-requires c κs = omega arith
+byte-requires c κs = tt
 
 add-t : tie.Need-add-t Inv-loop μ-loop
 add-t c = omega (arith, c .before .before .before .before .before .pre .0)

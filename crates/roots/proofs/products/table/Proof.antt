@@ -1,13 +1,13 @@
--- `roots::words::table` gives the constant, whose rule is computed.
+-- `roots::products::table` gives the constant, whose rule is computed.
 -- Assumes nothing.
 use mathlib.Core.Path.{refl}
 use Rattle.ground.specs.Bits.{sum}
 use Rattle.field.specs.Field.{carryless, reduce, product, expo}
 use Rattle.code.specs.Code.{scale}
-use Rattle.roots.specs.InnerWords.{byteAt}
+use Rattle.words.specs.Words.{byteAt}
 use Rattle.roots.proofs.Constant.{ones, points, multiples, rule}
-use Rattle.roots.proofs.words.table.Statement.{statement}
-use Rattle.roots.proofs.words.table.Tie as tie
+use Rattle.roots.proofs.products.table.Statement.{statement}
+use Rattle.roots.proofs.products.table.Tie as tie
 
 returns : tie.Need-returns
 unfolding ones points multiples byteAt scale expo product reduce carryless sum

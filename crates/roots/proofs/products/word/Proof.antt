@@ -1,9 +1,9 @@
--- `roots::words::word` reads the products of the two half bytes; a byte is their sum.
+-- `roots::products::word` reads the products of the two half bytes; a byte is their sum.
 -- Assumes nothing.
 use Rattle.roots.proofs.Bytes.{looked}
 use borrow.Author.Needs.{needs}
-use Rattle.roots.proofs.words.word.Statement.{statement}
-use Rattle.roots.proofs.words.word.Tie as tie
+use Rattle.roots.proofs.products.word.Statement.{statement}
+use Rattle.roots.proofs.products.word.Tie as tie
 
 cast-low : tie.Need-cast-low
 cast-low c = search needs
