@@ -5,7 +5,7 @@ use mathlib.Core.List.{List}
 use Prim.Native.Nat.{ℕ, _+_, _-_, _*_, _/_, _<_, _≤_}
 use native.Mathlib.Nat.{min-le-left, min-le-right}
 use native.Mathlib.Omega.{arith}
-use lib.ListN.{replicate}
+use lib.ListN.{length, replicate}
 use lib.Seq.{sets}
 use Rattle.ground.proofs.Pieces.{pieces, pieces-one, Laid, laid-start, laid-more, laid-done}
 use Rattle.code.specs.Code.{generator}
