@@ -26,7 +26,7 @@ checks-requires : tie.Need-checks-requires
 checks-requires c κs = search needs
 
 spread-requires : tie.Need-spread-requires
-spread-requires c κs = search needs
+spread-requires c κs = tt
 
 returns-2 : tie.Need-returns-2
 unfolding encodeOf

@@ -9,7 +9,7 @@ use Rattle.encoding.proofs.put_rows.Statement.{statement}
 use Rattle.encoding.proofs.put_rows.Tie as tie
 
 serves-requires : tie.Need-serves-requires
-serves-requires c κs = search needs
+serves-requires c κs = tt
 
 returns : tie.Need-returns
 returns c = put-refused _ _ _ _ _ _ (c .before .serves .ensures) (c .if1 .taken)
@@ -33,7 +33,7 @@ rows-requires c κs =
     (f .rows, f .count, f .start, c .before .before .table .ensures, search needs)
 
 same-length : tie.Need-same-length
-same-length c = search needs
+same-length c = omega arith
 
 returns-3 : tie.Need-returns-3
 returns-3 c =

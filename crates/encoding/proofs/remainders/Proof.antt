@@ -13,7 +13,6 @@ use Rattle.code.specs.Search.{remainder}
 use Rattle.encoding.specs.Encode.{restOf, rowsIn, remaindersOf}
 use Rattle.encoding.specs.InnerRegister.{part}
 use Rattle.encoding.proofs.Feeding.{length-rest}
-use borrow.Author.Needs.{needs}
 use Rattle.encoding.proofs.remainders.Statement.{statement}
 use Rattle.encoding.proofs.remainders.Tie as tie
 
@@ -61,7 +60,7 @@ rest-requires : tie.Need-rest-requires Inv-loop μ-loop
 rest-requires c κs = (omega (arith, inside (c .before), there (c .before)), c .before .before .before .before .table .ensures)
 
 slice-aggregate-put : tie.Need-slice-aggregate-put Inv-loop μ-loop
-slice-aggregate-put c = search needs
+slice-aggregate-put c = omega arith
 
 mul-put : tie.Need-mul-put Inv-loop μ-loop
 mul-put c = record { fits = omega (arith, inside (c .before .before .before), few (c .before .before .before)) }

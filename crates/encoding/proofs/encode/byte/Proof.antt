@@ -2,15 +2,16 @@
 -- Assumes nothing.
 use mathlib.Core.Path.{sym}
 use lib.ListN.{List·getD-eq-default}
+use native.Mathlib.Omega.{arith}
 use borrow.Author.Needs.{needs}
 use Rattle.encoding.proofs.encode.byte.Statement.{statement}
 use Rattle.encoding.proofs.encode.byte.Tie as tie
 
 shared-slice-read-result : tie.Need-shared-slice-read-result
-shared-slice-read-result c = search needs
+shared-slice-read-result c = omega arith
 
 returns : tie.Need-returns
-returns c = search needs
+returns c = omega arith
 
 returns-2 : tie.Need-returns-2
 returns-2 c = sym (List·getD-eq-default (c .before .args .file .now) 0 (search needs))

@@ -3,6 +3,7 @@
 use Prim.Native.Nat.{_-_}
 use Rattle.ground.proofs.Pieces.{laid-start}
 use Rattle.encoding.proofs.Putting.{Putting, putting-more, putting-done}
+use native.Mathlib.Omega.{arith}
 use borrow.Author.Needs.{needs}
 use Rattle.encoding.proofs.encode.rows.Statement.{statement}
 use Rattle.encoding.proofs.encode.rows.Tie as tie
@@ -17,46 +18,46 @@ loop-holds : tie.Need-loop-holds Inv-loop μ-loop
 loop-holds c = laid-start _ _ _ _ _
 
 add-if1 : tie.Need-add-if1 Inv-loop μ-loop
-add-if1 c = search needs
+add-if1 c = omega arith
 
 add-two : tie.Need-add-two Inv-loop μ-loop
-add-two c = search needs
+add-two c = omega arith
 
 mul-two : tie.Need-mul-two Inv-loop μ-loop
-mul-two c = search needs
+mul-two c = omega arith
 
 two-requires : tie.Need-two-requires Inv-loop μ-loop
 two-requires c κs = search needs
 
 add-r : tie.Need-add-r Inv-loop μ-loop
-add-r c = search needs
+add-r c = omega arith
 
 loop-less : tie.Need-loop-less Inv-loop μ-loop
-loop-less c = search needs
+loop-less c = omega arith
 
 loop-again : tie.Need-loop-again Inv-loop μ-loop
 loop-again c = putting-more _ _ _ _ _ _ _ _ 2 (search needs) (c .before .before .two .ensures) (c .before .before .before .before .before .before .loop .inv)
 
 add-one : tie.Need-add-one Inv-loop μ-loop
-add-one c = search needs
+add-one c = omega arith
 
 mul-one : tie.Need-mul-one Inv-loop μ-loop
-mul-one c = search needs
+mul-one c = omega arith
 
 one-requires : tie.Need-one-requires Inv-loop μ-loop
 one-requires c κs = search needs
 
 add-r-2 : tie.Need-add-r-2 Inv-loop μ-loop
-add-r-2 c = search needs
+add-r-2 c = omega arith
 
 loop-less-2 : tie.Need-loop-less-2 Inv-loop μ-loop
-loop-less-2 c = search needs
+loop-less-2 c = omega arith
 
 loop-again-2 : tie.Need-loop-again-2 Inv-loop μ-loop
 loop-again-2 c = putting-more _ _ _ _ _ _ _ _ 1 (search needs) (c .before .before .one .ensures) (c .before .before .before .before .before .before .loop .inv)
 
 same-length : tie.Need-same-length Inv-loop μ-loop
-same-length c = search needs
+same-length c = omega arith
 
 returns : tie.Need-returns Inv-loop μ-loop
 returns c = putting-done _ _ _ _ _ _ _ (search needs) (c .before .loop .inv)

@@ -1,39 +1,40 @@
 -- `encode::two` writes the information of two rows, and then behind each what its register makes of it.
 -- Assumes nothing.
 use Rattle.encoding.proofs.Putting.{rows-put}
+use native.Mathlib.Omega.{arith}
 use borrow.Author.Needs.{needs}
 use Rattle.encoding.proofs.encode.two.Statement.{statement}
 use Rattle.encoding.proofs.encode.two.Tie as tie
 
 add-behind : tie.Need-add-behind
-add-behind c = search needs
+add-behind c = omega arith
 
 add-first : tie.Need-add-first
-add-first c = search needs
+add-first c = omega arith
 
 add-second : tie.Need-add-second
-add-second c = search needs
+add-second c = omega arith
 
 gather-requires : tie.Need-gather-requires
-gather-requires c κs = search needs
+gather-requires c κs = omega arith
 
 add-gather : tie.Need-add-gather
-add-gather c = search needs
+add-gather c = omega arith
 
 gather-requires-2 : tie.Need-gather-requires-2
-gather-requires-2 c κs = search needs
+gather-requires-2 c κs = omega arith
 
 checks-two-requires : tie.Need-checks-two-requires
 checks-two-requires c κs = search needs
 
 put-requires : tie.Need-put-requires
-put-requires c κs = search needs
+put-requires c κs = omega arith
 
 put-requires-2 : tie.Need-put-requires-2
-put-requires-2 c κs = search needs
+put-requires-2 c κs = omega arith
 
 same-length : tie.Need-same-length
-same-length c = search needs
+same-length c = omega arith
 
 returns : tie.Need-returns
 returns c =

@@ -20,7 +20,7 @@ loop-holds : tie.Need-loop-holds Inv-loop μ-loop
 loop-holds c = run-begin _ 232 _ _
 
 mul-word : tie.Need-mul-word Inv-loop μ-loop
-mul-word c = search needs
+mul-word c = omega arith
 
 mul-word-2 : tie.Need-mul-word-2 Inv-loop μ-loop
 mul-word-2 c = omega (arith, mul-le-mul-right {m = 8 * c .before .loop .c} {n = 224} (c .before .before .before .before .args .m) (search needs))
@@ -32,19 +32,19 @@ word-requires : tie.Need-word-requires Inv-loop μ-loop
 word-requires c κs = (search needs, omega (arith, mul-le-mul-right {m = 8 * c .before .loop .c} {n = 224} (c .before .before .before .before .args .m) (search needs)))
 
 mul-put-word : tie.Need-mul-put-word Inv-loop μ-loop
-mul-put-word c = search needs
+mul-put-word c = omega arith
 
 add-put-word : tie.Need-add-put-word Inv-loop μ-loop
-add-put-word c = search needs
+add-put-word c = omega arith
 
 put-word-requires : tie.Need-put-word-requires Inv-loop μ-loop
-put-word-requires c κs = search needs
+put-word-requires c κs = omega arith
 
 add-c : tie.Need-add-c Inv-loop μ-loop
-add-c c = search needs
+add-c c = omega arith
 
 loop-less : tie.Need-loop-less Inv-loop μ-loop
-loop-less c = search needs
+loop-less c = omega arith
 
 loop-again : tie.Need-loop-again Inv-loop μ-loop
 loop-again c =
@@ -52,7 +52,7 @@ loop-again c =
     words-more (s .file .now) (s .m) (s .at) (s .o) _ _ _ _ _ (search needs) (c .before .before .before .before .word .ensures) (c .before .before .put-word .ensures) (c .before .before .before .before .before .before .loop .inv)
 
 same-length : tie.Need-same-length Inv-loop μ-loop
-same-length c = search needs
+same-length c = omega arith
 
 returns : tie.Need-returns Inv-loop μ-loop
 returns c = run-end _ _ _ _ _ _ (c .before .loop .inv) (search needs)

@@ -1,12 +1,13 @@
 -- `register::begin` feeds seven bytes to nothing: a word less its last byte has a byte of 0 in front, which changes nothing.
 -- Assumes nothing.
 use Rattle.encoding.proofs.Feeding.{feeding-start}
+use native.Mathlib.Omega.{arith}
 use borrow.Author.Needs.{needs}
 use Rattle.encoding.proofs.register.begin.Statement.{statement}
 use Rattle.encoding.proofs.register.begin.Tie as tie
 
 word-requires : tie.Need-word-requires
-word-requires c κs = search needs
+word-requires c κs = omega arith
 
 turn-requires : tie.Need-turn-requires
 turn-requires c κs = search needs

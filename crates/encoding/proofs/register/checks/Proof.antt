@@ -3,6 +3,7 @@
 use Prim.Native.Nat.{_-_}
 use Rattle.encoding.specs.InnerRegister.{both, Feeding}
 use Rattle.encoding.proofs.Feeding.{feeding-done}
+use native.Mathlib.Omega.{arith}
 use borrow.Author.Needs.{needs}
 use Rattle.encoding.proofs.register.checks.Statement.{statement}
 use Rattle.encoding.proofs.register.checks.Tie as tie
@@ -23,10 +24,10 @@ go-on-requires : tie.Need-go-on-requires Inv-loop μ-loop
 go-on-requires c κs = search needs
 
 add-k : tie.Need-add-k Inv-loop μ-loop
-add-k c = search needs
+add-k c = omega arith
 
 loop-less : tie.Need-loop-less Inv-loop μ-loop
-loop-less c = search needs
+loop-less c = omega arith
 
 loop-again : tie.Need-loop-again Inv-loop μ-loop
 loop-again c = c .go-on .ensures

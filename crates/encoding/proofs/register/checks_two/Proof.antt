@@ -3,6 +3,7 @@
 use Prim.Native.Nat.{_-_}
 use Rattle.encoding.specs.InnerRegister.{both, Feeding}
 use Rattle.encoding.proofs.Feeding.{feeding-done}
+use native.Mathlib.Omega.{arith}
 use borrow.Author.Needs.{needs}
 use Rattle.encoding.proofs.register.checks_two.Statement.{statement}
 use Rattle.encoding.proofs.register.checks_two.Tie as tie
@@ -14,7 +15,7 @@ abbrev μ-loop : tie.MeasureT-loop
 μ-loop d at t from a₀ b₀ k₀ a b k = 29 - k
 
 add-from : tie.Need-add-from Inv-loop μ-loop
-add-from c = search needs
+add-from c = omega arith
 
 begin-requires : tie.Need-begin-requires Inv-loop μ-loop
 begin-requires c κs = search needs
@@ -32,10 +33,10 @@ go-on-requires-2 : tie.Need-go-on-requires-2 Inv-loop μ-loop
 go-on-requires-2 c κs = search needs
 
 add-k : tie.Need-add-k Inv-loop μ-loop
-add-k c = search needs
+add-k c = omega arith
 
 loop-less : tie.Need-loop-less Inv-loop μ-loop
-loop-less c = search needs
+loop-less c = omega arith
 
 loop-again : tie.Need-loop-again Inv-loop μ-loop
 loop-again c = (c .before .go-on .ensures, c .go-on2 .ensures)

@@ -1,21 +1,22 @@
 -- `register::go_on` feeds the next word.
 -- Assumes nothing.
 use Rattle.encoding.proofs.Feeding.{feeding-more}
+use native.Mathlib.Omega.{arith}
 use borrow.Author.Needs.{needs}
 use Rattle.encoding.proofs.register.go_on.Statement.{statement}
 use Rattle.encoding.proofs.register.go_on.Tie as tie
 
 mul-word : tie.Need-mul-word
-mul-word c = search needs
+mul-word c = omega arith
 
 add-word : tie.Need-add-word
-add-word c = search needs
+add-word c = omega arith
 
 add-word-2 : tie.Need-add-word-2
-add-word-2 c = search needs
+add-word-2 c = omega arith
 
 word-requires : tie.Need-word-requires
-word-requires c κs = search needs
+word-requires c κs = omega arith
 
 turn-requires : tie.Need-turn-requires
 turn-requires c κs = search needs

@@ -6,21 +6,21 @@ use Prim.Native.Nat.{ℕ, _+_}
 use lib.Seq.{sets}
 use Rattle.encoding.specs.InnerRegister.{unpack}
 use Rattle.encoding.proofs.Bytes.{put-both}
-use borrow.Author.Needs.{needs}
+use native.Mathlib.Omega.{arith}
 use Rattle.encoding.proofs.register.put.Statement.{statement}
 use Rattle.encoding.proofs.register.put.Tie as tie
 
 put-word-requires : tie.Need-put-word-requires
-put-word-requires c κs = search needs
+put-word-requires c κs = omega arith
 
 add-put-word : tie.Need-add-put-word
-add-put-word c = search needs
+add-put-word c = omega arith
 
 put-word-requires-2 : tie.Need-put-word-requires-2
-put-word-requires-2 c κs = search needs
+put-word-requires-2 c κs = omega arith
 
 same-length : tie.Need-same-length
-same-length c = search needs
+same-length c = omega arith
 
 returns : tie.Need-returns
 returns c =

@@ -13,13 +13,13 @@ add-word : tie.Need-add-word
 add-word c = omega arith
 
 word-requires : tie.Need-word-requires
-word-requires c κs = search needs
+word-requires c κs = omega arith
 
 add-word-2 : tie.Need-add-word-2
 add-word-2 c = omega arith
 
 word-requires-2 : tie.Need-word-requires-2
-word-requires-2 c κs = search needs
+word-requires-2 c κs = omega arith
 
 returns : tie.Need-returns
 returns c =

@@ -5,15 +5,15 @@ use lib.ListN.{replicate}
 use Rattle.ground.proofs.Writing.{sets-all}
 use Rattle.encoding.specs.InnerRegister.{both}
 use Rattle.encoding.proofs.Words.{length-both}
-use borrow.Author.Needs.{needs}
+use native.Mathlib.Omega.{arith}
 use Rattle.encoding.proofs.register.spread.Statement.{statement}
 use Rattle.encoding.proofs.register.spread.Tie as tie
 
 slice-aggregate-put : tie.Need-slice-aggregate-put
-slice-aggregate-put c = search needs
+slice-aggregate-put c = omega arith
 
 put-requires : tie.Need-put-requires
-put-requires c κs = search needs
+put-requires c κs = omega arith
 
 returns : tie.Need-returns
 returns c =

@@ -7,27 +7,27 @@ use Rattle.code.specs.Code.{add, scale}
 use Rattle.code.specs.Search.{lower}
 use Rattle.encoding.specs.InnerRegister.{unpack, both}
 use Rattle.encoding.proofs.Constant.{entries, follow, rows, own-words, from-generator}
-use borrow.Author.Needs.{needs}
+use native.Mathlib.Omega.{arith}
 use Rattle.encoding.proofs.register.table.Statement.{statement}
 use Rattle.encoding.proofs.register.table.Tie as tie
 
 slice-aggregate-word : tie.Need-slice-aggregate-word
-slice-aggregate-word c = search needs
+slice-aggregate-word c = omega arith
 
 word-requires : tie.Need-word-requires
-word-requires c κs = search needs
+word-requires c κs = omega arith
 
 array-write-t : tie.Need-array-write-t
-array-write-t c = search needs
+array-write-t c = omega arith
 
 slice-aggregate-word-2 : tie.Need-slice-aggregate-word-2
-slice-aggregate-word-2 c = search needs
+slice-aggregate-word-2 c = omega arith
 
 word-requires-2 : tie.Need-word-requires-2
-word-requires-2 c κs = search needs
+word-requires-2 c κs = omega arith
 
 array-write-t-2 : tie.Need-array-write-t-2
-array-write-t-2 c = search needs
+array-write-t-2 c = omega arith
 
 returns : tie.Need-returns
 unfolding entries follow rows unpack both add scale lower product reduce carryless sum

@@ -2,6 +2,7 @@
 -- and what the rest of the word still leaves, make the whole (`Turning`). Assumes nothing.
 use mathlib.Core.Path.{sym, ap, _∙_}
 use Prim.Native.Nat.{ℕ, _+_, _-_, _*_}
+use native.Mathlib.Omega.{arith}
 use borrow.Author.Needs.{needs}
 use lib.Bits.{bitXor, xor-lt}
 use Rattle.code.proofs.Lists.{add-comm}
@@ -20,37 +21,37 @@ loop-holds : tie.Need-loop-holds Inv-loop μ-loop
 loop-holds c = turning-start _ _
 
 mul-i : tie.Need-mul-i Inv-loop μ-loop
-mul-i c = search needs
+mul-i c = omega arith
 
 half-requires : tie.Need-half-requires Inv-loop μ-loop
-half-requires c κs = search needs
+half-requires c κs = tt
 
 mul-i-2 : tie.Need-mul-i-2 Inv-loop μ-loop
-mul-i-2 c = search needs
+mul-i-2 c = omega arith
 
 add-i : tie.Need-add-i Inv-loop μ-loop
-add-i c = search needs
+add-i c = omega arith
 
 mul-h : tie.Need-mul-h Inv-loop μ-loop
-mul-h c = search needs
+mul-h c = omega arith
 
 element-copy-out-h : tie.Need-element-copy-out-h Inv-loop μ-loop
-element-copy-out-h c = search needs
+element-copy-out-h c = omega arith
 
 add-l : tie.Need-add-l Inv-loop μ-loop
-add-l c = search needs
+add-l c = omega arith
 
 mul-l : tie.Need-mul-l Inv-loop μ-loop
-mul-l c = search needs
+mul-l c = omega arith
 
 element-copy-out-l : tie.Need-element-copy-out-l Inv-loop μ-loop
-element-copy-out-l c = search needs
+element-copy-out-l c = omega arith
 
 add-k : tie.Need-add-k Inv-loop μ-loop
-add-k c = search needs
+add-k c = omega arith
 
 loop-less : tie.Need-loop-less Inv-loop μ-loop
-loop-less c = search needs
+loop-less c = omega arith
 
 loop-again : tie.Need-loop-again Inv-loop μ-loop
 loop-again c =

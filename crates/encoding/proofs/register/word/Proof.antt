@@ -37,10 +37,10 @@ add-w : tie.Need-add-w Inv-loop μ-loop
 add-w c = omega (arith, packing-room _ _ _ _ _ (c .before .before .before .loop .inv) (search needs))
 
 add-n : tie.Need-add-n Inv-loop μ-loop
-add-n c = search needs
+add-n c = omega arith
 
 loop-less : tie.Need-loop-less Inv-loop μ-loop
-loop-less c = search needs
+loop-less c = omega arith
 
 loop-again : tie.Need-loop-again Inv-loop μ-loop
 loop-again c =
