@@ -1,6 +1,5 @@
 -- `crc::crc32` feeds the bytes to the register of ones, and complements it.
 -- Assumes nothing.
-use borrow.Author.Needs.{needs}
 use mathlib.Core.Path.{ap}
 use Prim.Native.Nat.{ℕ}
 use Rattle.ground.specs.Bits.{sum}
@@ -9,7 +8,7 @@ use Rattle.crc.proofs.crc32.Statement.{statement}
 use Rattle.crc.proofs.crc32.Tie as tie
 
 feed-requires : tie.Need-feed-requires
-feed-requires c κs = search needs
+feed-requires c κs = tt
 
 returns : tie.Need-returns
 unfolding crc sum

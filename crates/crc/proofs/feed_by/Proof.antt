@@ -1,5 +1,6 @@
 -- `crc::feed_by` walks by sixteen bytes, and leaves fewer than sixteen to `feed_fours`. The invariant: what is left from i on gives, from the present register, the answer.
 -- Assumes nothing.
+use native.Mathlib.Omega.{arith}
 use borrow.Author.Needs.{needs}
 use mathlib.Core.Path.{_≡_, refl, _∙_}
 use mathlib.Core.List.{[], _∷_}
@@ -21,16 +22,16 @@ loop-holds : tie.Need-loop-holds Inv-loop μ-loop
 loop-holds c = (search needs, refl)
 
 sub-loop : tie.Need-sub-loop Inv-loop μ-loop
-sub-loop c = search needs
+sub-loop c = omega arith
 
 sixteen-requires : tie.Need-sixteen-requires Inv-loop μ-loop
-sixteen-requires c κs = search needs
+sixteen-requires c κs = omega arith
 
 add-i : tie.Need-add-i Inv-loop μ-loop
-add-i c = search needs
+add-i c = omega arith
 
 loop-less : tie.Need-loop-less Inv-loop μ-loop
-loop-less c = search needs
+loop-less c = omega arith
 
 loop-again : tie.Need-loop-again Inv-loop μ-loop
 loop-again c =
@@ -39,7 +40,7 @@ loop-again c =
     (search needs, turn-at 32 (s .table .now) 16 (4 ∷ 1 ∷ []) (l .r) (l .i) (c .sixteen .result) _ (s .bytes .now) (search needs) (search needs) (c .sixteen .ensures) (l .inv .1))
 
 feed-fours-requires : tie.Need-feed-fours-requires Inv-loop μ-loop
-feed-fours-requires c κs = search needs
+feed-fours-requires c κs = omega arith
 
 returns : tie.Need-returns Inv-loop μ-loop
 returns c =

@@ -1,5 +1,6 @@
 -- `crc::feed_fours` walks by words, and leaves fewer than four bytes to `feed_ones`. The invariant: what is left from i on gives, from the present register, the answer.
 -- Assumes nothing.
+use native.Mathlib.Omega.{arith}
 use borrow.Author.Needs.{needs}
 use mathlib.Core.Path.{_≡_, refl, sym, ap, _∙_}
 use mathlib.Core.List.{[], _∷_}
@@ -22,19 +23,19 @@ loop-holds : tie.Need-loop-holds Inv-loop μ-loop
 loop-holds c = (search needs, refl)
 
 sub-loop : tie.Need-sub-loop Inv-loop μ-loop
-sub-loop c = search needs
+sub-loop c = omega arith
 
 word-requires : tie.Need-word-requires Inv-loop μ-loop
-word-requires c κs = search needs
+word-requires c κs = omega arith
 
 four-requires : tie.Need-four-requires Inv-loop μ-loop
-four-requires c κs = search needs
+four-requires c κs = omega arith
 
 add-i : tie.Need-add-i Inv-loop μ-loop
-add-i c = search needs
+add-i c = omega arith
 
 loop-less : tie.Need-loop-less Inv-loop μ-loop
-loop-less c = search needs
+loop-less c = omega arith
 
 loop-again : tie.Need-loop-again Inv-loop μ-loop
 unfolding sum
@@ -45,7 +46,7 @@ loop-again c =
     (search needs, turn-at 32 (s .t .now) 4 (1 ∷ []) (l .r) (l .i) (c .four .result) _ (s .bytes .now) (search needs) (search needs) e (l .inv .1))
 
 feed-ones-requires : tie.Need-feed-ones-requires Inv-loop μ-loop
-feed-ones-requires c κs = search needs
+feed-ones-requires c κs = omega arith
 
 returns : tie.Need-returns Inv-loop μ-loop
 returns c =

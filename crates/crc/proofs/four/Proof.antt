@@ -1,6 +1,6 @@
 -- `crc::four` adds the entries of the word's four bytes, the lowest one's first, two rows for each.
 -- Assumes nothing.
-use borrow.Author.Needs.{needs}
+use native.Mathlib.Omega.{arith}
 use mathlib.Core.Path.{sym, ap₂, _∙_}
 use Rattle.ground.specs.Bits.{sum}
 use Rattle.crc.proofs.Steps.{four-is}
@@ -8,25 +8,25 @@ use Rattle.crc.proofs.four.Statement.{statement}
 use Rattle.crc.proofs.four.Tie as tie
 
 two-requires : tie.Need-two-requires
-two-requires c κs = search needs
+two-requires c κs = omega arith
 
 add-two : tie.Need-add-two
-add-two c = search needs
+add-two c = omega arith
 
 two-requires-2 : tie.Need-two-requires-2
-two-requires-2 c κs = search needs
+two-requires-2 c κs = omega arith
 
 add-two-2 : tie.Need-add-two-2
-add-two-2 c = search needs
+add-two-2 c = omega arith
 
 two-requires-3 : tie.Need-two-requires-3
-two-requires-3 c κs = search needs
+two-requires-3 c κs = omega arith
 
 add-two-3 : tie.Need-add-two-3
-add-two-3 c = search needs
+add-two-3 c = omega arith
 
 two-requires-4 : tie.Need-two-requires-4
-two-requires-4 c κs = search needs
+two-requires-4 c κs = omega arith
 
 returns : tie.Need-returns
 unfolding sum

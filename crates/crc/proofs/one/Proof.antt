@@ -1,5 +1,6 @@
 -- `crc::one` adds the byte that leaves the register to the byte that comes, and their entries to the register moved up by a byte.
 -- Assumes nothing.
+use native.Mathlib.Omega.{arith}
 use borrow.Author.Needs.{needs}
 use Rattle.ground.specs.Bits.{sum}
 use Rattle.crc.proofs.Steps.{one-is}
@@ -7,13 +8,13 @@ use Rattle.crc.proofs.one.Statement.{statement}
 use Rattle.crc.proofs.one.Tie as tie
 
 shared-slice-read-wide32 : tie.Need-shared-slice-read-wide32
-shared-slice-read-wide32 c = search needs
+shared-slice-read-wide32 c = omega arith
 
 wide32-requires : tie.Need-wide32-requires
 wide32-requires c κs = tt
 
 two-requires : tie.Need-two-requires
-two-requires c κs = search needs
+two-requires c κs = omega arith
 
 returns : tie.Need-returns
 unfolding sum

@@ -1,5 +1,6 @@
 -- `crc::sixteen` adds the entries of four words, the last one's in the first eight rows; the register is added to the first word.
 -- Assumes nothing.
+use native.Mathlib.Omega.{arith}
 use borrow.Author.Needs.{needs}
 use mathlib.Core.Path.{sym, ap, ap₂, _∙_}
 use Prim.Native.Nat.{ℕ}
@@ -10,37 +11,37 @@ use Rattle.crc.proofs.sixteen.Statement.{statement}
 use Rattle.crc.proofs.sixteen.Tie as tie
 
 add-word : tie.Need-add-word
-add-word c = search needs
+add-word c = omega arith
 
 word-requires : tie.Need-word-requires
-word-requires c κs = search needs
+word-requires c κs = omega arith
 
 four-requires : tie.Need-four-requires
-four-requires c κs = search needs
+four-requires c κs = omega arith
 
 add-word-2 : tie.Need-add-word-2
-add-word-2 c = search needs
+add-word-2 c = omega arith
 
 word-requires-2 : tie.Need-word-requires-2
-word-requires-2 c κs = search needs
+word-requires-2 c κs = omega arith
 
 four-requires-2 : tie.Need-four-requires-2
-four-requires-2 c κs = search needs
+four-requires-2 c κs = omega arith
 
 add-word-3 : tie.Need-add-word-3
-add-word-3 c = search needs
+add-word-3 c = omega arith
 
 word-requires-3 : tie.Need-word-requires-3
-word-requires-3 c κs = search needs
+word-requires-3 c κs = omega arith
 
 four-requires-3 : tie.Need-four-requires-3
-four-requires-3 c κs = search needs
+four-requires-3 c κs = omega arith
 
 word-requires-4 : tie.Need-word-requires-4
-word-requires-4 c κs = search needs
+word-requires-4 c κs = omega arith
 
 four-requires-4 : tie.Need-four-requires-4
-four-requires-4 c κs = search needs
+four-requires-4 c κs = omega arith
 
 returns : tie.Need-returns
 unfolding sum

@@ -1,6 +1,6 @@
 -- `crc::two` looks up the entry of the low half byte in row k and that of the next in row k + 1, and adds them.
 -- Assumes nothing.
-use borrow.Author.Needs.{needs}
+use native.Mathlib.Omega.{arith}
 use mathlib.Core.Path.{sym, ap₂, _∙_}
 use Rattle.ground.specs.Bits.{sum}
 use Rattle.crc.proofs.Steps.{two-is}
@@ -8,13 +8,13 @@ use Rattle.crc.proofs.two.Statement.{statement}
 use Rattle.crc.proofs.two.Tie as tie
 
 at-requires : tie.Need-at-requires
-at-requires c κs = search needs
+at-requires c κs = omega arith
 
 add-at : tie.Need-add-at
-add-at c = search needs
+add-at c = omega arith
 
 at-requires-2 : tie.Need-at-requires-2
-at-requires-2 c κs = search needs
+at-requires-2 c κs = omega arith
 
 returns : tie.Need-returns
 unfolding sum

@@ -1,15 +1,15 @@
 -- `packet::bad_rows` meets its contract: its tests are the definition's, and a packet of 19 bytes is longer than header and CRC.
 -- Assumes nothing.
-use borrow.Author.Needs.{needs}
+use native.Mathlib.Omega.{arith}
 use borrow.Author.Tests.{eq-eqb, ne-eqb}
 use Rattle.packet.proofs.bad_rows.Statement.{statement}
 use Rattle.packet.proofs.bad_rows.Tie as tie
 
 add-result : tie.Need-add-result
-add-result c = search needs
+add-result c = omega arith
 
 sub-result : tie.Need-sub-result
-sub-result c = search needs
+sub-result c = omega arith
 
 returns : tie.Need-returns
 returns c = rw (eq-eqb _ _ (c .if1 .taken))

@@ -1,72 +1,72 @@
 -- `packet::fields_in` meets its contract: each field is taken from the definition's bytes, all of which lie within the fourteen.
 -- Assumes nothing.
-use borrow.Author.Needs.{needs}
+use native.Mathlib.Omega.{arith}
 use Rattle.packet.specs.Packet.{fieldsIn}
 use Rattle.packet.proofs.fields_in.Statement.{statement}
 use Rattle.packet.proofs.fields_in.Tie as tie
 
 shared-slice-read-resource-in : tie.Need-shared-slice-read-resource-in
-shared-slice-read-resource-in c = search needs
+shared-slice-read-resource-in c = omega arith
 
 shared-slice-read-resource-in-2 : tie.Need-shared-slice-read-resource-in-2
-shared-slice-read-resource-in-2 c = search needs
+shared-slice-read-resource-in-2 c = omega arith
 
 resource-in-requires : tie.Need-resource-in-requires
-resource-in-requires c κs = search needs
+resource-in-requires c κs = tt
 
 shared-slice-read-number-in : tie.Need-shared-slice-read-number-in
-shared-slice-read-number-in c = search needs
+shared-slice-read-number-in c = omega arith
 
 shared-slice-read-number-in-2 : tie.Need-shared-slice-read-number-in-2
-shared-slice-read-number-in-2 c = search needs
+shared-slice-read-number-in-2 c = omega arith
 
 shared-slice-read-number-in-3 : tie.Need-shared-slice-read-number-in-3
-shared-slice-read-number-in-3 c = search needs
+shared-slice-read-number-in-3 c = omega arith
 
 number-in-requires : tie.Need-number-in-requires
-number-in-requires c κs = search needs
+number-in-requires c κs = tt
 
 shared-slice-read-t15 : tie.Need-shared-slice-read-t15
-shared-slice-read-t15 c = search needs
+shared-slice-read-t15 c = omega arith
 
 shared-slice-read-length-in : tie.Need-shared-slice-read-length-in
-shared-slice-read-length-in c = search needs
+shared-slice-read-length-in c = omega arith
 
 shared-slice-read-length-in-2 : tie.Need-shared-slice-read-length-in-2
-shared-slice-read-length-in-2 c = search needs
+shared-slice-read-length-in-2 c = omega arith
 
 length-in-requires : tie.Need-length-in-requires
-length-in-requires c κs = search needs
+length-in-requires c κs = tt
 
 shared-slice-read-count-in : tie.Need-shared-slice-read-count-in
-shared-slice-read-count-in c = search needs
+shared-slice-read-count-in c = omega arith
 
 shared-slice-read-count-in-2 : tie.Need-shared-slice-read-count-in-2
-shared-slice-read-count-in-2 c = search needs
+shared-slice-read-count-in-2 c = omega arith
 
 shared-slice-read-count-in-3 : tie.Need-shared-slice-read-count-in-3
-shared-slice-read-count-in-3 c = search needs
+shared-slice-read-count-in-3 c = omega arith
 
 count-in-requires : tie.Need-count-in-requires
-count-in-requires c κs = search needs
+count-in-requires c κs = tt
 
 shared-slice-read-t30 : tie.Need-shared-slice-read-t30
-shared-slice-read-t30 c = search needs
+shared-slice-read-t30 c = omega arith
 
 shared-slice-read-t33 : tie.Need-shared-slice-read-t33
-shared-slice-read-t33 c = search needs
+shared-slice-read-t33 c = omega arith
 
 shared-slice-read-rows-in : tie.Need-shared-slice-read-rows-in
-shared-slice-read-rows-in c = search needs
+shared-slice-read-rows-in c = omega arith
 
 shared-slice-read-rows-in-2 : tie.Need-shared-slice-read-rows-in-2
-shared-slice-read-rows-in-2 c = search needs
+shared-slice-read-rows-in-2 c = omega arith
 
 rows-in-requires : tie.Need-rows-in-requires
-rows-in-requires c κs = search needs
+rows-in-requires c κs = tt
 
 shared-slice-read-t42 : tie.Need-shared-slice-read-t42
-shared-slice-read-t42 c = search needs
+shared-slice-read-t42 c = omega arith
 
 returns : tie.Need-returns
 unfolding fieldsIn

@@ -1,7 +1,7 @@
 -- `packet::judge` meets its contract: it asks the definition's questions in its order, and stops at the first that is answered yes.
 -- Assumes nothing.
 use mathlib.Core.Path.{sym, _∙_}
-use borrow.Author.Needs.{needs}
+use native.Mathlib.Omega.{arith}
 use borrow.Author.Tests.{eq-eqb, ne-eqb}
 use Rattle.packet.specs.Packet.{judged}
 use Rattle.packet.proofs.judge.Statement.{statement}
@@ -12,14 +12,14 @@ unfolding judged
 returns c = rw (eq-eqb _ _ (c .if1 .taken))
 
 bad-protection-requires : tie.Need-bad-protection-requires
-bad-protection-requires c κs = search needs
+bad-protection-requires c κs = tt
 
 returns-2 : tie.Need-returns-2
 unfolding judged
 returns-2 c = rw (ne-eqb _ _ (c .before .before .if1 .left), sym (c .before .bad-protection .ensures) ∙ c .if2 .taken)
 
 bad-number-requires : tie.Need-bad-number-requires
-bad-number-requires c κs = search needs
+bad-number-requires c κs = tt
 
 returns-3 : tie.Need-returns-3
 unfolding judged
@@ -31,7 +31,7 @@ returns-3 c =
     )
 
 bad-rows-requires : tie.Need-bad-rows-requires
-bad-rows-requires c κs = search needs
+bad-rows-requires c κs = omega arith
 
 returns-4 : tie.Need-returns-4
 unfolding judged

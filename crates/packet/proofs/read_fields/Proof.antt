@@ -2,34 +2,34 @@
 -- Assumes nothing.
 use mathlib.Core.Path.{sym, ap, _∙_}
 use mathlib.Core.Bool.{not}
-use borrow.Author.Needs.{needs}
+use native.Mathlib.Omega.{arith}
 use borrow.Author.Tests.{lt-ltb, le-ltb, eq-eqb, ne-eqb}
 use Rattle.packet.specs.Packet.{readOf}
 use Rattle.packet.proofs.read_fields.Statement.{statement}
 use Rattle.packet.proofs.read_fields.Tie as tie
 
 add-if1 : tie.Need-add-if1
-add-if1 c = search needs
+add-if1 c = omega arith
 
 add-if1-2 : tie.Need-add-if1-2
-add-if1-2 c = search needs
+add-if1-2 c = omega arith
 
 returns : tie.Need-returns
 unfolding readOf
 returns c = rw (lt-ltb _ _ (c .if1 .taken))
 
 marked-requires : tie.Need-marked-requires
-marked-requires c κs = search needs
+marked-requires c κs = omega arith
 
 returns-2 : tie.Need-returns-2
 unfolding readOf
 returns-2 c = rw (le-ltb _ _ (c .before .before .if1 .left), sym (ap not (c .before .marked .ensures)) ∙ c .if2 .taken)
 
 fields-in-requires : tie.Need-fields-in-requires
-fields-in-requires c κs = search needs
+fields-in-requires c κs = omega arith
 
 cast-if3 : tie.Need-cast-if3
-cast-if3 c = search needs
+cast-if3 c = omega arith
 
 returns-3 : tie.Need-returns-3
 unfolding readOf
@@ -42,7 +42,7 @@ returns-3 c =
     )
 
 judge-requires : tie.Need-judge-requires
-judge-requires c κs = search needs
+judge-requires c κs = omega arith
 
 returns-4 : tie.Need-returns-4
 unfolding readOf

@@ -24,7 +24,7 @@ returns-4 : tie.Need-returns-4
 returns-4 c = sym (settings-unfit _ (λ s. let m = s .rows (search needs) in omega (arith, eqb-true)))
 
 size-fits-requires : tie.Need-size-fits-requires
-size-fits-requires c κs = search needs
+size-fits-requires c κs = tt
 
 returns-5 : tie.Need-returns-5
 returns-5 c =

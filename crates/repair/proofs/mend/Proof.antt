@@ -16,7 +16,7 @@ returns-2 : tie.Need-returns-2
 returns-2 c = mend-long _ (search needs) (search needs)
 
 remainders-requires : tie.Need-remainders-requires
-remainders-requires c κs = search needs
+remainders-requires c κs = tt
 
 mend-from-requires : tie.Need-mend-from-requires
 mend-from-requires c κs = all-resting _ (search needs) (search needs) _ (c .before .before .remainders .ensures)

@@ -18,7 +18,7 @@ held-requires : tie.Need-held-requires
 held-requires c κs = search needs
 
 repair-requires : tie.Need-repair-requires
-repair-requires c κs = search needs
+repair-requires c κs = tt
 
 returns-2 : tie.Need-returns-2
 unfolding repairRowOf

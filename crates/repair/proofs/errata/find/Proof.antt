@@ -8,7 +8,7 @@ use Rattle.repair.proofs.errata.find.Statement.{statement}
 use Rattle.repair.proofs.errata.find.Tie as tie
 
 is-nought-requires : tie.Need-is-nought-requires
-is-nought-requires c κs = search needs
+is-nought-requires c κs = tt
 
 returns : tie.Need-returns
 returns c =
@@ -16,7 +16,7 @@ returns c =
     nothing-left rest _ _ (search needs) (c .before .is-nought .ensures .yes (c .if1 .taken))
 
 search-requires : tie.Need-search-requires
-search-requires c κs = search needs
+search-requires c κs = tt
 
 returns-2 : tie.Need-returns-2
 returns-2 c = search needs

@@ -11,10 +11,10 @@ use Rattle.repair.proofs.errata.search.Statement.{statement}
 use Rattle.repair.proofs.errata.search.Tie as tie
 
 powers-requires : tie.Need-powers-requires
-powers-requires c κs = search needs
+powers-requires c κs = tt
 
 logs-requires : tie.Need-logs-requires
-logs-requires c κs = search needs
+logs-requires c κs = tt
 
 syndromes-requires : tie.Need-syndromes-requires
 syndromes-requires c κs = search needs

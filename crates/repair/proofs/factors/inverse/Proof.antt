@@ -6,7 +6,7 @@ use Rattle.repair.proofs.factors.inverse.Statement.{statement}
 use Rattle.repair.proofs.factors.inverse.Tie as tie
 
 inverse-by-requires : tie.Need-inverse-by-requires
-inverse-by-requires c κs = search needs
+inverse-by-requires c κs = tt
 
 returns : tie.Need-returns
 returns c =

@@ -7,7 +7,7 @@ use Rattle.repair.proofs.factors.times.Statement.{statement}
 use Rattle.repair.proofs.factors.times.Tie as tie
 
 mul-by-requires : tie.Need-mul-by-requires
-mul-by-requires c κs = search needs
+mul-by-requires c κs = tt
 
 returns : tie.Need-returns
 returns c = c .mul-by .ensures ∙ mul-by-tables _ _ (c .before .pre .0) (c .before .pre .1) (search needs) (search needs)

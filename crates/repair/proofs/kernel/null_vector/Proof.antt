@@ -37,10 +37,10 @@ array-write-scales : tie.Need-array-write-scales Inv-loop μ-loop
 array-write-scales c = search needs
 
 shift-requires : tie.Need-shift-requires Inv-loop μ-loop
-shift-requires c κs = search needs
+shift-requires c κs = tt
 
 before-requires : tie.Need-before-requires Inv-loop μ-loop
-before-requires c κs = search needs
+before-requires c κs = tt
 
 add-l : tie.Need-add-l Inv-loop μ-loop
 add-l c = search needs

@@ -40,7 +40,7 @@ loop-again : tie.Need-loop-again Inv-loop μ-loop
 loop-again c = (omega arith, leaving-more (c .before .before .before .loop .inv .1) _ _ (c .before .index .ensures .0) (c .add-term .ensures))
 
 is-nought-requires : tie.Need-is-nought-requires Inv-loop μ-loop
-is-nought-requires c κs = search needs
+is-nought-requires c κs = tt
 
 returns : tie.Need-returns Inv-loop μ-loop
 returns c =
