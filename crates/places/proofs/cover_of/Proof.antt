@@ -3,12 +3,11 @@
 use Prim.Native.Nat.{_+_, _≤_, _^_}
 use native.Mathlib.Nat.{mul-le-mul}
 use native.Mathlib.Omega.{arith}
-use borrow.Author.Needs.{needs}
 use Rattle.places.proofs.cover_of.Statement.{statement}
 use Rattle.places.proofs.cover_of.Tie as tie
 
 add-result : tie.Need-add-result
-add-result c = search needs
+add-result c = omega arith
 
 mul-result : tie.Need-mul-result
 mul-result c =
@@ -17,7 +16,7 @@ mul-result c =
     omega (arith, mul-le-mul a b)
 
 returns : tie.Need-returns
-returns c = search needs
+returns c = omega arith
 
 pub cover-of-spec : {M : Type 1} → statement M
 cover-of-spec = tie.close (tie.spec add-result mul-result returns)

@@ -33,16 +33,16 @@ loop-holds : tie.Need-loop-holds Inv-loop2 μ-loop2 Inv-loop μ-loop
 loop-holds c = refl
 
 mul-p : tie.Need-mul-p Inv-loop2 μ-loop2 Inv-loop μ-loop
-mul-p c = search needs
+mul-p c = omega arith
 
 element-copy-out-p : tie.Need-element-copy-out-p Inv-loop2 μ-loop2 Inv-loop μ-loop
-element-copy-out-p c = search needs
+element-copy-out-p c = omega arith
 
 add-i : tie.Need-add-i Inv-loop2 μ-loop2 Inv-loop μ-loop
-add-i c = search needs
+add-i c = omega arith
 
 is-sound-requires : tie.Need-is-sound-requires Inv-loop2 μ-loop2 Inv-loop μ-loop
-is-sound-requires c κs = search needs
+is-sound-requires c κs = tt
 
 -- place i of the record, which is in use
 module _ (c : tie.After-is-sound Inv-loop2 μ-loop2 Inv-loop μ-loop) where
@@ -65,7 +65,7 @@ loop2-holds : tie.Need-loop2-holds Inv-loop2 μ-loop2 Inv-loop μ-loop
 loop2-holds c = refl
 
 loop-less : tie.Need-loop-less Inv-loop2 μ-loop2 Inv-loop μ-loop
-loop-less c = search needs
+loop-less c = omega arith
 
 loop-again : tie.Need-loop-again Inv-loop2 μ-loop2 Inv-loop μ-loop
 loop-again c =
@@ -79,13 +79,13 @@ loop-again c =
     ∙ l .loop .inv
 
 mul-q : tie.Need-mul-q Inv-loop2 μ-loop2 Inv-loop μ-loop
-mul-q c = search needs
+mul-q c = omega arith
 
 element-copy-out-q : tie.Need-element-copy-out-q Inv-loop2 μ-loop2 Inv-loop μ-loop
-element-copy-out-q c = search needs
+element-copy-out-q c = omega arith
 
 do-agree-requires : tie.Need-do-agree-requires Inv-loop2 μ-loop2 Inv-loop μ-loop
-do-agree-requires c κs = search needs
+do-agree-requires c κs = tt
 
 returns-2 : tie.Need-returns-2 Inv-loop2 μ-loop2 Inv-loop μ-loop
 returns-2 c =
@@ -100,10 +100,10 @@ returns-2 c =
     ∙ l .loop .inv
 
 add-j : tie.Need-add-j Inv-loop2 μ-loop2 Inv-loop μ-loop
-add-j c = search needs
+add-j c = omega arith
 
 loop2-less : tie.Need-loop2-less Inv-loop2 μ-loop2 Inv-loop μ-loop
-loop2-less c = search needs
+loop2-less c = omega arith
 
 loop2-again : tie.Need-loop2-again Inv-loop2 μ-loop2 Inv-loop μ-loop
 loop2-again c =
@@ -114,7 +114,7 @@ loop2-again c =
     ∙ k .loop2 .inv
 
 loop-less-2 : tie.Need-loop-less-2 Inv-loop2 μ-loop2 Inv-loop μ-loop
-loop-less-2 c = search needs
+loop-less-2 c = omega arith
 
 loop-again-2 : tie.Need-loop-again-2 Inv-loop2 μ-loop2 Inv-loop μ-loop
 loop-again-2 c =

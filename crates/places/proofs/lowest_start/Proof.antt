@@ -25,10 +25,10 @@ eight : (c : tie.Start Inv-loop μ-loop) → length (c .args .t1 .places) ≡ 8
 eight c = search (needs, mapped-length)
 
 usable-requires : tie.Need-usable-requires Inv-loop μ-loop
-usable-requires c κs = search needs
+usable-requires c κs = tt
 
 is-free-requires : tie.Need-is-free-requires Inv-loop μ-loop
-is-free-requires c κs = search needs
+is-free-requires c κs = tt
 
 returns : tie.Need-returns Inv-loop μ-loop
 returns c =
@@ -48,22 +48,22 @@ loop-holds c =
     rw (u .usable .ensures) (best-none (a .n) (a .size) (a .t1 .places))
 
 mul-p : tie.Need-mul-p Inv-loop μ-loop
-mul-p c = search needs
+mul-p c = omega arith
 
 element-copy-out-p : tie.Need-element-copy-out-p Inv-loop μ-loop
-element-copy-out-p c = search needs
+element-copy-out-p c = omega arith
 
 end-of-requires : tie.Need-end-of-requires Inv-loop μ-loop
-end-of-requires c κs = search needs
+end-of-requires c κs = tt
 
 is-free-requires-2 : tie.Need-is-free-requires-2 Inv-loop μ-loop
-is-free-requires-2 c κs = search needs
+is-free-requires-2 c κs = tt
 
 add-i : tie.Need-add-i Inv-loop μ-loop
-add-i c = search needs
+add-i c = omega arith
 
 loop-less : tie.Need-loop-less Inv-loop μ-loop
-loop-less c = search needs
+loop-less c = omega arith
 
 loop-again : tie.Need-loop-again Inv-loop μ-loop
 loop-again c =

@@ -1,11 +1,10 @@
 -- `places::place_of` meets its contract: it sets the fields as the definition does.
 -- Assumes nothing.
-use borrow.Author.Needs.{needs}
 use Rattle.places.proofs.place_of.Statement.{statement}
 use Rattle.places.proofs.place_of.Tie as tie
 
 rows-held-requires : tie.Need-rows-held-requires
-rows-held-requires c κs = search needs
+rows-held-requires c κs = tt
 
 returns : tie.Need-returns
 returns c = rw (c .rows-held .ensures)

@@ -3,7 +3,7 @@
 -- Assumes nothing.
 use mathlib.Core.Path.{_≡_, sym}
 use mathlib.Core.Bool.{true}
-use borrow.Author.Needs.{needs}
+use native.Mathlib.Omega.{arith}
 use Rattle.places.specs.Places.{inUse}
 use Rattle.places.proofs.Named.{in-use, not-in-use}
 use Rattle.places.proofs.Agreeing.{agree-left, agree-right, agree-shared, agree-before, agree-not-before}
@@ -34,10 +34,10 @@ returns-3 c =
     sym (agree-shared (a .p) (a .q) (used-p (c .before)) (used-q (c .before)) (c .if3 .taken))
 
 end-of-requires : tie.Need-end-of-requires
-end-of-requires c κs = search needs
+end-of-requires c κs = tt
 
 cast-if4 : tie.Need-cast-if4
-cast-if4 c = search needs
+cast-if4 c = omega arith
 
 returns-4 : tie.Need-returns-4
 returns-4 c =
@@ -46,10 +46,10 @@ returns-4 c =
     sym (agree-before (a .p) (a .q) (used-p d) (used-q d) (c .before .before .before .if3 .left) (rw (c .before .before .end-of .ensures) at (c .if4 .taken)))
 
 end-of-requires-2 : tie.Need-end-of-requires-2
-end-of-requires-2 c κs = search needs
+end-of-requires-2 c κs = tt
 
 cast-result : tie.Need-cast-result
-cast-result c = search needs
+cast-result c = omega arith
 
 returns-5 : tie.Need-returns-5
 returns-5 c =

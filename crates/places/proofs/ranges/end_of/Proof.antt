@@ -4,15 +4,14 @@ use Prim.Native.Nat.{_+_, _≤_, _^_}
 use native.Mathlib.Nat.{mul-le-mul}
 use native.Mathlib.Omega.{arith}
 use Rattle.places.specs.Places.{endOf}
-use borrow.Author.Needs.{needs}
 use Rattle.places.proofs.ranges.end_of.Statement.{statement}
 use Rattle.places.proofs.ranges.end_of.Tie as tie
 
 cast-result : tie.Need-cast-result
-cast-result c = search needs
+cast-result c = omega arith
 
 cover-of-requires : tie.Need-cover-of-requires
-cover-of-requires c κs = search needs
+cover-of-requires c κs = tt
 
 add-result : tie.Need-add-result
 add-result c =

@@ -2,7 +2,6 @@
 -- Assumes nothing.
 use mathlib.Core.Path.{_≡_, sym, _∙_}
 use mathlib.Core.Bool.{true}
-use borrow.Author.Needs.{needs}
 use borrow.Author.Tests.{eq-eqb, ne-eqb, not-true, not-false}
 use Rattle.packet.specs.Settings.{settingsFit}
 use Rattle.places.specs.Places.{settingsIn, rangesFit}
@@ -10,10 +9,10 @@ use Rattle.places.proofs.ranges.ranges_fit.Statement.{statement}
 use Rattle.places.proofs.ranges.ranges_fit.Tie as tie
 
 settings-in-requires : tie.Need-settings-in-requires
-settings-in-requires c κs = search needs
+settings-in-requires c κs = tt
 
 settings-fit-requires : tie.Need-settings-fit-requires
-settings-fit-requires c κs = search needs
+settings-fit-requires c κs = tt
 
 returns : tie.Need-returns
 unfolding rangesFit
@@ -22,7 +21,7 @@ returns c =
     rw (sym (rw (s .before .settings-in .ensures) at (s .settings-fit .ensures)) ∙ not-true _ (c .if1 .taken))
 
 rows-held-requires : tie.Need-rows-held-requires
-rows-held-requires c κs = search needs
+rows-held-requires c κs = tt
 
 -- the settings fit
 fit : (c : tie.After-rows-held) → settingsFit (settingsIn (c .before .before .before .before .args .p)) ≡ true
@@ -38,7 +37,7 @@ returns-2 c =
     rw (fit r, ne-eqb _ _ (rw h at (c .if2 .taken)))
 
 count-fits-requires : tie.Need-count-fits-requires
-count-fits-requires c κs = search needs
+count-fits-requires c κs = tt
 
 returns-3 : tie.Need-returns-3
 unfolding rangesFit

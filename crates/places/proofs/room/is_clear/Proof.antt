@@ -1,6 +1,6 @@
 -- `places::room::is_clear` meets its contract: it takes the definition's three tests in their order.
 -- Assumes nothing.
-use borrow.Author.Needs.{needs}
+use native.Mathlib.Omega.{arith}
 use borrow.Author.Tests.{eq-eqb, ne-eqb, le-leb, lt-leb}
 use Rattle.places.specs.Room.{clear}
 use Rattle.places.proofs.room.is_clear.Statement.{statement}
@@ -11,7 +11,7 @@ unfolding clear
 returns c = simp (eq-eqb _ _ (c .if1 .taken))
 
 end-of-requires : tie.Need-end-of-requires
-end-of-requires c κs = search needs
+end-of-requires c κs = tt
 
 returns-2 : tie.Need-returns-2
 unfolding clear
@@ -19,10 +19,10 @@ returns-2 c =
     simp (ne-eqb _ _ (c .before .before .if1 .left), le-leb _ _ (rw (c .before .end-of .ensures) at (c .if2 .taken)))
 
 add-result : tie.Need-add-result
-add-result c = search needs
+add-result c = omega arith
 
 cast-result : tie.Need-cast-result
-cast-result c = search needs
+cast-result c = omega arith
 
 returns-3 : tie.Need-returns-3
 unfolding clear

@@ -41,13 +41,13 @@ loop-holds c =
     rw (le-leb (a .s + a .size) (a .end) (omega arith))
 
 mul-p : tie.Need-mul-p Inv-loop μ-loop
-mul-p c = search needs
+mul-p c = omega arith
 
 element-copy-out-p : tie.Need-element-copy-out-p Inv-loop μ-loop
-element-copy-out-p c = search needs
+element-copy-out-p c = omega arith
 
 is-clear-requires : tie.Need-is-clear-requires Inv-loop μ-loop
-is-clear-requires c κs = search needs
+is-clear-requires c κs = omega arith
 
 returns-3 : tie.Need-returns-3 Inv-loop μ-loop
 returns-3 c =
@@ -57,10 +57,10 @@ returns-3 c =
     ∙ l .loop .inv
 
 add-i : tie.Need-add-i Inv-loop μ-loop
-add-i c = search needs
+add-i c = omega arith
 
 loop-less : tie.Need-loop-less Inv-loop μ-loop
-loop-less c = search needs
+loop-less c = omega arith
 
 loop-again : tie.Need-loop-again Inv-loop μ-loop
 loop-again c =
