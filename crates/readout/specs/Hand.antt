@@ -1,8 +1,8 @@
 -- Status and Hand out: document 01, section 5. Refusals in the orders 9, 10, 15 and 9, 10, 15, 21, 22, 23, 24, 26.
 -- Assumes nothing.
-use mathlib.Core.Bool.{Bool, true, false, cond, not, _&&_}
+use mathlib.Core.Bool.{Bool, true, cond, not, _&&_}
 use mathlib.Core.List.{List, [], _∷_, _++_}
-use Prim.Native.Nat.{ℕ, _+_, _-_, _*_, _/_, _%_}
+use Prim.Native.Nat.{ℕ, _-_, _*_, _/_, _%_}
 use lib.Dec.{eqb, ltb}
 use lib.ListN.{length, getD, drop}
 use Rattle.refusals.specs.declared.Refusal.{Refusal}

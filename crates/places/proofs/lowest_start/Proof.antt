@@ -7,7 +7,7 @@ use Prim.Native.Nat.{_-_}
 use native.Mathlib.Omega.{arith}
 use borrow.Author.Needs.{needs}
 use lib.ListN.{length, getD}
-use Rattle.places.specs.Places.{unused, usable}
+use Rattle.places.specs.Places.{unused}
 use Rattle.places.proofs.Named.{not-in-use}
 use Rattle.places.proofs.Steps.{mapped-length}
 use Rattle.places.proofs.Candidates.{Best, best-none, best-unused, best-lower, best-met, best-take, best-at, best-nowhere, lowest-zero, free-said}
