@@ -2,6 +2,7 @@
 -- Assumes nothing.
 use mathlib.Core.Path.{sym, ap, _∙_}
 use Prim.Native.Nat.{ℕ, _+_, _*_, _<_, _≤_}
+use native.Mathlib.Omega.{arith}
 use borrow.Author.Needs.{needs}
 use Rattle.pack.proofs.Laws.{rows-positive, length-plain, length-tables, tables-few}
 use Rattle.pack.proofs.coded_length.Statement.{statement}
@@ -11,13 +12,13 @@ returns : tie.Need-returns
 returns c = sym (length-plain (c .before .before .args .settings) _ (c .if1 .taken))
 
 cast-rows : tie.Need-cast-rows
-cast-rows c = search needs
+cast-rows c = omega arith
 
 mul-result : tie.Need-mul-result
-mul-result c = search needs
+mul-result c = omega arith
 
 mul-over : tie.Need-mul-over
-mul-over c = search needs
+mul-over c = omega arith
 
 over-requires : tie.Need-over-requires
 over-requires c κs =

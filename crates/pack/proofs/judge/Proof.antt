@@ -29,7 +29,7 @@ counting : (g : Settings) (len coded count : ℕ) → coded ≡ codedLength g le
 counting g len coded count e f = f ∙ ap (λ (x : ℕ). ceil x (g .size)) e
 
 settings-fit-requires : tie.Need-settings-fit-requires
-settings-fit-requires c κs = search needs
+settings-fit-requires c κs = tt
 
 returns : tie.Need-returns
 returns c = plan-field _ _ _ (sym (c .before .settings-fit .ensures) ∙ not-true _ (c .if1 .taken))
@@ -44,7 +44,7 @@ coded-length-requires : tie.Need-coded-length-requires
 coded-length-requires c κs = (fitting _ _ (c .before .before .before .settings-fit .ensures) (c .before .before .if1 .left), c .if3 .left)
 
 cast-size : tie.Need-cast-size
-cast-size c = search needs
+cast-size c = omega arith
 
 over-requires : tie.Need-over-requires
 over-requires c κs =
@@ -67,7 +67,7 @@ returns-5 c =
     (subst (λ (x : ℕ). x ≤ 1048575) n (c .before .if4 .left)) (subst (λ (x : ℕ). x ≤ a .number) n (c .if5 .taken))
 
 cast-t15 : tie.Need-cast-t15
-cast-t15 c = search needs
+cast-t15 c = omega arith
 
 mul-lesser : tie.Need-mul-lesser
 mul-lesser c =
@@ -85,7 +85,7 @@ sub-lesser c =
     le-of-lt (ceil-below _ (a .settings .size) (a .number) (settings-facts _ fit .size .least) n)
 
 lesser-requires : tie.Need-lesser-requires
-lesser-requires c κs = search needs
+lesser-requires c κs = tt
 
 returns-6 : tie.Need-returns-6
 returns-6 c =

@@ -1,20 +1,20 @@
 -- `pack::pack` meets its contract: packing answers as the plan says, and the packet that the plan goes on with is written by `put_packet`.
 -- Assumes nothing.
 use mathlib.Core.Path.{sym, _∙_}
-use borrow.Author.Needs.{needs}
+use native.Mathlib.Omega.{arith}
 use lib.ListN.{length}
 use Rattle.pack.proofs.Plans.{packs-stop, packs-go, planned}
 use Rattle.pack.proofs.pack.Statement.{statement}
 use Rattle.pack.proofs.pack.Tie as tie
 
 judge-requires : tie.Need-judge-requires
-judge-requires c κs = search needs
+judge-requires c κs = tt
 
 enum-known-plan : tie.Need-enum-known-plan
-enum-known-plan c = search needs
+enum-known-plan c = omega arith
 
 enum-known-plan-2 : tie.Need-enum-known-plan-2
-enum-known-plan-2 c = search needs
+enum-known-plan-2 c = omega arith
 
 put-packet-requires : tie.Need-put-packet-requires
 put-packet-requires c κs =
@@ -28,7 +28,7 @@ returns c =
     packs-stop (a .file .now) (a .settings) (a .number) (a .out .now) _ (sym (c .before .before .before .judge .ensures) ∙ c .before .plan .given .1)
 
 same-length : tie.Need-same-length
-same-length c = search needs
+same-length c = omega arith
 
 returns-2 : tie.Need-returns-2
 returns-2 c =

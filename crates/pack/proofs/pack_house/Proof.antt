@@ -1,20 +1,20 @@
 -- `pack::pack_house` meets its contract: it is `pack` under the settings that `house` gives.
 -- Assumes nothing.
 use mathlib.Core.Path.{subst}
-use borrow.Author.Needs.{needs}
+use native.Mathlib.Omega.{arith}
 use Rattle.packet.specs.declared.Settings.{Settings}
 use Rattle.pack.specs.Pack.{packOf, Packs}
 use Rattle.pack.proofs.pack_house.Statement.{statement}
 use Rattle.pack.proofs.pack_house.Tie as tie
 
 house-requires : tie.Need-house-requires
-house-requires c κs = search needs
+house-requires c κs = tt
 
 pack-requires : tie.Need-pack-requires
-pack-requires c κs = search needs
+pack-requires c κs = tt
 
 same-length : tie.Need-same-length
-same-length c = search needs
+same-length c = omega arith
 
 returns : tie.Need-returns
 returns c =

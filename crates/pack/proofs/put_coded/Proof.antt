@@ -28,7 +28,7 @@ add-put-run c =
     search needs
 
 sub-put-run : tie.Need-sub-put-run Inv-loop μ-loop
-sub-put-run c = search needs
+sub-put-run c = omega arith
 
 mul-put-run : tie.Need-mul-put-run Inv-loop μ-loop
 mul-put-run c =

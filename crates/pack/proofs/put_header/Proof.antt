@@ -4,7 +4,6 @@ use mathlib.Core.Path.{ap, _∙_}
 use mathlib.Core.List.{List}
 use Prim.Native.Nat.{ℕ, _+_}
 use native.Mathlib.Omega.{arith}
-use borrow.Author.Needs.{needs}
 use lib.ListN.{take}
 use lib.Seq.{sets, take-all}
 use Rattle.packet.specs.Packet.{headerOf}
@@ -14,28 +13,28 @@ use Rattle.pack.proofs.put_header.Statement.{statement}
 use Rattle.pack.proofs.put_header.Tie as tie
 
 add-t8 : tie.Need-add-t8
-add-t8 c = search needs
+add-t8 c = omega arith
 
 add-t9 : tie.Need-add-t9
-add-t9 c = search needs
+add-t9 c = omega arith
 
 cast-t10 : tie.Need-cast-t10
-cast-t10 c = search needs
+cast-t10 c = omega arith
 
 rows-held-requires : tie.Need-rows-held-requires
-rows-held-requires c κs = search needs
+rows-held-requires c κs = tt
 
 header-requires : tie.Need-header-requires
-header-requires c κs = search needs
+header-requires c κs = tt
 
 slice-aggregate-put-part : tie.Need-slice-aggregate-put-part
-slice-aggregate-put-part c = search needs
+slice-aggregate-put-part c = omega arith
 
 put-part-requires : tie.Need-put-part-requires
-put-part-requires c κs = search needs
+put-part-requires c κs = omega arith
 
 same-length : tie.Need-same-length
-same-length c = search needs
+same-length c = omega arith
 
 returns : tie.Need-returns
 unfolding headerFor

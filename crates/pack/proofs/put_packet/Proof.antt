@@ -14,10 +14,10 @@ use Rattle.pack.proofs.put_packet.Statement.{statement}
 use Rattle.pack.proofs.put_packet.Tie as tie
 
 add-end : tie.Need-add-end
-add-end c = search needs
+add-end c = omega arith
 
 add-if1 : tie.Need-add-if1
-add-if1 c = search needs
+add-if1 c = omega arith
 
 returns : tie.Need-returns
 returns c =
@@ -32,25 +32,25 @@ put-header-requires c κs =
     (subst (λ (s : ℕ). s ≤ 4077) (sym (c .before .before .before .before .pre .2)) l, search needs)
 
 sub-put-payload : tie.Need-sub-put-payload
-sub-put-payload c = search needs
+sub-put-payload c = omega arith
 
 part-put-payload-start : tie.Need-part-put-payload-start
-part-put-payload-start c = search needs
+part-put-payload-start c = omega arith
 
 part-put-payload-end : tie.Need-part-put-payload-end
-part-put-payload-end c = search needs
+part-put-payload-end c = omega arith
 
 put-payload-requires : tie.Need-put-payload-requires
 put-payload-requires c κs = search needs
 
 seal-requires : tie.Need-seal-requires
-seal-requires c κs = search needs
+seal-requires c κs = omega arith
 
 add-t10 : tie.Need-add-t10
-add-t10 c = search needs
+add-t10 c = omega arith
 
 same-length : tie.Need-same-length
-same-length c = search needs
+same-length c = omega arith
 
 returns-2 : tie.Need-returns-2
 unfolding packetOf

@@ -22,19 +22,19 @@ loop-holds : tie.Need-loop-holds Inv-loop μ-loop
 loop-holds c = run-begin _ _ _ _
 
 add-out : tie.Need-add-out Inv-loop μ-loop
-add-out c = search needs
+add-out c = omega arith
 
 shared-slice-read-out : tie.Need-shared-slice-read-out Inv-loop μ-loop
-shared-slice-read-out c = search needs
+shared-slice-read-out c = omega arith
 
 slice-write-out : tie.Need-slice-write-out Inv-loop μ-loop
 slice-write-out c = omega (arith, c .before .before .loop .inv .long)
 
 add-i : tie.Need-add-i Inv-loop μ-loop
-add-i c = search needs
+add-i c = omega arith
 
 loop-less : tie.Need-loop-less Inv-loop μ-loop
-loop-less c = search needs
+loop-less c = omega arith
 
 loop-again : tie.Need-loop-again Inv-loop μ-loop
 loop-again c = run-put _ _ _ _ _ _ (c .before .before .loop .inv) _ _ (sym (zero-add _)) (search needs) refl

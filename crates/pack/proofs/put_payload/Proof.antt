@@ -2,6 +2,7 @@
 -- write those. Assumes nothing.
 use mathlib.Core.Path.{_≡_, sym, ap, subst, _∙_}
 use Prim.Native.Nat.{ℕ, _+_, _*_, _/_, _≤_}
+use native.Mathlib.Omega.{arith}
 use borrow.Author.Needs.{needs}
 use lib.ListN.{length, take, drop}
 use lib.Seq.{sets}
@@ -11,7 +12,7 @@ use Rattle.pack.proofs.put_payload.Statement.{statement}
 use Rattle.pack.proofs.put_payload.Tie as tie
 
 cast-from : tie.Need-cast-from
-cast-from c = search needs
+cast-from c = omega arith
 
 mul-from : tie.Need-mul-from
 mul-from c =
@@ -27,7 +28,7 @@ put-part-requires c κs =
     (subst (λ (s : ℕ). a .number * a .settings .size + s ≤ length (a .file .now)) (sym e) f, c .before .before .before .before .before .before .pre .2)
 
 same-length : tie.Need-same-length
-same-length c = search needs
+same-length c = omega arith
 
 returns : tie.Need-returns
 returns c =
@@ -38,7 +39,7 @@ returns c =
     ∙ ap (sets (a .out .now) 0) (plain-payload (a .settings) (a .file .now) (a .number) (c .before .before .before .before .before .before .before .before .before .pre .0) (c .before .before .before .before .if1 .taken))
 
 cast-put-coded : tie.Need-cast-put-coded
-cast-put-coded c = search needs
+cast-put-coded c = omega arith
 
 put-coded-requires : tie.Need-put-coded-requires
 put-coded-requires c κs =
@@ -48,7 +49,7 @@ put-coded-requires c κs =
     (coded-fits (a .settings) (a .file .now) (a .number) (c .before .before .before .before .before .before .before .pre .0) (c .before .before .if1 .left) (length (a .out .now)) (subst (λ (s : ℕ). s ≤ length (a .out .now)) e (c .before .before .before .before .before .before .before .pre .2)))
 
 same-length-2 : tie.Need-same-length-2
-same-length-2 c = search needs
+same-length-2 c = omega arith
 
 returns-2 : tie.Need-returns-2
 returns-2 c =

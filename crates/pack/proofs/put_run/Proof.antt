@@ -11,19 +11,19 @@ use Rattle.pack.proofs.put_run.Statement.{statement}
 use Rattle.pack.proofs.put_run.Tie as tie
 
 rem-lesser : tie.Need-rem-lesser
-rem-lesser c = search needs
+rem-lesser c = omega arith
 
 sub-lesser : tie.Need-sub-lesser
 sub-lesser c = omega (arith, mod-lt (c .before .before .args .q) (c .before .before .pre .1 .rows))
 
 lesser-requires : tie.Need-lesser-requires
-lesser-requires c κs = search needs
+lesser-requires c κs = tt
 
 div-put-rows : tie.Need-div-put-rows
-div-put-rows c = search needs
+div-put-rows c = omega arith
 
 mul-put-rows : tie.Need-mul-put-rows
-mul-put-rows c = search needs
+mul-put-rows c = omega arith
 
 mul-put-rows-2 : tie.Need-mul-put-rows-2
 mul-put-rows-2 c =
@@ -31,7 +31,7 @@ mul-put-rows-2 c =
     search needs
 
 rem-put-rows : tie.Need-rem-put-rows
-rem-put-rows c = search needs
+rem-put-rows c = omega arith
 
 add-put-rows : tie.Need-add-put-rows
 add-put-rows c =
@@ -39,19 +39,19 @@ add-put-rows c =
     search needs
 
 sub-put-rows : tie.Need-sub-put-rows
-sub-put-rows c = search needs
+sub-put-rows c = omega arith
 
 part-put-rows-start : tie.Need-part-put-rows-start
-part-put-rows-start c = search needs
+part-put-rows-start c = omega arith
 
 part-put-rows-end : tie.Need-part-put-rows-end
-part-put-rows-end c = search needs
+part-put-rows-end c = omega arith
 
 put-rows-requires : tie.Need-put-rows-requires
-put-rows-requires c κs = search needs
+put-rows-requires c κs = tt
 
 same-length : tie.Need-same-length
-same-length c = search needs
+same-length c = omega arith
 
 returns : tie.Need-returns
 returns c =

@@ -19,43 +19,43 @@ four-sets l n a b c d =
     rw (e, f, g)
 
 slice-reshare-prefix-crc32 : tie.Need-slice-reshare-prefix-crc32
-slice-reshare-prefix-crc32 c = search needs
+slice-reshare-prefix-crc32 c = omega arith
 
 slice-aggregate-crc32 : tie.Need-slice-aggregate-crc32
 slice-aggregate-crc32 c = sym (length-take-le (c .before .before .args .n) (c .before .before .args .out .now) (search needs))
 
 crc32-requires : tie.Need-crc32-requires
-crc32-requires c κs = search needs
+crc32-requires c κs = tt
 
 cast-out : tie.Need-cast-out
-cast-out c = search needs
+cast-out c = omega arith
 
 slice-write-out : tie.Need-slice-write-out
-slice-write-out c = search needs
+slice-write-out c = omega arith
 
 cast-out-2 : tie.Need-cast-out-2
-cast-out-2 c = search needs
+cast-out-2 c = omega arith
 
 add-out : tie.Need-add-out
-add-out c = search needs
+add-out c = omega arith
 
 slice-write-out-2 : tie.Need-slice-write-out-2
 slice-write-out-2 c = simp length-set (search needs)
 
 cast-out-3 : tie.Need-cast-out-3
-cast-out-3 c = search needs
+cast-out-3 c = omega arith
 
 add-out-2 : tie.Need-add-out-2
-add-out-2 c = search needs
+add-out-2 c = omega arith
 
 slice-write-out-3 : tie.Need-slice-write-out-3
 slice-write-out-3 c = simp length-set (search needs)
 
 cast-out-4 : tie.Need-cast-out-4
-cast-out-4 c = search needs
+cast-out-4 c = omega arith
 
 add-out-3 : tie.Need-add-out-3
-add-out-3 c = search needs
+add-out-3 c = omega arith
 
 slice-write-out-4 : tie.Need-slice-write-out-4
 slice-write-out-4 c = simp length-set (search needs)

@@ -7,7 +7,6 @@ use native.Mathlib.Omega.{arith}
 use lib.ListN.{getD}
 use lib.Seq.{ext-getD}
 use Rattle.repair.proofs.Stores.{Front, front-start, front-more}
-use borrow.Author.Needs.{needs}
 use Rattle.repair.proofs.held.Statement.{statement}
 use Rattle.repair.proofs.held.Tie as tie
 
@@ -24,13 +23,13 @@ shared-slice-read-out : tie.Need-shared-slice-read-out Inv-loop μ-loop
 shared-slice-read-out c = omega (arith, c .before .before .before .pre)
 
 array-write-out : tie.Need-array-write-out Inv-loop μ-loop
-array-write-out c = search needs
+array-write-out c = omega arith
 
 add-i : tie.Need-add-i Inv-loop μ-loop
-add-i c = search needs
+add-i c = omega arith
 
 loop-less : tie.Need-loop-less Inv-loop μ-loop
-loop-less c = search needs
+loop-less c = omega arith
 
 loop-again : tie.Need-loop-again Inv-loop μ-loop
 loop-again c = (omega arith, front-more (c .before .before .loop .inv .1) _ (omega arith) refl)

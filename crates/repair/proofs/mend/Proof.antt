@@ -5,6 +5,7 @@ use mathlib.Core.List.{List}
 use Prim.Native.Nat.{ℕ, _%_, _≤_}
 use lib.ListN.{length}
 use Rattle.repair.proofs.AllRows.{mend-short, mend-long, mend-all, all-resting}
+use native.Mathlib.Omega.{arith}
 use borrow.Author.Needs.{needs}
 use Rattle.repair.proofs.mend.Statement.{statement}
 use Rattle.repair.proofs.mend.Tie as tie
@@ -22,7 +23,7 @@ mend-from-requires : tie.Need-mend-from-requires
 mend-from-requires c κs = all-resting _ (search needs) (search needs) _ (c .before .before .remainders .ensures)
 
 same-length : tie.Need-same-length
-same-length c = search needs
+same-length c = omega arith
 
 returns-3 : tie.Need-returns-3
 returns-3 c =

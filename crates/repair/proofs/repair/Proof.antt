@@ -1,12 +1,13 @@
 -- `repair` mends the row where it is held.
 -- Assumes nothing.
 use Rattle.repair.proofs.AllRows.{mend-one}
+use native.Mathlib.Omega.{arith}
 use borrow.Author.Needs.{needs}
 use Rattle.repair.proofs.repair.Statement.{statement}
 use Rattle.repair.proofs.repair.Tie as tie
 
 slice-aggregate-mend : tie.Need-slice-aggregate-mend
-slice-aggregate-mend c = search needs
+slice-aggregate-mend c = omega arith
 
 mend-requires : tie.Need-mend-requires
 mend-requires c κs = tt

@@ -6,6 +6,7 @@ use Prim.Native.Nat.{ℕ}
 use lib.ListN.{length}
 use borrow.Author.Tests.{eq-eqb, ne-eqb}
 use Rattle.repair.specs.Repair.{mendOf, repairRowOf}
+use native.Mathlib.Omega.{arith}
 use borrow.Author.Needs.{needs}
 use Rattle.repair.proofs.repair_row.Statement.{statement}
 use Rattle.repair.proofs.repair_row.Tie as tie
@@ -15,7 +16,7 @@ unfolding repairRowOf
 returns c = rw (ne-eqb (length (c .before .before .args .row .now)) 255 (search needs))
 
 held-requires : tie.Need-held-requires
-held-requires c κs = search needs
+held-requires c κs = omega arith
 
 repair-requires : tie.Need-repair-requires
 repair-requires c κs = tt

@@ -37,10 +37,10 @@ find-place-requires : tie.Need-find-place-requires
 find-place-requires c κs = tt
 
 enum-known-i : tie.Need-enum-known-i
-enum-known-i c = search needs
+enum-known-i c = omega arith
 
 enum-told : tie.Need-enum-told
-enum-told c = search needs
+enum-told c = omega arith
 
 returns-2 : tie.Need-returns-2
 returns-2 c = out-unknown _ _ _ (sound (c .before .before .before)) _ _ (sym (c .before .before .find-place .ensures) ∙ c .enum-told .given .1)

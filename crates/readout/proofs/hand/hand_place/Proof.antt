@@ -16,19 +16,19 @@ tallied : (c : tie.After-known-told) → Tallied (contents (c .before .before .b
 tallied c = seen-sound _ _ (sym (c .before .seen .given .1) ∙ c .before .before .before .survey .ensures)
 
 survey-requires : tie.Need-survey-requires
-survey-requires c κs = search needs
+survey-requires c κs = omega arith
 
 enum-known-seen : tie.Need-enum-known-seen
-enum-known-seen c = search needs
+enum-known-seen c = omega arith
 
 enum-told : tie.Need-enum-told
-enum-told c = search needs
+enum-told c = omega arith
 
 returns : tie.Need-returns
 returns c = contents-slot _ _ _ _ (seen-wrong _ (sym (c .enum-told .given .1) ∙ c .before .before .survey .ensures))
 
 enum-known-empty : tie.Need-enum-known-empty
-enum-known-empty c = search needs
+enum-known-empty c = omega arith
 
 cast-t11 : tie.Need-cast-t11
 cast-t11 c =
@@ -38,7 +38,7 @@ cast-t11 c =
     omega (arith, length-contents (f .p) (f .store .now))
 
 enum-told-2 : tie.Need-enum-told-2
-enum-told-2 c = search needs
+enum-told-2 c = omega arith
 
 hand-filled-requires : tie.Need-hand-filled-requires
 hand-filled-requires c κs =

@@ -1,14 +1,14 @@
 -- What was found before stays; otherwise slot `number` is found exactly if its length is 0.
-use borrow.Author.Needs.{needs}
+use native.Mathlib.Omega.{arith}
 use Rattle.readout.proofs.SurveyLaws.{first-before, first-here, first-later}
 use Rattle.readout.proofs.survey.first_empty.Statement.{statement}
 use Rattle.readout.proofs.survey.first_empty.Tie as tie
 
 enum-known-empty : tie.Need-enum-known-empty
-enum-known-empty c = search needs
+enum-known-empty c = omega arith
 
 enum-told : tie.Need-enum-told
-enum-told c = search needs
+enum-told c = omega arith
 
 returns : tie.Need-returns
 returns c = first-before _ _ _ _ (c .before .empty .given .1)

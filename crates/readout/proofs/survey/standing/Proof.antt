@@ -1,18 +1,18 @@
 -- The pass over the lengths says what the contents say.
 use mathlib.Core.Path.{sym, _∙_}
-use borrow.Author.Needs.{needs}
+use native.Mathlib.Omega.{arith}
 use Rattle.readout.proofs.SurveyLaws.{standing-seen}
 use Rattle.readout.proofs.survey.standing.Statement.{statement}
 use Rattle.readout.proofs.survey.standing.Tie as tie
 
 survey-requires : tie.Need-survey-requires
-survey-requires c κs = search needs
+survey-requires c κs = omega arith
 
 enum-told : tie.Need-enum-told
-enum-told c = search needs
+enum-told c = omega arith
 
 enum-known-seen : tie.Need-enum-known-seen
-enum-known-seen c = search needs
+enum-known-seen c = omega arith
 
 returns : tie.Need-returns
 returns c = standing-seen _ _ (sym (c .enum-told .given .1) ∙ c .before .before .survey .ensures)

@@ -1,5 +1,6 @@
 -- The header goes into the register and then the payload, by one table that keeps the rule: what is left is the CRC of both, and it is compared with the one sent.
 use mathlib.Core.Path.{sym, _∙_}
+use native.Mathlib.Omega.{arith}
 use borrow.Author.Needs.{needs}
 use lib.Seq.{length-take-le}
 use Rattle.record.proofs.CrcLaws.{crc-fed, agrees-told}
@@ -22,7 +23,7 @@ feed-by-requires-2 : tie.Need-feed-by-requires-2
 feed-by-requires-2 c κs = tt
 
 crc-in-requires : tie.Need-crc-in-requires
-crc-in-requires c κs = search needs
+crc-in-requires c κs = omega arith
 
 finish-requires : tie.Need-finish-requires
 finish-requires c κs = tt

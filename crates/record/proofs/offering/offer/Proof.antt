@@ -44,10 +44,10 @@ read-fields-requires : tie.Need-read-fields-requires
 read-fields-requires c κs = tt
 
 enum-known-reading : tie.Need-enum-known-reading
-enum-known-reading c = search needs
+enum-known-reading c = omega arith
 
 enum-told : tie.Need-enum-told
-enum-told c = search needs
+enum-told c = omega arith
 
 refusal-in-requires : tie.Need-refusal-in-requires
 refusal-in-requires c κs = tt
@@ -61,10 +61,10 @@ find-place-requires : tie.Need-find-place-requires
 find-place-requires c κs = tt
 
 enum-known-i : tie.Need-enum-known-i
-enum-known-i c = search needs
+enum-known-i c = omega arith
 
 enum-told-2 : tie.Need-enum-told-2
-enum-told-2 c = search needs
+enum-told-2 c = omega arith
 
 returns-3 : tie.Need-returns-3
 returns-3 c =

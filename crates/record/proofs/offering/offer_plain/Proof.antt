@@ -1,7 +1,6 @@
 -- The payload is the part between header and CRC; where the CRC agrees it goes into its slot.
 use mathlib.Core.Path.{sym, ap, _∙_}
 use native.Mathlib.Omega.{arith}
-use borrow.Author.Needs.{needs}
 use borrow.Author.Tests.{not-true, not-false}
 use Rattle.code.specs.Mend.{whole}
 use Rattle.record.proofs.OfferCases.{told, come, payload-cut, mended-wrong, mended-right}
@@ -21,13 +20,13 @@ part-payload-end : tie.Need-part-payload-end
 part-payload-end c = omega arith
 
 crc-agrees-requires : tie.Need-crc-agrees-requires
-crc-agrees-requires c κs = search needs
+crc-agrees-requires c κs = omega arith
 
 returns : tie.Need-returns
 returns c = told (mended-wrong _ _ _ (c .before .before .before .before .before .args .packet .now) _ _ (ap whole (sym (payload-cut (c .before .before .before .before .before .args .packet .now)))) (sym (c .before .crc-agrees .ensures) ∙ not-true _ (c .if1 .taken)))
 
 put-in-requires : tie.Need-put-in-requires
-put-in-requires c κs = search needs
+put-in-requires c κs = omega arith
 
 same-length : tie.Need-same-length
 same-length c = omega arith

@@ -56,13 +56,13 @@ part-payload-end : tie.Need-part-payload-end
 part-payload-end c = omega arith
 
 slice-aggregate-copy-in : tie.Need-slice-aggregate-copy-in
-slice-aggregate-copy-in c = search needs
+slice-aggregate-copy-in c = omega arith
 
 copy-in-requires : tie.Need-copy-in-requires
 copy-in-requires c κs = tt
 
 array-borrow-prefix-buffer : tie.Need-array-borrow-prefix-buffer
-array-borrow-prefix-buffer c = search needs
+array-borrow-prefix-buffer c = omega arith
 
 slice-aggregate-mend : tie.Need-slice-aggregate-mend
 slice-aggregate-mend c = sym (ap length (part (c .before .before)))
@@ -71,7 +71,7 @@ mend-requires : tie.Need-mend-requires
 mend-requires c κs = tt
 
 enum-known-verdict : tie.Need-enum-known-verdict
-enum-known-verdict c = search needs
+enum-known-verdict c = omega arith
 
 returns : tie.Need-returns
 returns c =
@@ -79,7 +79,7 @@ returns c =
     told (rows-broken (q (copied m)) (whole-rows (copied m)) (few (copied m)) _ _ (mended m) _ _ _ _ (c .before .verdict .given .1))
 
 enum-told : tie.Need-enum-told
-enum-told c = search needs
+enum-told c = omega arith
 
 array-share-prefix-buffer : tie.Need-array-share-prefix-buffer
 array-share-prefix-buffer c =
@@ -92,7 +92,7 @@ slice-aggregate-mended c =
     sym (ap length (front m (drop (length (cut (q (copied m)))) (copied m .copy-in .last .0))) ∙ long m)
 
 crc-agrees-requires : tie.Need-crc-agrees-requires
-crc-agrees-requires c κs = search needs
+crc-agrees-requires c κs = omega arith
 
 returns-2 : tie.Need-returns-2
 returns-2 c =

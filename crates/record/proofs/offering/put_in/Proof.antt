@@ -1,7 +1,6 @@
 -- The slot's length is judged first; an empty slot takes the payload, one that holds as many bytes is compared with it.
 use mathlib.Core.Path.{sym, _∙_}
 use native.Mathlib.Omega.{arith}
-use borrow.Author.Needs.{needs}
 use borrow.Author.Tests.{not-true, not-false}
 use Rattle.record.proofs.OfferCases.{told, put-wrong, put-empty, put-other, put-same, put-conflict}
 use Rattle.record.proofs.offering.put_in.Statement.{statement}
@@ -23,7 +22,7 @@ returns : tie.Need-returns
 returns c = told (put-wrong _ _ _ _ _ (c .before .before .before .before .slot-at .ensures) _ (c .before .before .slot-length .ensures) (sym (c .before .length-fits .ensures) ∙ not-true _ (c .if1 .taken)))
 
 put-slot-requires : tie.Need-put-slot-requires
-put-slot-requires c κs = search needs
+put-slot-requires c κs = omega arith
 
 same-length-2 : tie.Need-same-length-2
 same-length-2 c = omega arith
@@ -44,7 +43,7 @@ add-same-bytes : tie.Need-add-same-bytes
 add-same-bytes c = omega arith
 
 same-bytes-requires : tie.Need-same-bytes-requires
-same-bytes-requires c κs = search needs
+same-bytes-requires c κs = omega arith
 
 same-length-4 : tie.Need-same-length-4
 same-length-4 c = omega arith

@@ -1,15 +1,16 @@
 -- The refusal is taken out of the reading.
 use mathlib.Core.Path.{sym, ap}
+use native.Mathlib.Omega.{arith}
 use borrow.Author.Needs.{needs}
 use Rattle.record.specs.InnerOffer.{refusalIn}
 use Rattle.record.proofs.offering.refusal_in.Statement.{statement}
 use Rattle.record.proofs.offering.refusal_in.Tie as tie
 
 enum-known-reading : tie.Need-enum-known-reading
-enum-known-reading c = search needs
+enum-known-reading c = omega arith
 
 enum-told : tie.Need-enum-told
-enum-told c = search needs
+enum-told c = omega arith
 
 returns : tie.Need-returns
 returns c = sym (ap refusalIn (c .before .reading .given .1))

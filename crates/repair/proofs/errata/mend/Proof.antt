@@ -7,7 +7,6 @@ use lib.ListN.{length, length-set}
 use Rattle.ground.specs.Bits.{sum}
 use Rattle.repair.specs.InnerErrata.{entries, mendedBy}
 use Rattle.repair.proofs.Mending.{mended-start, mended-more}
-use borrow.Author.Needs.{needs}
 use Rattle.repair.proofs.errata.mend.Statement.{statement}
 use Rattle.repair.proofs.errata.mend.Tie as tie
 
@@ -39,10 +38,10 @@ slice-write-rows : tie.Need-slice-write-rows Inv-loop μ-loop
 slice-write-rows c = omega (arith, c .before .before .before .before .before .pre .1, c .before .before .before .loop .inv .1)
 
 add-k : tie.Need-add-k Inv-loop μ-loop
-add-k c = search needs
+add-k c = omega arith
 
 loop-less : tie.Need-loop-less Inv-loop μ-loop
-loop-less c = search needs
+loop-less c = omega arith
 
 loop-again : tie.Need-loop-again Inv-loop μ-loop
 unfolding sum
@@ -57,7 +56,7 @@ loop-again c =
     )
 
 same-length : tie.Need-same-length Inv-loop μ-loop
-same-length c = search needs
+same-length c = omega arith
 
 returns : tie.Need-returns Inv-loop μ-loop
 returns c =

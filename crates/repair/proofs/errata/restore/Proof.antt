@@ -27,7 +27,7 @@ array-read-acc : tie.Need-array-read-acc Inv-loop μ-loop
 array-read-acc c = omega (arith, c .before .pre .1 .few)
 
 add-i : tie.Need-add-i Inv-loop μ-loop
-add-i c = search needs
+add-i c = omega arith
 
 loop-holds : tie.Need-loop-holds Inv-loop μ-loop
 loop-holds c = (c .power .ensures, restoring-start _ _ _ _ (c .before .pre .0) (search needs))
@@ -55,10 +55,10 @@ array-write-out : tie.Need-array-write-out Inv-loop μ-loop
 array-write-out c = omega (arith, c .before .before .before .before .before .pre .1 .few)
 
 add-i-2 : tie.Need-add-i-2 Inv-loop μ-loop
-add-i-2 c = search needs
+add-i-2 c = omega arith
 
 loop-less : tie.Need-loop-less Inv-loop μ-loop
-loop-less c = search needs
+loop-less c = omega arith
 
 loop-again : tie.Need-loop-again Inv-loop μ-loop
 unfolding sum

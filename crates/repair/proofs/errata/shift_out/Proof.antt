@@ -17,28 +17,28 @@ loop-holds : tie.Need-loop-holds Inv-loop μ-loop
 loop-holds c = shifting-start _ _ _ _ (c .pre .1) (search needs)
 
 add-loop : tie.Need-add-loop Inv-loop μ-loop
-add-loop c = search needs
+add-loop c = omega arith
 
 sub-i : tie.Need-sub-i Inv-loop μ-loop
-sub-i c = search needs
+sub-i c = omega arith
 
 array-read-out : tie.Need-array-read-out Inv-loop μ-loop
-array-read-out c = search needs
+array-read-out c = omega arith
 
 sub-raised : tie.Need-sub-raised Inv-loop μ-loop
-sub-raised c = search needs
+sub-raised c = omega arith
 
 array-read-raised : tie.Need-array-read-raised Inv-loop μ-loop
-array-read-raised c = search needs
+array-read-raised c = omega arith
 
 raised-requires : tie.Need-raised-requires Inv-loop μ-loop
 raised-requires c κs = search needs
 
 array-write-out : tie.Need-array-write-out Inv-loop μ-loop
-array-write-out c = search needs
+array-write-out c = omega arith
 
 loop-less : tie.Need-loop-less Inv-loop μ-loop
-loop-less c = search needs
+loop-less c = omega arith
 
 loop-again : tie.Need-loop-again Inv-loop μ-loop
 unfolding sum

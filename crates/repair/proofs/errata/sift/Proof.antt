@@ -28,10 +28,10 @@ shift-out-requires c κs =
     (rw (c .index .ensures .0) (start .pre .0 .below _ (omega arith)), omega arith, start .pre .0 .few, start .pre .1, start .pre .2)
 
 add-k : tie.Need-add-k Inv-loop μ-loop
-add-k c = search needs
+add-k c = omega arith
 
 loop-less : tie.Need-loop-less Inv-loop μ-loop
-loop-less c = search needs
+loop-less c = omega arith
 
 loop-again : tie.Need-loop-again Inv-loop μ-loop
 loop-again c = sifting-more (c .before .before .before .loop .inv) (omega arith) _ _ (c .before .index .ensures .0) (c .shift-out .ensures)

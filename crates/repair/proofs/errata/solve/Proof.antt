@@ -23,13 +23,13 @@ loop-holds : tie.Need-loop-holds Inv-loop μ-loop
 loop-holds c = (omega arith, λ s sifted. solving-start sifted)
 
 sub-k : tie.Need-sub-k Inv-loop μ-loop
-sub-k c = search needs
+sub-k c = omega arith
 
 restore-requires : tie.Need-restore-requires Inv-loop μ-loop
 restore-requires c κs = search needs
 
 loop-less : tie.Need-loop-less Inv-loop μ-loop
-loop-less c = search needs
+loop-less c = omega arith
 
 loop-again : tie.Need-loop-again Inv-loop μ-loop
 loop-again c =

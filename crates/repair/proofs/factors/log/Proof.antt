@@ -3,12 +3,13 @@
 use mathlib.Core.Path.{ap, _∙_}
 use Prim.Native.Nat.{ℕ, _<_}
 use Rattle.field.specs.Field.{power}
+use native.Mathlib.Omega.{arith}
 use borrow.Author.Needs.{needs}
 use Rattle.repair.proofs.factors.log.Statement.{statement}
 use Rattle.repair.proofs.factors.log.Tie as tie
 
 element-copy-out-index : tie.Need-element-copy-out-index
-element-copy-out-index c = search needs
+element-copy-out-index c = omega arith
 
 index-requires : tie.Need-index-requires
 index-requires c κs = tt

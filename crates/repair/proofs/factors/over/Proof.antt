@@ -1,6 +1,7 @@
 -- `factors::over`: the exponents are taken off each other, with a whole round more; what is 0 stays 0.
 -- Assumes nothing.
 use Rattle.repair.proofs.ByExponents.{entry-over, zero-over}
+use native.Mathlib.Omega.{arith}
 use borrow.Author.Needs.{needs}
 use Rattle.repair.proofs.factors.over.Statement.{statement}
 use Rattle.repair.proofs.factors.over.Tie as tie
@@ -15,13 +16,13 @@ log-requires-2 : tie.Need-log-requires-2
 log-requires-2 c κs = search needs
 
 sub-result : tie.Need-sub-result
-sub-result c = search needs
+sub-result c = omega arith
 
 add-result : tie.Need-add-result
-add-result c = search needs
+add-result c = omega arith
 
 element-copy-out-result : tie.Need-element-copy-out-result
-element-copy-out-result c = search needs
+element-copy-out-result c = omega arith
 
 returns-2 : tie.Need-returns-2
 returns-2 c =

@@ -3,7 +3,6 @@
 use mathlib.Core.Path.{ap, _∙_}
 use native.Mathlib.Omega.{arith}
 use Rattle.field.specs.Field.{power}
-use borrow.Author.Needs.{needs}
 use Rattle.repair.proofs.factors.power.Statement.{statement}
 use Rattle.repair.proofs.factors.power.Tie as tie
 
@@ -11,7 +10,7 @@ index-requires : tie.Need-index-requires
 index-requires c κs = tt
 
 element-copy-out-result : tie.Need-element-copy-out-result
-element-copy-out-result c = search needs
+element-copy-out-result c = omega arith
 
 returns : tie.Need-returns
 returns c =

@@ -1,6 +1,7 @@
 -- `factors::raised`: the exponents add; what is 0 stays 0.
 -- Assumes nothing.
 use Rattle.repair.proofs.ByExponents.{entry-raised, zero-raised}
+use native.Mathlib.Omega.{arith}
 use borrow.Author.Needs.{needs}
 use Rattle.repair.proofs.factors.raised.Statement.{statement}
 use Rattle.repair.proofs.factors.raised.Tie as tie
@@ -12,10 +13,10 @@ log-requires : tie.Need-log-requires
 log-requires c κs = search needs
 
 add-result : tie.Need-add-result
-add-result c = search needs
+add-result c = omega arith
 
 element-copy-out-result : tie.Need-element-copy-out-result
-element-copy-out-result c = search needs
+element-copy-out-result c = omega arith
 
 returns-2 : tie.Need-returns-2
 returns-2 c =

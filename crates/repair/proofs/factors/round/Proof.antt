@@ -2,7 +2,6 @@
 -- Assumes nothing.
 use native.Mathlib.Omega.{arith}
 use Rattle.repair.proofs.ByExponents.{round-down}
-use borrow.Author.Needs.{needs}
 use Rattle.repair.proofs.factors.round.Statement.{statement}
 use Rattle.repair.proofs.factors.round.Tie as tie
 
@@ -10,7 +9,7 @@ returns : tie.Need-returns
 returns c = (omega arith, round-down (c .before .args .e) (omega arith))
 
 returns-2 : tie.Need-returns-2
-returns-2 c = search needs
+returns-2 c = omega arith
 
 pub round-spec : {M : Type 1} → statement M
 round-spec = tie.close (tie.spec returns returns-2)

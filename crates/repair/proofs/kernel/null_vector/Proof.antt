@@ -25,16 +25,16 @@ returns : tie.Need-returns Inv-loop μ-loop
 returns c = annihilated _ _ _ _ _ _ (search needs) (search needs) (c .before .before .reduce .ensures)
 
 mul-vectors : tie.Need-mul-vectors Inv-loop μ-loop
-mul-vectors c = search needs
+mul-vectors c = omega arith
 
 array-set-from-vectors : tie.Need-array-set-from-vectors Inv-loop μ-loop
-array-set-from-vectors c = search needs
+array-set-from-vectors c = omega arith
 
 inverse-requires : tie.Need-inverse-requires Inv-loop μ-loop
 inverse-requires c κs = (search needs, search needs, c .before .before .reduce .ensures .nonzero (omega arith))
 
 array-write-scales : tie.Need-array-write-scales Inv-loop μ-loop
-array-write-scales c = search needs
+array-write-scales c = omega arith
 
 shift-requires : tie.Need-shift-requires Inv-loop μ-loop
 shift-requires c κs = tt
@@ -43,10 +43,10 @@ before-requires : tie.Need-before-requires Inv-loop μ-loop
 before-requires c κs = tt
 
 add-l : tie.Need-add-l Inv-loop μ-loop
-add-l c = search needs
+add-l c = omega arith
 
 loop-less : tie.Need-loop-less Inv-loop μ-loop
-loop-less c = search needs
+loop-less c = omega arith
 
 loop-again : tie.Need-loop-again Inv-loop μ-loop
 loop-again c =

@@ -21,13 +21,13 @@ loop-holds : tie.Need-loop-holds Inv-loop μ-loop
 loop-holds c = search needs
 
 add-run : tie.Need-add-run Inv-loop μ-loop
-add-run c = search needs
+add-run c = omega arith
 
 run-requires : tie.Need-run-requires Inv-loop μ-loop
 run-requires c κs = search needs
 
 array-read-c : tie.Need-array-read-c Inv-loop μ-loop
-array-read-c c = search needs
+array-read-c c = omega arith
 
 returns : tie.Need-returns Inv-loop μ-loop
 returns c =
@@ -36,10 +36,10 @@ returns c =
     reduced-stop (start .pre .0) (at .loop .inv) (c .before .before .run .ensures) (c .before .if1 .taken) (c .if2 .taken)
 
 mul-q : tie.Need-mul-q Inv-loop μ-loop
-mul-q c = search needs
+mul-q c = omega arith
 
 array-copy-out-q : tie.Need-array-copy-out-q Inv-loop μ-loop
-array-copy-out-q c = search needs
+array-copy-out-q c = omega arith
 
 times-requires : tie.Need-times-requires Inv-loop μ-loop
 times-requires c κs = search needs
@@ -51,10 +51,10 @@ mix-requires c κs =
     (omega (arith, start .pre .0), start .pre .2 .kept i (omega arith) (c .before .before .if2 .left) .short, start .pre .3, start .pre .4)
 
 add-i : tie.Need-add-i Inv-loop μ-loop
-add-i c = search needs
+add-i c = omega arith
 
 loop-less : tie.Need-loop-less Inv-loop μ-loop
-loop-less c = search needs
+loop-less c = omega arith
 
 loop-again : tie.Need-loop-again Inv-loop μ-loop
 loop-again c =

@@ -18,25 +18,25 @@ abbrev μ-loop : tie.MeasureT-loop
 
 loop-holds : tie.Need-loop-holds Inv-loop μ-loop
 unfolding runOf total
-loop-holds c = search needs
+loop-holds c = omega arith
 
 array-read-times : tie.Need-array-read-times Inv-loop μ-loop
-array-read-times c = search needs
+array-read-times c = omega arith
 
 add-times : tie.Need-add-times Inv-loop μ-loop
-add-times c = search needs
+add-times c = omega arith
 
 array-read-times-2 : tie.Need-array-read-times-2 Inv-loop μ-loop
-array-read-times-2 c = search needs
+array-read-times-2 c = omega arith
 
 times-requires : tie.Need-times-requires Inv-loop μ-loop
 times-requires c κs = search needs
 
 add-m : tie.Need-add-m Inv-loop μ-loop
-add-m c = search needs
+add-m c = omega arith
 
 loop-less : tie.Need-loop-less Inv-loop μ-loop
-loop-less c = search needs
+loop-less c = omega arith
 
 loop-again : tie.Need-loop-again Inv-loop μ-loop
 unfolding runOf total sum

@@ -5,7 +5,6 @@ use mathlib.Core.List.{List}
 use Prim.Native.Nat.{ℕ, _+_, _-_, _≤_, _<_}
 use native.Mathlib.Omega.{arith}
 use lib.ListN.{length, take, drop, length-drop}
-use borrow.Author.Needs.{needs}
 use borrow.Author.Tests.{not-true, not-false}
 use borrow.Fn.Kinds.{In}
 use borrow.Fn.PlainCycle.{Measures, is, falls, and}
@@ -74,10 +73,10 @@ mend-from-sub-mend-from : (t : ℕ) → mend-from-lts.Need-sub-mend-from (rest-i
 mend-from-sub-mend-from t c = some t (c .before .before .before .before)
 
 mend-from-part-mend-from-start : (t : ℕ) → mend-from-lts.Need-part-mend-from-start (rest-in-reads.Asked, rest-in-reads.Learnt, find-reads.Asked, find-reads.Learnt, mend-from-below t, mend-from.Post, finish-reads.Asked, finish-reads.Learnt) (mend-from-at t) mend-from.Post
-mend-from-part-mend-from-start t c = search needs
+mend-from-part-mend-from-start t c = omega arith
 
 mend-from-part-mend-from-end : (t : ℕ) → mend-from-lts.Need-part-mend-from-end (rest-in-reads.Asked, rest-in-reads.Learnt, find-reads.Asked, find-reads.Learnt, mend-from-below t, mend-from.Post, finish-reads.Asked, finish-reads.Learnt) (mend-from-at t) mend-from.Post
-mend-from-part-mend-from-end t c = search needs
+mend-from-part-mend-from-end t c = omega arith
 
 mend-from-add-mend-from : (t : ℕ) → mend-from-lts.Need-add-mend-from (rest-in-reads.Asked, rest-in-reads.Learnt, find-reads.Asked, find-reads.Learnt, mend-from-below t, mend-from.Post, finish-reads.Asked, finish-reads.Learnt) (mend-from-at t) mend-from.Post
 mend-from-add-mend-from t c = record { fits = omega (arith, known t (c .before .before .before .before .before) .few) }
@@ -98,7 +97,7 @@ mend-from-finish-requires t c κs =
     (find .find .ensures .placed, omega (arith, back-length b (c .before .before .before .before .before .mend-from .last .0) (some t (find .before .before))))
 
 mend-from-same-length : (t : ℕ) → mend-from-lts.Need-same-length (rest-in-reads.Asked, rest-in-reads.Learnt, find-reads.Asked, find-reads.Learnt, mend-from-below t, mend-from.Post, finish-reads.Asked, finish-reads.Learnt) (mend-from-at t) mend-from.Post
-mend-from-same-length t c = search needs
+mend-from-same-length t c = omega arith
 
 mend-from-returns-3 : (t : ℕ) → mend-from-lts.Need-returns-3 (rest-in-reads.Asked, rest-in-reads.Learnt, find-reads.Asked, find-reads.Learnt, mend-from-below t, mend-from.Post, finish-reads.Asked, finish-reads.Learnt) (mend-from-at t) mend-from.Post
 mend-from-returns-3 t c =

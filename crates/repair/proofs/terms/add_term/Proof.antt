@@ -32,25 +32,25 @@ loop-holds c =
     (omega arith, log .0, front-start _ 16 _ (search needs), log .1 ∙ term-first (start .c) (start .a) (search needs))
 
 array-read-out : tie.Need-array-read-out Inv-loop μ-loop
-array-read-out c = search needs
+array-read-out c = omega arith
 
 element-copy-out-out : tie.Need-element-copy-out-out Inv-loop μ-loop
-element-copy-out-out c = search needs
+element-copy-out-out c = omega arith
 
 array-write-out : tie.Need-array-write-out Inv-loop μ-loop
-array-write-out c = search needs
+array-write-out c = omega arith
 
 add-round : tie.Need-add-round Inv-loop μ-loop
-add-round c = search needs
+add-round c = omega arith
 
 round-requires : tie.Need-round-requires Inv-loop μ-loop
-round-requires c κs = search needs
+round-requires c κs = omega arith
 
 add-j : tie.Need-add-j Inv-loop μ-loop
-add-j c = search needs
+add-j c = omega arith
 
 loop-less : tie.Need-loop-less Inv-loop μ-loop
-loop-less c = search needs
+loop-less c = omega arith
 
 loop-again : tie.Need-loop-again Inv-loop μ-loop
 unfolding sum

@@ -3,7 +3,6 @@
 use Prim.Native.Nat.{_-_, _≤_}
 use native.Mathlib.Omega.{arith}
 use Rattle.repair.proofs.Shares.{Leaving, leaving-start, leaving-more, leaving-agrees}
-use borrow.Author.Needs.{needs}
 use Rattle.repair.proofs.terms.agrees.Statement.{statement}
 use Rattle.repair.proofs.terms.agrees.Tie as tie
 
@@ -20,7 +19,7 @@ array-read-add-term : tie.Need-array-read-add-term Inv-loop μ-loop
 array-read-add-term c = omega (arith, c .before .before .pre .0 .few)
 
 array-read-index : tie.Need-array-read-index Inv-loop μ-loop
-array-read-index c = search needs
+array-read-index c = omega arith
 
 index-requires : tie.Need-index-requires Inv-loop μ-loop
 index-requires c κs = tt
@@ -31,10 +30,10 @@ add-term-requires c κs =
     (rw (c .index .ensures .0) (start .pre .0 .below _ (omega arith)), start .pre .1, start .pre .2)
 
 add-k : tie.Need-add-k Inv-loop μ-loop
-add-k c = search needs
+add-k c = omega arith
 
 loop-less : tie.Need-loop-less Inv-loop μ-loop
-loop-less c = search needs
+loop-less c = omega arith
 
 loop-again : tie.Need-loop-again Inv-loop μ-loop
 loop-again c = (omega arith, leaving-more (c .before .before .before .loop .inv .1) _ _ (c .before .index .ensures .0) (c .add-term .ensures))

@@ -6,7 +6,6 @@ use native.Mathlib.Omega.{arith}
 use borrow.Author.Count.{below-more}
 use lib.Dec.{T}
 use lib.ListN.{getD}
-use borrow.Author.Needs.{needs}
 use Rattle.repair.proofs.terms.is_nought.Statement.{statement}
 use Rattle.repair.proofs.terms.is_nought.Tie as tie
 
@@ -17,10 +16,10 @@ abbrev μ-loop : tie.MeasureT-loop
 μ-loop s j₀ j = 16 - j
 
 loop-holds : tie.Need-loop-holds Inv-loop μ-loop
-loop-holds c = search needs
+loop-holds c = omega arith
 
 array-read-if1 : tie.Need-array-read-if1 Inv-loop μ-loop
-array-read-if1 c = search needs
+array-read-if1 c = omega arith
 
 returns : tie.Need-returns Inv-loop μ-loop
 returns c =
@@ -30,10 +29,10 @@ returns c =
     }
 
 add-j : tie.Need-add-j Inv-loop μ-loop
-add-j c = search needs
+add-j c = omega arith
 
 loop-less : tie.Need-loop-less Inv-loop μ-loop
-loop-less c = search needs
+loop-less c = omega arith
 
 loop-again : tie.Need-loop-again Inv-loop μ-loop
 loop-again c = (omega arith, below-more _ _ (c .before .before .loop .inv .1) (c .if1 .left))

@@ -21,19 +21,19 @@ loop-holds : tie.Need-loop-holds Inv-loop μ-loop
 loop-holds c = syndromed-start _ (search needs)
 
 sub-i : tie.Need-sub-i Inv-loop μ-loop
-sub-i c = search needs
+sub-i c = omega arith
 
 array-read-add-term : tie.Need-array-read-add-term Inv-loop μ-loop
-array-read-add-term c = search needs
+array-read-add-term c = omega arith
 
 sub-add-term : tie.Need-sub-add-term Inv-loop μ-loop
-sub-add-term c = search needs
+sub-add-term c = omega arith
 
 add-term-requires : tie.Need-add-term-requires Inv-loop μ-loop
 add-term-requires c κs = search needs
 
 loop-less : tie.Need-loop-less Inv-loop μ-loop
-loop-less c = search needs
+loop-less c = omega arith
 
 loop-again : tie.Need-loop-again Inv-loop μ-loop
 loop-again c = syndromed-more (c .before .before .loop .inv) (search needs) (omega arith) _ (c .add-term .ensures)
