@@ -4,15 +4,16 @@ use mathlib.Core.Path.{_≡_, sym, ap, _∙_}
 use mathlib.Core.Bool.{true, false}
 use mathlib.Core.List.{List}
 use Prim.Native.Nat.{ℕ, _<_, _≤_}
-use borrow.Author.Tests.{lt-ltb, le-ltb}
+use borrow.Author.Tests.{lt-ltb, le-ltb, ne-eqb}
 use lib.ListN.{length}
-use lib.Dec.{ltb}
+use lib.Dec.{eqb, ltb}
 use lib.Seq.{sets}
 use Rattle.ground.proofs.Writing.{sets-front}
 use Rattle.refusals.specs.declared.Refusal.{Refusal}
 use Rattle.refusals.specs.declared.Refusal.the-variants.{Output}
 use Rattle.refusals.specs.declared.Verdict.{Verdict}
 use Rattle.refusals.specs.declared.Verdict.the-variants.{Accepted, Refused}
+use Rattle.refusals.specs.Refusals.{numberOf}
 use Rattle.encoding.specs.declared.Encoded.{Encoded}
 use Rattle.repair.specs.declared.Mended.{Mended}
 use Rattle.encoding.specs.Encode.{encodeOf}
@@ -22,9 +23,9 @@ use Rattle.packet.specs.declared.Reading.{Reading}
 use Rattle.packet.specs.declared.Reading.the-variants.{Sent}
 use Rattle.packet.specs.Packet.{readOf}
 use Rattle.refusals.specs.Told.{refusedAs, verdictTold}
+use Rattle.refusals.proofs.Told.{number-not-0}
 use Rattle.packet.specs.Told.{fieldList}
 use Rattle.face.specs.Face.{Said, Says, answerOf, puts, putsIf, encodeSays, repairSays, readingSays, readSays}
-use Rattle.face.proofs.ToldLaws.{refusing}
 
 -- the same said in another way
 says-as : {p q : Said} {r : ℕ} {out : List ℕ} → p ≡ q → Says p r out → Says q r out
@@ -43,7 +44,7 @@ module _ (b out : List ℕ) where
 
 refused-puts : (z : Refusal) (b out : List ℕ) (r : ℕ) → r ≡ answerOf (refusedAs z) → Says (putsIf (refusedAs z) b out) r out
 unfolding putsIf
-refused-puts z b out r e = record { answers = rw (refusing z .number) e; leaves = rw (refusing z .number) }
+refused-puts z b out r e = let t : eqb (numberOf z) 0 ≡ false = ne-eqb (numberOf z) 0 (number-not-0 z) in record { answers = rw t e; leaves = rw t }
 
 module _ (v : Verdict) (b out : List ℕ) (r : ℕ) where
   pub puts-accepted : (x : List ℕ) → v ≡ Accepted → Says (puts b out) r x → Says (putsIf (verdictTold v) b out) r x

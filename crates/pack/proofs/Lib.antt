@@ -4,3 +4,4 @@ pub mod Parts
 pub mod Runs
 pub mod Writes
 pub mod Cases
+pub mod Apart

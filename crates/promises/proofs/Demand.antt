@@ -11,6 +11,7 @@ use lib.Dec.{eqb, ltb}
 use lib.ListN.{length, getD, replicate, getD-replicate}
 use Rattle.refusals.specs.declared.Refusal.the-variants.{Size}
 use Rattle.refusals.specs.Told.{refusedAs, verdictTold}
+use Rattle.refusals.proofs.Told.{verdict-accepted}
 use Rattle.ground.proofs.Numbers.{same-or-not}
 use Rattle.packet.specs.declared.Packet.{Packet}
 use Rattle.packet.specs.declared.Reading.{Reading}
@@ -39,7 +40,6 @@ use Rattle.readout.proofs.HandCases.{out-found}
 use Rattle.promises.specs.Calls.{Call, State, step, run, names, about}
 use Rattle.promises.specs.Calls.Call.{packing, opening, offering, asking, handing, closing}
 use Rattle.promises.specs.Statements.{Protected, Copy, BringsNoOther, Fair, AllFair, Offers, Carries, HandsOut, Demand3}
-use Rattle.promises.proofs.Numbers.{verdict-accepted}
 use Rattle.promises.proofs.Judged.{copy-reads, copy-judged}
 use Rattle.promises.proofs.Whole.{contents-handed, contents-refused}
 use Rattle.promises.proofs.Views.{Kept, step-leaves}

@@ -1,4 +1,3 @@
-pub mod Numbers
 pub mod Refusals
 pub mod Noise
 pub mod Judged

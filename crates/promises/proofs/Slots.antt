@@ -10,6 +10,7 @@ use lib.Dec.{ltb}
 use lib.ListN.{length, getD, List·getD-eq-default}
 use Rattle.refusals.specs.declared.Refusal.the-variants.{Other, Wide, Crc, Slot, Conflict}
 use Rattle.refusals.specs.Told.{refusedAs}
+use Rattle.refusals.proofs.Told.{number-not-0}
 use Rattle.ground.proofs.Numbers.{lt-or-ge, same-or-not}
 use Rattle.packet.specs.declared.Packet.{Packet}
 use Rattle.packet.specs.declared.Reading.the-variants.{Sent}
@@ -45,7 +46,6 @@ use Rattle.readout.specs.Told.{standingTold}
 use Rattle.readout.proofs.HandCases.{status-found}
 use Rattle.promises.specs.Calls.{State, step, telling}
 use Rattle.promises.specs.Statements.{RowsNear, placeAt, slotIn, Held, lowestValues, slotsTold, StatusBySlots, Carried, OthersStay, Accepts, OffersBySlots}
-use Rattle.promises.proofs.Numbers.{number-not-0}
 use Rattle.promises.proofs.EachRow.{rows-near}
 
 -- ---- the place that holds a resource

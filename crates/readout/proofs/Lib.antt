@@ -6,3 +6,4 @@ pub mod PassLaws
 pub mod PaddingLaws
 pub mod HandCases
 pub mod HandLaws
+pub mod Apart

@@ -7,3 +7,4 @@ pub mod MendLaws
 pub mod OfferCases
 pub mod OfferFacts
 pub mod OfferLaws
+pub mod Apart
