@@ -88,7 +88,7 @@ pub(crate) fn put(bytes: &[u8], out: &mut [u8]) -> u64
     if out.len() < bytes.len() {
         return NO_ROOM;
     }
-    contents::copy_in(out, 0, bytes);
+    words::copy_in(out, 0, bytes);
     0
 }
 

@@ -90,7 +90,7 @@ fn place_bytes(p: Place) -> [u8; 16]
     ]
 }
 
-// The bytes, from byte `at` of the output on. `contents::copy_in` would do, but for bytes of which it asks whether they are in the output the compiler calls memcpy,
+// The bytes, from byte `at` of the output on. `words::copy_in` would do, but for bytes of which it asks whether they are in the output the compiler calls memcpy,
 // eight times a call.
 fn copy_in(out: &mut [u8], at: usize, bytes: &[u8])
     requires { ⌜ at + length (now bytes) ≤ length (now out) ⌝ }

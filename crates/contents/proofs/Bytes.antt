@@ -7,11 +7,9 @@ use Prim.Native.Nat.{ℕ, zero, suc, _+_, _*_, _/_, _%_, _<_, _≤_}
 use native.Mathlib.Nat.{suc-mul}
 use native.Mathlib.Numerals.{add-one, add-two}
 use native.Mathlib.Omega.{arith}
-use lib.ListN.{length, getD, set, take, drop, length-set, take-append-drop, List·getD-eq-default}
-use lib.Seq.{sets, set-out, getD-set-same, getD-set-other, length-sets, length-take-le}
-use Rattle.ground.specs.Lists.{listed}
-use Rattle.ground.proofs.Listed.{length-listed, listed-ext, listed-whole, listed-part, le-or-lt}
-use Rattle.ground.proofs.Writing.{sets-append}
+use lib.ListN.{length, getD, set, take, drop, length-set, List·getD-eq-default}
+use lib.Seq.{sets, getD-set-same, getD-set-other, length-sets}
+use Rattle.ground.proofs.Listed.{length-listed, listed-ext, listed-part}
 use Rattle.contents.specs.Slots.{lengthAt, cleared, stored}
 use Rattle.contents.specs.Contents.{bytesAt}
 
@@ -45,27 +43,6 @@ sets-hit l at [] h = refl
 sets-hit l at (v ∷ vs) h =
     ap₂ _∷_ (sets-below (set l at v) (suc at) vs at (omega arith) ∙ getD-set-same l at v 0 (omega arith))
     (sets-hit (set l at v) (suc at) vs (omega (arith, length-set l at v)))
-
--- beyond the end nothing is stored
-sets-out : (l : List ℕ) (at : ℕ) (vs : List ℕ) → length l ≤ at → sets l at vs ≡ l
-sets-out l at [] h = refl
-sets-out l at (v ∷ vs) h = sets-out (set l at v) (suc at) vs (omega (arith, length-set l at v)) ∙ set-out l at v h
-
--- so where n values reach the end, the others do not matter
-pub sets-reach : (l : List ℕ) (at n : ℕ) (vs : List ℕ) → n ≤ length vs → (n < length vs → length l ≤ at + n)
-    → sets l at (listed (λ k. getD vs k 0) n 0) ≡ sets l at vs
-sets-reach l at n vs h e = by (le-or-lt (length vs) n)
-  where
-    by : (length vs ≤ n) ⊎ (n < length vs) → sets l at (listed (λ k. getD vs k 0) n 0) ≡ sets l at vs
-    by (inl b) =
-        let d : n ≡ length vs = omega arith in
-        ap (λ (x : ℕ). sets l at (listed (λ k. getD vs k 0) x 0)) d ∙ ap (sets l at) (listed-whole vs 0)
-    by (inr b) =
-        let a : listed (λ k. getD vs k 0) n 0 ≡ take n vs = listed-part vs 0 n 0 (omega arith) in
-        let z : length (take n vs) ≡ n = length-take-le n vs h in
-        ap (sets l at) a
-        ∙ sym (sets-out (sets l at (take n vs)) (at + length (take n vs)) (drop n vs) (omega (arith, length-sets l at (take n vs), e b)))
-        ∙ sym (sets-append l at (take n vs) (drop n vs)) ∙ ap (sets l at) (take-append-drop n vs)
 
 -- ---- a length is read as 0 where the store has no byte
 

@@ -1,9 +1,8 @@
-// Slots of a store as the calls above read and write them: document 01, section 5. Each takes every input, and answers what the definitions of specs/ say, by
-// which what a place holds is told. A store reads as 0 beyond its end, and takes nothing there.
+// Slots of a store as the calls above read them: document 01, section 5. Each takes every input, and answers what the definitions of specs/ say, by
+// which what a place holds is told. A store reads as 0 beyond its end.
 ghost use mathlib.Core.Path.{_≡_};
-ghost use Prim.Native.Nat.{_+_, _<_, _≤_};
+ghost use Prim.Native.Nat.{_+_, _≤_};
 ghost use lib.ListN.{length};
-ghost use lib.Seq.{sets};
 ghost use Rattle.contents.specs.Slots.{lengthAt};
 ghost use Rattle.contents.specs.Contents.{lengthFits};
 use places::Place;
@@ -38,29 +37,4 @@ pub fn length_fits(p: Place, n: usize) -> bool
     ensures { λ r. ⌜ r ≡ lengthFits p n ⌝ }
 {
     n <= p.slot as usize && (p.protection == 0 || n % 255 == 0)
-}
-
-// Copies `bytes` into `store` from `at` on, as far as the store reaches.
-pub fn copy_in(store: &mut [u8], at: usize, bytes: &[u8])
-    ensures { λ r. ⌜ now (store .exit) ≡ sets (now (store .entry)) at (now (bytes .entry)) ⌝ }
-{
-    let n = reach(store.len(), at, bytes.len());
-    let mut i: usize = 0;
-    while i < n {
-        store[at + i] = bytes[i];
-        i += 1;
-    }
-}
-
-// How many of `n` bytes from `at` on lie in `size` bytes.
-fn reach(size: usize, at: usize, n: usize) -> usize
-    ensures { λ r. ⌜ (r ≤ n) × (0 < r → at + r ≤ size) × (r < n → size ≤ at + r) ⌝ }
-{
-    if size <= at {
-        return 0;
-    }
-    if size - at < n {
-        return size - at;
-    }
-    n
 }

@@ -1,15 +1,16 @@
 -- A loop that writes one value after the other, in one record: `Run`. What is left to write makes what the whole run makes. And what a run of writes holds
 -- afterwards, as parts of lists. Assumes nothing.
 use mathlib.Core.Path.{_≡_, refl, sym, ap, ap₂, subst, _∙_}
+use mathlib.Core.Logic.{_⊎_, inl, inr}
 use mathlib.Core.List.{List, [], _∷_, _++_, append-nil}
 use Prim.Native.Nat.{ℕ, suc, _+_, _-_, _<_, _≤_}
 use native.Mathlib.Nat.{add-zero, zero-add, add-suc, suc-add}
 use native.Mathlib.Omega.{arith}
-use lib.ListN.{length, set, take, drop, length-drop, drop-of-length-le, take-append-drop}
-use lib.Seq.{sets, sets-eq, length-sets, take-all, length-take-le}
+use lib.ListN.{length, getD, set, take, drop, length-set, length-drop, drop-of-length-le, take-append-drop}
+use lib.Seq.{sets, set-out, sets-eq, length-sets, take-all, length-take-le}
 use borrow.Rule.Slice.PartMut.{putMid}
 use Rattle.ground.specs.Lists.{listed}
-use Rattle.ground.proofs.Listed.{length-listed, listed-append}
+use Rattle.ground.proofs.Listed.{length-listed, listed-append, listed-whole, listed-part, le-or-lt}
 
 -- ---- stores that follow each other
 
@@ -48,6 +49,27 @@ lent-sets a vs l i h =
     ap₂ (λ (x y : List ℕ). take a l ++ (sets x i vs ++ y)) w d ∙ ap (λ (x : List ℕ). take a l ++ x) (append-nil (sets (drop a l) i vs))
     ∙ sym (sets-behind (take a l) (drop a l) i vs)
     ∙ ap₂ (λ (x : List ℕ) (y : ℕ). sets x (y + i) vs) (take-append-drop a l) e
+
+-- beyond the end nothing is stored
+sets-out : (l : List ℕ) (at : ℕ) (vs : List ℕ) → length l ≤ at → sets l at vs ≡ l
+sets-out l at [] h = refl
+sets-out l at (v ∷ vs) h = sets-out (set l at v) (suc at) vs (omega (arith, length-set l at v)) ∙ set-out l at v h
+
+-- so where n values reach the end, the others do not matter
+pub sets-reach : (l : List ℕ) (at n : ℕ) (vs : List ℕ) → n ≤ length vs → (n < length vs → length l ≤ at + n)
+    → sets l at (listed (λ k. getD vs k 0) n 0) ≡ sets l at vs
+sets-reach l at n vs h e = by (le-or-lt (length vs) n)
+  where
+    by : (length vs ≤ n) ⊎ (n < length vs) → sets l at (listed (λ k. getD vs k 0) n 0) ≡ sets l at vs
+    by (inl b) =
+        let d : n ≡ length vs = omega arith in
+        ap (λ (x : ℕ). sets l at (listed (λ k. getD vs k 0) x 0)) d ∙ ap (sets l at) (listed-whole vs 0)
+    by (inr b) =
+        let a : listed (λ k. getD vs k 0) n 0 ≡ take n vs = listed-part vs 0 n 0 (omega arith) in
+        let z : length (take n vs) ≡ n = length-take-le n vs h in
+        ap (sets l at) a
+        ∙ sym (sets-out (sets l at (take n vs)) (at + length (take n vs)) (drop n vs) (omega (arith, length-sets l at (take n vs), e b)))
+        ∙ sym (sets-append l at (take n vs) (drop n vs)) ∙ ap (sets l at) (take-append-drop n vs)
 
 -- ---- a run of writes: l is l₀ with the first k of n values of f written from at on
 pub record Run (f : ℕ → ℕ) (n at : ℕ) (l₀ l : List ℕ) (k : ℕ) : Type 0 where

@@ -97,7 +97,7 @@ fn offer_rows(p: Place, store: &mut [u8], number: u32, packet: &[u8]) -> Offered
     let payload = &packet[Packet::HEADER..end];
     let n = payload.len();
     let mut buffer = [0u8; Packet::PROTECTED];
-    contents::copy_in(&mut buffer, 0, payload);
+    words::copy_in(&mut buffer, 0, payload);
     let verdict = repair::mend(&mut buffer[..n]);
     if let Verdict::Refused(refusal) = verdict {
         return Offered::Refused(refusal);

@@ -35,7 +35,7 @@ pub(crate) fn put_slot(store: &mut [u8], at: usize, payload: &[u8])
     ensures { λ r. ⌜ now (store .exit) ≡ stored (now (store .entry)) at (now (payload .entry)) ⌝ }
 {
     let n = payload.len();
-    contents::copy_in(store, at + 2, payload);
+    words::copy_in(store, at + 2, payload);
     store[at] = (n % 256) as u8;
     store[at + 1] = (n / 256) as u8;
 }

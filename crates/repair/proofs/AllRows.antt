@@ -8,9 +8,10 @@ use native.Mathlib.Nat.{min-eq-right, lt-of-lt-of-le, le-of-eq}
 use native.Mathlib.Omega.{arith}
 use borrow.Author.Tests.{eq-eqb, ne-eqb, le-leb, lt-leb}
 use lib.ListN.{length, getD, take, drop, set, length-append, length-drop, take-append-drop, List·getD-append}
-use lib.Seq.{set-append-left, length-take-le, take-all, drop-drop}
+use lib.Seq.{sets, set-append-left, length-take-le, take-all, drop-drop}
 use borrow.Rule.Slice.PartMut.{putMid}
 use Rattle.ground.specs.Bits.{sum}
+use Rattle.ground.proofs.Writing.{sets-front}
 use Rattle.refusals.specs.declared.Verdict.{Verdict}
 use Rattle.refusals.specs.declared.Verdict.the-variants.{Accepted, Refused}
 use Rattle.refusals.specs.declared.Refusal.{Refusal}
@@ -119,6 +120,24 @@ module _ (b : List ℕ) (i : ℕ) (some : 255 ≤ length b) where
 pub added : (v : Verdict) (b at c : List ℕ) (n : ℕ) (out : List ℕ) → v ≡ Accepted → out ≡ mendedBy b (entries at) (entries c) n → Mends (addedIf v b at c n) Accepted out
 added v b at c n out e d =
     record { answers = sym (ap (λ (x : Verdict). addedIf x b at c n .answer) e); leaves = d ∙ sym (ap (λ (x : Verdict). addedIf x b at c n .bytes) e) }
+
+pub added-nothing : (v : Verdict) (b at c : List ℕ) (n : ℕ) → n ≡ 0 → Mends (addedIf v b at c n) v b
+unfolding mendedBy
+added-nothing Accepted b at c n e =
+    record { answers = refl; leaves = sym (ap (λ (k : ℕ). mendedBy b (entries at) (entries c) k) e) }
+added-nothing (Refused r) b at c n e = record { answers = refl; leaves = refl }
+
+-- the row at the front, held by value, mended and put back
+pub put-back : (b at c : List ℕ) (n : ℕ) (row fixed out : List ℕ) → 255 ≤ length b → row ≡ take 255 b → fixed ≡ mendedBy row (entries at) (entries c) n
+    → out ≡ sets b 0 fixed → out ≡ mendedBy b (entries at) (entries c) n
+put-back b at c n row fixed out h e f g =
+    let k : length (take 255 b) ≡ 255 = length-take-le 255 b h in
+    let m : List ℕ = mendedBy (take 255 b) (entries at) (entries c) n in
+    let s : length m ≡ 255 = mended-length (take 255 b) k (entries at) (entries c) n in
+    g ∙ ap (sets b 0) (f ∙ ap (λ (l : List ℕ). mendedBy l (entries at) (entries c) n) e)
+    ∙ sets-front b m (omega arith) ∙ ap (λ (i : ℕ). m ++ drop i b) s
+    ∙ sym (mended-front (take 255 b) (drop 255 b) (entries at) (entries c) n k)
+    ∙ ap (λ (l : List ℕ). mendedBy l (entries at) (entries c) n) (take-append-drop 255 b)
 
 pub not-added : (v : Verdict) (b at c : List ℕ) (n : ℕ) (r : Refusal) → v ≡ Refused r → Mends (addedIf v b at c n) (Refused r) b
 not-added v b at c n r e =

@@ -2,7 +2,6 @@
 // places are shifted out of the syndromes one after the other, which leaves one equation for the last place, and are then brought back, last first.
 ghost use mathlib.Core.Path.{_≡_};
 ghost use Prim.Native.Nat.{_≤_, _<_};
-ghost use lib.ListN.{length};
 ghost use Rattle.field.specs.Tables.{Powers, Logs};
 ghost use Rattle.repair.specs.InnerErrata.{Placed, ShiftedOut, Sifted, Restored, Solved, Searched, mendedBy, entries};
 use crate::factors;
@@ -138,15 +137,17 @@ pub(crate) fn solve(
     out
 }
 
-// Adds the values at the first n places of the row that stands at the front of `rows`.
-pub(crate) fn mend(rows: &mut [u8], at: [u8; 16], values: [u8; 16], n: usize)
-    requires { ⌜ Placed n at × (255 ≤ length (now rows)) ⌝ }
-    ensures { λ r. ⌜ now (rows .exit) ≡ mendedBy (now (rows .entry)) (entries at) (entries values) n ⌝ }
+// The row with the values added at the first n places.
+pub(crate) fn mend(row: [u8; 255], at: [u8; 16], values: [u8; 16], n: usize) -> [u8; 255]
+    requires { ⌜ Placed n at ⌝ }
+    ensures { λ r. ⌜ r ≡ mendedBy row (entries at) (entries values) n ⌝ }
 {
+    let mut out = row;
     let mut k: usize = 0;
     while k < n {
         let i = 254 - words::index(at[k]);
-        rows[i] = rows[i] ^ values[k];
+        out[i] = out[i] ^ values[k];
         k += 1;
     }
+    out
 }

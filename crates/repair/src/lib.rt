@@ -56,19 +56,5 @@ pub fn repair_row(row: &[u8]) -> Mended
             row: [0u8; 255],
         };
     }
-    repair(held(row))
-}
-
-// The row by value.
-fn held(row: &[u8]) -> [u8; 255]
-    requires { ⌜ length (now row) ≡ 255 ⌝ }
-    ensures { λ r. ⌜ r ≡ now (row .entry) ⌝ }
-{
-    let mut out = [0u8; 255];
-    let mut i: usize = 0;
-    while i < 255 {
-        out[i] = row[i];
-        i += 1;
-    }
-    out
+    repair(rows::row_in(row))
 }

@@ -24,14 +24,28 @@ fn rest_in(rests: &[u8; 240], i: usize) -> [u8; 16]
     out
 }
 
-// Where the rows behind were mended, adds the values at the first n places of the row at the front.
+// The row at the front, held by value.
+pub(crate) fn row_in(rows: &[u8]) -> [u8; 255]
+    requires { ⌜ 255 ≤ length (now rows) ⌝ }
+    ensures { λ r. ⌜ r ≡ take 255 (now (rows .entry)) ⌝ }
+{
+    let mut row = [0u8; 255];
+    words::copy_in(&mut row, 0, &rows[0..255]);
+    row
+}
+
+// Where the rows behind were mended, corrects the row at the front by the values at the first n places. A row with none is right as it stands.
 fn finish(verdict: Verdict, rows: &mut [u8], at: [u8; 16], values: [u8; 16], n: usize) -> Verdict
     requires { ⌜ Placed n at × (255 ≤ length (now rows)) ⌝ }
     ensures { λ r. ⌜ Mends (addedIf verdict (now (rows .entry)) at values n) r (now (rows .exit)) ⌝ }
 {
+    if n == 0 {
+        return verdict;
+    }
     match verdict {
         Verdict::Accepted => {
-            errata::mend(rows, at, values, n);
+            let row = errata::mend(row_in(rows), at, values, n);
+            words::copy_in(rows, 0, &row);
             Verdict::Accepted
         }
         Verdict::Refused(r) => Verdict::Refused(r),

@@ -3,6 +3,7 @@
 use mathlib.Core.Path.{refl}
 use Rattle.ground.proofs.OneResult.{equation}
 use Rattle.results.specs.OneResult.{OneResult}
+use Rattle.results.proofs.Lent.{lent}
 use Rattle.words.proofs as words
 
 pub wide-one : OneResult words.wide.ended words.wide.Reads.Learnt
@@ -16,3 +17,6 @@ index-one κs a r s d e p q = (equation (p .0) (q .0), refl)
 
 pub byte-one : OneResult words.byte.ended words.byte.Reads.Learnt
 byte-one κs a r s d e p q = (equation p q, refl)
+
+pub copy-in-one : OneResult words.copy_in.ended words.copy_in.Reads.Learnt
+copy-in-one κs a r s d e p q = (refl, lent (equation p q) refl)
