@@ -1,6 +1,5 @@
 // Repair of rows of RS(255,239), exact: the one coded row within eight bytes, or that there is none (document 01, section 3, and demand 2).
 ghost use mathlib.Core.Path.{_≡_};
-ghost use lib.ListN.{length};
 ghost use Rattle.repair.specs.Repair.{mendOf, repairRowOf, mendingOf, Mends};
 
 mod errata;
