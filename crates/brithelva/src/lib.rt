@@ -13,7 +13,6 @@ use packet::Settings;
 use record::Kept;
 
 mod answers;
-mod memory;
 
 // The CRC-32 of the bytes.
 #[no_mangle]
@@ -122,7 +121,7 @@ fn put_kept(held: &mut [u8], kept: Kept) -> u64
     ensures { λ r. ⌜ (r ≡ answerOf (verdictTold (kept .verdict))) × (now (held .exit) ≡ recordBytes (kept .«record»)) ⌝ }
 {
     let next = kept.record;
-    memory::put_record(held, next);
+    words::copy_in(held, 0, &face::record_bytes(next));
     let verdict = kept.verdict;
     answers::verdict_of(verdict)
 }
@@ -153,7 +152,7 @@ pub extern "C" fn bh_open(
         rows,
         size: slot,
     };
-    let kept = record::open(memory::record_in(held), store, settings, count);
+    let kept = record::open(face::record_in(held), store, settings, count);
     put_kept(held, kept)
 }
 
@@ -172,7 +171,7 @@ pub extern "C" fn bh_open_house(
     if held.len() != 128 {
         return answers::NO_RECORD;
     }
-    let before = memory::record_in(held);
+    let before = face::record_in(held);
     let kept = record::open_house(before, store, resource, kind, update, count);
     put_kept(held, kept)
 }
@@ -185,7 +184,7 @@ pub extern "C" fn bh_offer(held: &[u8], store: &mut [u8], packet: &[u8]) -> u64
     if held.len() != 128 {
         return answers::NO_RECORD;
     }
-    let offered = record::offer(memory::record_in(held), store, packet);
+    let offered = record::offer(face::record_in(held), store, packet);
     answers::offered_as(offered)
 }
 
@@ -197,7 +196,7 @@ pub extern "C" fn bh_status(held: &[u8], store: &[u8], resource: u16) -> u64
     if held.len() != 128 {
         return answers::NO_RECORD;
     }
-    let standing = readout::status(memory::record_in(held), store, resource);
+    let standing = readout::status(face::record_in(held), store, resource);
     answers::standing_as(standing)
 }
 
@@ -215,7 +214,7 @@ pub extern "C" fn bh_hand_out(
     if held.len() != 128 {
         return answers::NO_RECORD;
     }
-    let before = memory::record_in(held);
+    let before = face::record_in(held);
     let verdict = readout::hand_out(before, store, resource, length as usize, out);
     answers::verdict_of(verdict)
 }
@@ -228,6 +227,6 @@ pub extern "C" fn bh_close(held: &mut [u8], store: &[u8], resource: u16) -> u64
     if held.len() != 128 {
         return answers::NO_RECORD;
     }
-    let kept = record::close(memory::record_in(held), store, resource);
+    let kept = record::close(face::record_in(held), store, resource);
     put_kept(held, kept)
 }

@@ -1,16 +1,20 @@
--- The record's bytes, there and back: the bytes of the record that 128 bytes hold are those bytes, and the record in a record's bytes is that record.
+-- The record's bytes, there and back: the bytes of the record that 128 bytes hold are those bytes, and the record in a record's bytes is that record. Fewer bytes
+-- hold the record that they hold with zeros behind them.
 -- Assumes nothing.
 use mathlib.Core.Path.{_≡_, refl, sym, ap, ap₂, _∙_}
 use mathlib.Core.List.{List, [], _∷_, _++_, flatten}
 use Prim.Native.Nat.{ℕ, zero, suc, _+_, _*_, _/_, _%_, _<_, _≤_}
 use native.Mathlib.Nat.{add-assoc, add-zero}
 use native.Mathlib.Omega.{arith}
-use lib.ListN.{length, getD, take, drop, List·getD-append}
-use lib.Seq.{getD-append-add}
+use mathlib.Core.Logic.{_⊎_, inl, inr}
+use lib.ListN.{length, getD, take, drop, List·getD-append, List·getD-eq-default}
+use lib.Seq.{sets, getD-append-add}
 use Rattle.ground.specs.Lists.{listed}
-use Rattle.ground.proofs.Listed.{listed-from, listed-ext, listed-whole, joined-all}
+use Rattle.ground.proofs.Listed.{listed-from, listed-ext, listed-whole, joined-all, le-or-lt}
+use Rattle.ground.proofs.Writing.{sets-front}
 use Rattle.code.specs.Code.{Bytes}
-use Rattle.code.proofs.Lists.{bytes-at}
+use Rattle.code.proofs.Lists.{zeros, length-zeros, bytes-at}
+use Rattle.contents.proofs.Bytes.{sets-above}
 use Rattle.places.specs.declared.Place.{Place}
 use Rattle.places.specs.declared.Record.{Record}
 use Rattle.places.specs.Places.{unused}
@@ -152,3 +156,43 @@ record-again h n t = λ i. record { places = places i }
     places =
         ap (λ (x : ℕ). listed (λ k. placeIn (allBytes (h .places)) (k * 16)) x 0) (sym n)
         ∙ places-again (h .places) (λ k l. t k (omega arith))
+
+-- ---- fewer bytes
+
+-- a record is read from its bytes alone
+record-alike : (l m : List ℕ) → ((j : ℕ) → getD l j 0 ≡ getD m j 0) → recordIn l ≡ recordIn m
+unfolding recordIn placeIn
+record-alike l m e =
+    let t : (at : ℕ) → two l at ≡ two m at = λ at i. e at i + e (at + 1) i * 256 in
+    let f : (at : ℕ) → four l at ≡ four m at = λ at i. t at i + t (at + 2) i * 65536 in
+    λ i. record {
+      places = listed
+          (λ k. record {
+            resource = t (k * 16) i;
+            kind = e (k * 16 + 2) i;
+            update = e (k * 16 + 3) i;
+            count = f (k * 16 + 4) i;
+            protection = e (k * 16 + 8) i;
+            rows = e (k * 16 + 9) i;
+            slot = t (k * 16 + 10) i;
+            start = f (k * 16 + 12) i;
+          })
+          8 0;
+    }
+
+zero-at : (n j : ℕ) → getD (zeros n) j 0 ≡ 0
+zero-at zero j = refl
+zero-at (suc n) zero = refl
+zero-at (suc n) (suc j) = zero-at n j
+
+over-zeros : (n : ℕ) (b : List ℕ) → length b ≤ n → (j : ℕ) → getD (sets (zeros n) 0 b) j 0 ≡ getD b j 0
+over-zeros n b h j = by (le-or-lt (length b) j)
+  where
+    by : (length b ≤ j) ⊎ (j < length b) → getD (sets (zeros n) 0 b) j 0 ≡ getD b j 0
+    by (inl p) = sets-above (zeros n) 0 b j (omega arith) ∙ zero-at n j ∙ sym (List·getD-eq-default b 0 {n = j} p)
+    by (inr p) =
+        ap (λ (x : List ℕ). getD x j 0) (sets-front (zeros n) b (omega (arith, length-zeros n)))
+        ∙ List·getD-append b (drop (length b) (zeros n)) 0 j p
+
+pub record-padded : (b : List ℕ) → length b ≤ 128 → recordIn (sets (zeros 128) 0 b) ≡ recordIn b
+record-padded b h = record-alike (sets (zeros 128) 0 b) b (over-zeros 128 b h)

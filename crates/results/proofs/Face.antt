@@ -1,10 +1,17 @@
--- One result (document 01, section 7) of each public call of crate brithelva, by that call's own contract.
+-- One result (document 01, section 7) of each public call of the crates face and brithelva, by that call's own contract.
 -- Assumes nothing.
 use mathlib.Core.Path.{refl}
 use Rattle.ground.proofs.OneResult.{equation}
 use Rattle.results.specs.OneResult.{OneResult}
 use Rattle.results.proofs.Lent.{after, lent}
+use Rattle.face.proofs as face
 use Rattle.brithelva.proofs as brithelva
+
+pub record-in-one : OneResult face.record_in.ended face.record_in.Reads.Learnt
+record-in-one κs a r s d e p q = (equation p q, refl)
+
+pub record-bytes-one : OneResult face.record_bytes.ended face.record_bytes.Reads.Learnt
+record-bytes-one κs a r s d e p q = (equation p q, refl)
 
 pub bh-crc32-one : OneResult brithelva.bh_crc32.ended brithelva.bh_crc32.Reads.Learnt
 bh-crc32-one κs a r s d e p q = (equation p q, refl)

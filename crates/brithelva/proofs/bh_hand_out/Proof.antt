@@ -9,7 +9,7 @@ returns : tie.Need-returns
 returns c = hand-bad _ _ _ _ _ _ (c .if1 .taken) refl
 
 record-in-requires : tie.Need-record-in-requires
-record-in-requires c κs = c .if1 .left
+record-in-requires c κs = tt
 
 hand-out-requires : tie.Need-hand-out-requires
 hand-out-requires c κs = tt

@@ -9,7 +9,7 @@ returns : tie.Need-returns
 returns c = offer-bad _ _ _ _ (c .if1 .taken) refl
 
 record-in-requires : tie.Need-record-in-requires
-record-in-requires c κs = c .if1 .left
+record-in-requires c κs = tt
 
 offer-requires : tie.Need-offer-requires
 offer-requires c κs = tt

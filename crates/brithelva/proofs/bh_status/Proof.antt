@@ -8,7 +8,7 @@ returns : tie.Need-returns
 returns c = status-bad _ _ _ _ (c .if1 .taken) refl
 
 record-in-requires : tie.Need-record-in-requires
-record-in-requires c κs = c .if1 .left
+record-in-requires c κs = tt
 
 status-requires : tie.Need-status-requires
 status-requires c κs = tt

@@ -5,22 +5,23 @@ use native.Mathlib.Omega.{arith}
 use borrow.Author.Needs.{needs}
 use lib.ListN.{length}
 use Rattle.places.proofs.Steps.{mapped-length}
+use Rattle.code.proofs.Lists.{length-zeros}
 use Rattle.face.specs.Layout.{recordBytes}
 use Rattle.face.proofs.RecordLaws.{Putting, put-begin, put-step, put-end}
-use Rattle.brithelva.proofs.memory.put_record.Statement.{statement}
-use Rattle.brithelva.proofs.memory.put_record.Tie as tie
+use Rattle.face.proofs.record_bytes.Statement.{statement}
+use Rattle.face.proofs.record_bytes.Tie as tie
 
 abbrev Inv-loop : tie.InvT-loop
-Inv-loop out₀ held i₀ out i = Putting (held .places) out i
+Inv-loop held out₀ i₀ out i = Putting (held .places) out i
 
 abbrev μ-loop : tie.MeasureT-loop
-μ-loop out₀ held i₀ out i = 8 - i
+μ-loop held out₀ i₀ out i = 8 - i
 
-eight : (c : tie.Start Inv-loop μ-loop) → length (c .args .t2 .places) ≡ 8
+eight : (c : tie.Start Inv-loop μ-loop) → length (c .args .t1 .places) ≡ 8
 eight c = search (needs, mapped-length)
 
 loop-holds : tie.Need-loop-holds Inv-loop μ-loop
-loop-holds c = put-begin _ (eight (c .before)) _ (search needs)
+loop-holds c = put-begin _ (eight c) _ (length-zeros 128)
 
 mul-p : tie.Need-mul-p Inv-loop μ-loop
 mul-p c = omega arith
@@ -31,14 +32,17 @@ element-copy-out-p c = omega arith
 place-bytes-requires : tie.Need-place-bytes-requires Inv-loop μ-loop
 place-bytes-requires c κs = tt
 
-mul-copy-in : tie.Need-mul-copy-in Inv-loop μ-loop
-mul-copy-in c = omega arith
-
 slice-aggregate-copy-in : tie.Need-slice-aggregate-copy-in Inv-loop μ-loop
 slice-aggregate-copy-in c = omega arith
 
+mul-copy-in : tie.Need-mul-copy-in Inv-loop μ-loop
+mul-copy-in c = omega arith
+
+slice-aggregate-copy-in-2 : tie.Need-slice-aggregate-copy-in-2 Inv-loop μ-loop
+slice-aggregate-copy-in-2 c = omega arith
+
 copy-in-requires : tie.Need-copy-in-requires Inv-loop μ-loop
-copy-in-requires c κs = search needs
+copy-in-requires c κs = tt
 
 add-i : tie.Need-add-i Inv-loop μ-loop
 add-i c = omega arith
@@ -48,18 +52,15 @@ loop-less c = omega arith
 
 loop-again : tie.Need-loop-again Inv-loop μ-loop
 loop-again c =
-    put-step _ (eight (c .before .before .before .before .before .before .before .before .before .before)) _ _ (c .before .before .before .before .before .before .before .before .loop .inv) _ _ (c .before .before .before .before .before .before .before .loop-test .taken) (c .before .before .before .before .before .place-bytes .ensures)
-    (c .before .before .copy-in .ensures)
-
-same-length : tie.Need-same-length Inv-loop μ-loop
-same-length c = omega arith
+    put-step _ (eight (c .before .before .before .before .before .before .before .before)) _ _ (c .before .before .before .before .before .before .before .loop .inv) _ _ (c .before .before .before .before .before .before .loop-test .taken) (c .before .before .before .before .place-bytes .ensures)
+    (c .before .copy-in .ensures)
 
 returns : tie.Need-returns Inv-loop μ-loop
 unfolding recordBytes
-returns c = put-end _ (eight (c .before .before .before)) _ _ (c .before .loop .inv) (c .loop-test .left)
+returns c = put-end _ (eight (c .before .before)) _ _ (c .before .loop .inv) (c .loop-test .left)
 
-pub put-record-spec : {M : Type 1} → statement M
-put-record-spec =
+pub record-bytes-spec : {M : Type 1} → statement M
+record-bytes-spec =
     tie.close
     (tie.spec
     Inv-loop
@@ -68,11 +69,11 @@ put-record-spec =
     mul-p
     element-copy-out-p
     place-bytes-requires
-    mul-copy-in
     slice-aggregate-copy-in
+    mul-copy-in
+    slice-aggregate-copy-in-2
     copy-in-requires
     add-i
     loop-less
     loop-again
-    same-length
     returns)

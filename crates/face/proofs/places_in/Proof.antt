@@ -1,8 +1,8 @@
 -- The eight places stand sixteen bytes apart.
 use Rattle.face.specs.Layout.{recordIn}
 use native.Mathlib.Omega.{arith}
-use Rattle.brithelva.proofs.memory.record_in.Statement.{statement}
-use Rattle.brithelva.proofs.memory.record_in.Tie as tie
+use Rattle.face.proofs.places_in.Statement.{statement}
+use Rattle.face.proofs.places_in.Tie as tie
 
 place-in-requires : tie.Need-place-in-requires
 place-in-requires c κs = omega arith
@@ -32,8 +32,8 @@ returns : tie.Need-returns
 unfolding recordIn
 returns c = rw (c .before .before .before .before .before .before .before .place-in .ensures, c .before .before .before .before .before .before .place-in2 .ensures, c .before .before .before .before .before .place-in3 .ensures, c .before .before .before .before .place-in4 .ensures, c .before .before .before .place-in5 .ensures, c .before .before .place-in6 .ensures, c .before .place-in7 .ensures, c .place-in8 .ensures)
 
-pub record-in-spec : {M : Type 1} → statement M
-record-in-spec =
+pub places-in-spec : {M : Type 1} → statement M
+places-in-spec =
     tie.close
     (tie.spec
     place-in-requires
