@@ -3,14 +3,14 @@ ghost use mathlib.Core.Path.{_≡_};
 ghost use lib.ListN.{length};
 ghost use Rattle.refusals.specs.Told.{verdictTold};
 ghost use Rattle.crc.specs.Crc.{crc32Of};
-ghost use Rattle.packet.specs.Settings.{house};
+ghost use Rattle.settings.specs.Settings.{house};
 ghost use Rattle.packet.specs.Told.{fieldList};
 ghost use Rattle.face.specs.Layout.{recordBytes};
 ghost use Rattle.face.specs.Face.{answerOf, Says, Keeps, puts, encodeSays, repairSays, readSays, packSays, openSays, offerSays, statusSays, handSays, closeSays};
 use packet::Packet;
 use packet::Reading;
-use packet::Settings;
 use record::Kept;
+use settings::Settings;
 
 mod answers;
 

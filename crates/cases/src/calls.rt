@@ -4,8 +4,8 @@ use crate::digests;
 use crate::memory;
 use crate::transmission;
 use crate::words;
-use packet::Settings;
 use refusals::Refusal;
+use settings::Settings;
 
 // A refusal's number, or 0 for accepted; its value; and whether a refused call changed anything.
 pub(crate) struct Answer {

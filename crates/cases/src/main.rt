@@ -1,8 +1,8 @@
 // Runs a file of cases from standard input, and writes a line for each: reference/README.md describes the language.
 use calls::Answer;
 use judging::Tally;
-use packet::Settings;
 use setting::Lengths;
+use settings::Settings;
 
 mod calls;
 mod commands;

@@ -3,7 +3,7 @@ use crate::commands;
 use crate::generator;
 use crate::memory;
 use crate::words;
-use packet::Settings;
+use settings::Settings;
 
 // How many bytes of each buffer are at hand.
 pub(crate) struct Lengths {

@@ -13,7 +13,7 @@ use Rattle.code.specs.Code.{Bytes}
 use Rattle.code.proofs.Lists.{bytes-at}
 use Rattle.refusals.specs.declared.Refusal.{Refusal}
 use Rattle.refusals.specs.declared.Verdict.the-variants.{Refused}
-use Rattle.packet.specs.declared.Settings.{Settings}
+use Rattle.settings.specs.declared.Settings.{Settings}
 use Rattle.places.specs.declared.Place.{Place}
 use Rattle.places.specs.declared.Record.{Record}
 use Rattle.places.specs.declared.Found.{Found}

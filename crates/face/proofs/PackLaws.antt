@@ -9,9 +9,9 @@ use borrow.Author.Tests.{not-false}
 use lib.Dec.{eqb, leb, ltb}
 use lib.ListN.{length, drop}
 use Rattle.refusals.specs.declared.Refusal.the-variants.{Field, Size, Count, Number, Output}
-use Rattle.packet.specs.declared.Settings.{Settings}
-use Rattle.packet.specs.Settings.{settingsFit}
-use Rattle.packet.proofs.Laws.{settings-facts}
+use Rattle.settings.specs.declared.Settings.{Settings}
+use Rattle.settings.specs.Settings.{settingsFit}
+use Rattle.settings.proofs.Laws.{settings-facts}
 use Rattle.pack.specs.declared.Packed.{Packed}
 use Rattle.pack.specs.declared.Packed.the-variants.{Written}
 use Rattle.pack.specs.Told.{packedTold}

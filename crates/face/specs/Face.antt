@@ -12,7 +12,7 @@ use Rattle.refusals.specs.Told.{Told, acceptedWith, refusedAs, verdictTold}
 use Rattle.encoding.specs.Encode.{encodeOf}
 use Rattle.repair.specs.Repair.{repairRowOf}
 use Rattle.packet.specs.declared.Reading.{Reading}
-use Rattle.packet.specs.declared.Settings.{Settings}
+use Rattle.settings.specs.declared.Settings.{Settings}
 use Rattle.packet.specs.Packet.{readOf}
 use Rattle.packet.specs.Told.{readingTold}
 use Rattle.pack.specs.Pack.{packOf}

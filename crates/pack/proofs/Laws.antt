@@ -17,12 +17,13 @@ use Rattle.code.proofs.Lists.{bytes-of, bytes-parts, append-bytes}
 use Rattle.crc.specs.Crc.{crc32Of}
 use Rattle.crc.proofs.Bounds.{crc32-lt}
 use Rattle.packet.specs.declared.Packet.{Packet}
-use Rattle.packet.specs.declared.Settings.{Settings}
+use Rattle.settings.specs.declared.Settings.{Settings}
 use Rattle.packet.specs.declared.Reading.the-variants.{Sent}
 use Rattle.packet.specs.Packet.{fieldsIn, marked, headerOf, readOf}
 use Rattle.packet.specs.Range.{InRange}
-use Rattle.packet.specs.Settings.{settingsFit, rowsHeld}
-use Rattle.packet.proofs.Laws.{header-length, header-bytes, marked-header, fields-header, SentFacts, read-accepts, SettingsFacts, settings-facts}
+use Rattle.settings.specs.Settings.{settingsFit, rowsHeld}
+use Rattle.packet.proofs.Laws.{header-length, header-bytes, marked-header, fields-header, SentFacts, read-accepts}
+use Rattle.settings.proofs.Laws.{SettingsFacts, settings-facts}
 use Rattle.layout.specs.Layout.{tablesOf, rowOf, codedFile, undone}
 use Rattle.layout.proofs.Coded.{length-coded, coded-bytes, coded-row, row-coded, undone-file}
 use Rattle.pack.specs.Pack.{codedLength, countOf, sentOf, payloadOf, fourBytes, sealed, fieldsFor, headerFor, packetOf}

@@ -9,8 +9,8 @@ use native.Mathlib.Omega.{arith}
 use lib.ListN.{length, take, drop, length-drop}
 use lib.Seq.{take-all}
 use Rattle.ground.proofs.Listed.{ceil-below, le-or-lt}
-use Rattle.packet.specs.declared.Settings.{Settings}
-use Rattle.packet.proofs.Laws.{SettingsFacts, settings-facts}
+use Rattle.settings.specs.declared.Settings.{Settings}
+use Rattle.settings.proofs.Laws.{SettingsFacts, settings-facts}
 use Rattle.layout.specs.Layout.{tablesOf, codedFile}
 use Rattle.pack.specs.Pack.{codedLength, countOf, sentOf, payloadOf}
 use Rattle.pack.specs.Inner.{payloadLength, Packable, codedRows, RunFits}

@@ -10,8 +10,8 @@ use lib.Dec.{eqb, leb, ltb}
 use lib.ListN.{length, drop}
 use Rattle.refusals.specs.declared.Refusal.{Refusal}
 use Rattle.refusals.specs.declared.Refusal.the-variants.{Number, Field, Size, Count, Output}
-use Rattle.packet.specs.declared.Settings.{Settings}
-use Rattle.packet.specs.Settings.{settingsFit}
+use Rattle.settings.specs.declared.Settings.{Settings}
+use Rattle.settings.specs.Settings.{settingsFit}
 use Rattle.pack.specs.Pack.{Packing, largestFile, countOf, packetOf, refusing, written, packOf, Packs}
 use Rattle.pack.specs.Inner.{payloadLength, planOf, Packable}
 use Rattle.pack.specs.declared.Packed.{Packed}

@@ -7,8 +7,8 @@ use Prim.Native.Nat.{ℕ, _+_, _-_, _*_, _<_, _≤_, min}
 use lib.Dec.{eqb, leb, ltb}
 use lib.ListN.{length, take, drop}
 use Rattle.refusals.specs.declared.Refusal.the-variants.{Number, Field, Size, Count}
-use Rattle.packet.specs.declared.Settings.{Settings}
-use Rattle.packet.specs.Settings.{settingsFit}
+use Rattle.settings.specs.declared.Settings.{Settings}
+use Rattle.settings.specs.Settings.{settingsFit}
 use Rattle.layout.specs.Layout.{tablesOf, codedFile}
 use Rattle.pack.specs.Pack.{largestFile, codedLength, countOf}
 use Rattle.pack.specs.declared.Plan.{Plan}

@@ -11,9 +11,9 @@ use Rattle.crc.specs.Crc.{crc32Of}
 use Rattle.refusals.specs.declared.Refusal.{Refusal}
 use Rattle.refusals.specs.declared.Refusal.the-variants.{Number, Field, Size, Count, Output}
 use Rattle.packet.specs.declared.Packet.{Packet}
-use Rattle.packet.specs.declared.Settings.{Settings}
+use Rattle.settings.specs.declared.Settings.{Settings}
 use Rattle.packet.specs.Packet.{headerOf}
-use Rattle.packet.specs.Settings.{settingsFit, rowsHeld}
+use Rattle.settings.specs.Settings.{settingsFit, rowsHeld}
 use Rattle.layout.specs.Layout.{tablesOf, codedFile}
 use Rattle.pack.specs.declared.Packed.{Packed}
 use Rattle.pack.specs.declared.Packed.the-variants.{Written, Refused}

@@ -6,12 +6,12 @@ ghost use lib.ListN.{length, take, drop};
 ghost use lib.Seq.{sets};
 ghost use Rattle.ground.specs.Lists.{ceil};
 ghost use Rattle.crc.specs.Crc.{crc32Of};
-ghost use Rattle.packet.specs.Settings.{settingsFit, house};
+ghost use Rattle.settings.specs.Settings.{settingsFit, house};
 ghost use Rattle.pack.specs.Pack.{largestFile, codedLength, countOf, payloadOf, fourBytes, headerFor, packetOf, written, packOf, Packs};
 ghost use Rattle.pack.specs.Inner.{payloadLength, planOf, Packable, codedRows, RunFits};
 use packet::Packet;
-use packet::Settings;
 use refusals::Refusal;
+use settings::Settings;
 
 // The length of the packet that was written, or why none was.
 pub enum Packed {
@@ -59,7 +59,7 @@ fn lesser(size: usize, left: usize) -> usize
 fn judge(settings: Settings, len: usize, number: u32) -> Plan
     ensures { λ r. ⌜ r ≡ planOf settings len number ⌝ }
 {
-    if !packet::settings_fit(settings) {
+    if !settings::settings_fit(settings) {
         return Plan::Stop(Refusal::Field);
     }
     if len == 0 {
@@ -105,7 +105,7 @@ fn put_header(settings: Settings, number: u32, count: u32, size: usize, out: &mu
         count: count,
         kind: settings.kind,
         protection: settings.protection,
-        rows: packet::rows_held(settings),
+        rows: settings::rows_held(settings),
         reserved: 0,
     });
     put_part(&head, 0, Packet::HEADER, out);
@@ -204,5 +204,5 @@ pub fn pack_house(
 ) -> Packed
     ensures { λ r. ⌜ Packs (packOf (now (file .entry)) (house resource kind update) number (now (out .entry))) r (now (out .exit)) ⌝ }
 {
-    pack(file, packet::house(resource, kind, update), number, out)
+    pack(file, settings::house(resource, kind, update), number, out)
 }

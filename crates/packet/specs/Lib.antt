@@ -1,5 +1,4 @@
 pub mod Packet
 pub mod Range
-pub mod Settings
 pub mod Cases
 pub mod Told

@@ -10,8 +10,8 @@ use native.Mathlib.Omega.{arith}
 use borrow.Author.Tests.{le-leb, leb-true, leb-false, eq-eqb, eqb-true, eqb-false}
 use lib.Dec.{eqb, leb}
 use lib.ListN.{length, getD}
-use Rattle.packet.specs.Settings.{settingsFit, rowsHeld}
-use Rattle.packet.proofs.Laws.{SettingsFacts, settings-facts}
+use Rattle.settings.specs.Settings.{settingsFit, rowsHeld}
+use Rattle.settings.proofs.Laws.{SettingsFacts, settings-facts}
 use Rattle.places.specs.declared.Place.{Place}
 use Rattle.places.specs.declared.Found.the-variants.{At}
 use Rattle.places.specs.Places.{unused, inUse, names, usable, endOf, settingsIn, countFits, rangesFit, fits, good, placeNamed}

@@ -9,9 +9,9 @@ use native.Mathlib.Omega.{arith}
 use borrow.Author.Tests.{le-leb, eq-eqb}
 use lib.Dec.{eqb, leb}
 use lib.ListN.{getD, set, getD-replicate}
-use Rattle.packet.specs.declared.Settings.{Settings}
-use Rattle.packet.specs.Settings.{settingsFit}
-use Rattle.packet.proofs.Laws.{settings-facts}
+use Rattle.settings.specs.declared.Settings.{Settings}
+use Rattle.settings.specs.Settings.{settingsFit}
+use Rattle.settings.proofs.Laws.{settings-facts}
 use Rattle.places.specs.declared.Place.{Place}
 use Rattle.places.specs.declared.Found.the-variants.{At, Nothing}
 use Rattle.places.specs.Places.{unused, freshRecord, inUse, names, usable, coverOf, endOf, settingsIn, placeOf, countFits, rangesFit, fits, agree, good, placeNamed}

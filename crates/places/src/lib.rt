@@ -3,7 +3,7 @@
 ghost use mathlib.Core.Path.{_≡_};
 ghost use Rattle.places.specs.Places.{freshRecord, coverOf, placeOf, countFits, good, placeNamed, firstUnused};
 ghost use Rattle.places.specs.Room.{lowestStart};
-use packet::Settings;
+use settings::Settings;
 
 mod ranges;
 mod room;
@@ -104,7 +104,7 @@ pub fn place_of(settings: Settings, count: u32, start: u32) -> Place
         update: settings.update,
         count: count,
         protection: settings.protection,
-        rows: packet::rows_held(settings),
+        rows: settings::rows_held(settings),
         slot: settings.size,
         start: start,
     }

@@ -4,7 +4,7 @@ ghost use mathlib.Core.Bool.{_&&_};
 ghost use lib.Dec.{leb};
 ghost use Rattle.places.specs.Places.{usable, endOf, settingsIn, rangesFit, agree};
 use super::Place;
-use packet::Settings;
+use settings::Settings;
 
 // How much of a store of n bytes is used.
 pub(crate) fn usable(n: usize) -> usize
@@ -39,10 +39,10 @@ fn ranges_fit(p: Place) -> bool
     ensures { λ r. ⌜ r ≡ rangesFit p ⌝ }
 {
     let settings = settings_in(p);
-    if !packet::settings_fit(settings) {
+    if !settings::settings_fit(settings) {
         return false;
     }
-    if p.rows != packet::rows_held(settings) {
+    if p.rows != settings::rows_held(settings) {
         return false;
     }
     super::count_fits(p.count)

@@ -12,7 +12,7 @@ use Rattle.code.proofs.Lists.{zeros-bytes}
 use Rattle.refusals.specs.declared.Refusal.the-variants.{Other}
 use Rattle.layout.specs.Layout.{tablesOf}
 use Rattle.packet.specs.declared.Packet.{Packet}
-use Rattle.packet.specs.declared.Settings.{Settings}
+use Rattle.settings.specs.declared.Settings.{Settings}
 use Rattle.pack.specs.Pack.{countOf, packetOf}
 use Rattle.pack.proofs.Laws.{fieldsOf, packet-reads, length-tables}
 use Rattle.places.specs.declared.Place.{Place}

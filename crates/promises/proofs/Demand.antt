@@ -16,7 +16,7 @@ use Rattle.ground.proofs.Numbers.{same-or-not}
 use Rattle.packet.specs.declared.Packet.{Packet}
 use Rattle.packet.specs.declared.Reading.{Reading}
 use Rattle.packet.specs.declared.Reading.the-variants.{Sent}
-use Rattle.packet.specs.declared.Settings.{Settings}
+use Rattle.settings.specs.declared.Settings.{Settings}
 use Rattle.packet.specs.Packet.{readOf, resourceIn}
 use Rattle.layout.specs.Layout.{tablesOf}
 use Rattle.pack.specs.Pack.{countOf, payloadOf}

@@ -12,8 +12,8 @@ use Rattle.code.specs.Code.{Bytes, distance}
 use Rattle.code.specs.Repair.{checksOf}
 use Rattle.code.proofs.Cases.{row-cases}
 use Rattle.code.proofs.Lists.{zeros-bytes, append-bytes, bytes-parts}
-use Rattle.packet.specs.declared.Settings.{Settings}
-use Rattle.packet.specs.Settings.{settingsFit}
+use Rattle.settings.specs.declared.Settings.{Settings}
+use Rattle.settings.specs.Settings.{settingsFit}
 use Rattle.layout.specs.Layout.{infoOf, rowOf}
 use Rattle.pack.specs.Pack.{payloadOf, packetOf}
 use Rattle.pack.proofs.Laws.{length-packet, packet-payload, length-payload, payload-row, packet-bytes}

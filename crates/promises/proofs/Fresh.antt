@@ -11,8 +11,8 @@ use lib.Dec.{leb}
 use lib.ListN.{length, drop}
 use Rattle.refusals.specs.Told.{acceptedWith, verdictTold}
 use Rattle.ground.proofs.Listed.{ceil-positive}
-use Rattle.packet.specs.declared.Settings.{Settings}
-use Rattle.packet.proofs.Laws.{settings-facts}
+use Rattle.settings.specs.declared.Settings.{Settings}
+use Rattle.settings.proofs.Laws.{settings-facts}
 use Rattle.pack.specs.Pack.{Packing, countOf, codedLength, packetOf}
 use Rattle.pack.specs.Told.{packedTold}
 use Rattle.pack.proofs.Laws.{rows-positive, length-tables}

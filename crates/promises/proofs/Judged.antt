@@ -10,7 +10,7 @@ use lib.ListN.{length, take}
 use Rattle.crc.specs.Crc.{crc32Of}
 use Rattle.packet.specs.declared.Packet.{Packet}
 use Rattle.packet.specs.declared.Reading.the-variants.{Sent}
-use Rattle.packet.specs.declared.Settings.{Settings}
+use Rattle.settings.specs.declared.Settings.{Settings}
 use Rattle.packet.specs.Packet.{resourceIn, readOf}
 use Rattle.packet.proofs.Laws.{SentFacts}
 use Rattle.pack.specs.Pack.{countOf, payloadOf, packetOf}

@@ -10,7 +10,7 @@ use Rattle.ground.specs.Lists.{listed}
 use Rattle.ground.proofs.Listed.{listed-append, listed-ext}
 use Rattle.layout.specs.Layout.{tablesOf, codedFile, readBack, undone}
 use Rattle.layout.proofs.Coded.{coded-tables, tables-reach, undone-file, undone-padding}
-use Rattle.packet.specs.declared.Settings.{Settings}
+use Rattle.settings.specs.declared.Settings.{Settings}
 use Rattle.pack.specs.Pack.{countOf, payloadOf}
 use Rattle.pack.proofs.Laws.{fieldsOf, rows-positive, sent-coded, joined-payloads}
 use Rattle.places.specs.Places.{placeOf}

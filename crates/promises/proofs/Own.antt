@@ -9,7 +9,7 @@ use native.Mathlib.Omega.{arith}
 use lib.ListN.{length}
 use Rattle.ground.specs.Lists.{listed}
 use Rattle.code.proofs.Distance.{distance-self}
-use Rattle.packet.specs.declared.Settings.{Settings}
+use Rattle.settings.specs.declared.Settings.{Settings}
 use Rattle.pack.specs.Pack.{countOf, packetOf}
 use Rattle.pack.proofs.Laws.{packet-bytes}
 use Rattle.promises.specs.Calls.Call.{offering}

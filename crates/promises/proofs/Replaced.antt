@@ -14,7 +14,7 @@ use Rattle.code.specs.Code.{Bytes}
 use Rattle.packet.specs.declared.Packet.{Packet}
 use Rattle.packet.specs.declared.Reading.the-variants.{Sent}
 use Rattle.packet.specs.Packet.{readOf}
-use Rattle.packet.specs.Settings.{settingsFit}
+use Rattle.settings.specs.Settings.{settingsFit}
 use Rattle.pack.specs.Pack.{payloadOf, packetOf}
 use Rattle.pack.proofs.Laws.{fieldsOf, payload-some, payload-most, payload-rows, joined-file}
 use Rattle.places.specs.declared.Place.{Place}

@@ -20,8 +20,8 @@ use Rattle.code.proofs.Lists.{zeros-bytes, bytes-cons, append-bytes}
 use Rattle.code.proofs.Division.{remainder-coded}
 use Rattle.code.proofs.Distance.{coded-unique}
 use Rattle.code.proofs.Exact.{repair-coded}
-use Rattle.packet.specs.declared.Settings.{Settings}
-use Rattle.packet.specs.Settings.{settingsFit}
+use Rattle.settings.specs.declared.Settings.{Settings}
+use Rattle.settings.specs.Settings.{settingsFit}
 use Rattle.pack.specs.Pack.{packetOf}
 use Rattle.places.specs.declared.Place.{Place}
 use Rattle.places.specs.declared.Found.the-variants.{At, Nothing}

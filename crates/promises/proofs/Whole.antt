@@ -11,9 +11,9 @@ use Rattle.ground.proofs.Listed.{ceil-upper}
 use Rattle.refusals.specs.declared.Refusal.the-variants.{Size}
 use Rattle.layout.specs.Layout.{tablesOf, codedFile}
 use Rattle.layout.proofs.Coded.{coded-shape, coded-tables}
-use Rattle.packet.specs.declared.Settings.{Settings}
-use Rattle.packet.specs.Settings.{rowsHeld}
-use Rattle.packet.proofs.Laws.{settings-facts}
+use Rattle.settings.specs.declared.Settings.{Settings}
+use Rattle.settings.specs.Settings.{rowsHeld}
+use Rattle.settings.proofs.Laws.{settings-facts}
 use Rattle.pack.specs.Pack.{countOf, codedLength, sentOf, payloadOf}
 use Rattle.pack.proofs.Laws.{rows-positive, sent-coded, length-sent, payload-some}
 use Rattle.places.specs.Places.{placeOf}

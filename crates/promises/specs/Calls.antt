@@ -6,9 +6,9 @@ use Prim.Native.Nat.{ℕ}
 use lib.Dec.{eqb, ltb}
 use lib.ListN.{length}
 use Rattle.refusals.specs.Told.{Told, verdictTold}
-use Rattle.packet.specs.declared.Settings.{Settings}
+use Rattle.settings.specs.declared.Settings.{Settings}
 use Rattle.packet.specs.Packet.{resourceIn}
-use Rattle.packet.specs.Settings.{house}
+use Rattle.settings.specs.Settings.{house}
 use Rattle.pack.specs.Pack.{packOf}
 use Rattle.pack.specs.Told.{packedTold}
 use Rattle.places.specs.declared.Record.{Record}

@@ -14,9 +14,9 @@ use Rattle.code.specs.Repair.{Near}
 use Rattle.code.specs.Mend.{Mended, whole, broken}
 use Rattle.packet.specs.declared.Packet.{Packet}
 use Rattle.packet.specs.declared.Reading.the-variants.{Sent}
-use Rattle.packet.specs.declared.Settings.{Settings}
+use Rattle.settings.specs.declared.Settings.{Settings}
 use Rattle.packet.specs.Packet.{readOf}
-use Rattle.packet.specs.Settings.{settingsFit}
+use Rattle.settings.specs.Settings.{settingsFit}
 use Rattle.layout.specs.Layout.{tablesOf}
 use Rattle.pack.specs.Pack.{largestFile, countOf, payloadOf, packetOf}
 use Rattle.places.specs.declared.Place.{Place}

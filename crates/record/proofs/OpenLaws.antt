@@ -13,8 +13,8 @@ use lib.Seq.{getD-set-same, getD-set-other}
 use Rattle.refusals.specs.declared.Refusal.{Refusal}
 use Rattle.refusals.specs.declared.Refusal.the-variants.{Held, Full, Room}
 use Rattle.refusals.specs.declared.Verdict.the-variants.{Accepted, Refused}
-use Rattle.packet.specs.declared.Settings.{Settings}
-use Rattle.packet.specs.Settings.{settingsFit}
+use Rattle.settings.specs.declared.Settings.{Settings}
+use Rattle.settings.specs.Settings.{settingsFit}
 use Rattle.places.specs.declared.Record.{Record}
 use Rattle.places.specs.declared.Found.the-variants.{At, Nothing}
 use Rattle.places.specs.Places.{unused, inUse, usable, coverOf, endOf, meets, placeOf, good, placeNamed, firstUnused}

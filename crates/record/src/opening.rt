@@ -1,17 +1,17 @@
 // Open and Close: document 01, section 5. Refusals in the orders 9, 17, 18, 19, 20 and 9, 10.
 ghost use mathlib.Core.Path.{_≡_};
-ghost use Rattle.packet.specs.Settings.{house};
+ghost use Rattle.settings.specs.Settings.{house};
 ghost use Rattle.places.specs.Places.{firstUnused};
 ghost use Rattle.record.specs.Open.{withUnused, planOf, Opens, closeOf};
 ghost use Rattle.record.specs.Inner.{planned};
 use super::Kept;
 use super::slots;
-use packet::Settings;
 use places::Found;
 use places::Place;
 use places::Record;
 use refusals::Refusal;
 use refusals::Verdict;
+use settings::Settings;
 
 // What open is to do: to refuse, or to take the place of a number from a start on.
 pub(crate) enum Planned {
@@ -39,7 +39,7 @@ fn plan_open(held: Record, n: usize, settings: Settings, count: u32) -> Planned
     if !places::is_good(held, n) {
         return Planned::Refuse(Refusal::Record);
     }
-    if !packet::settings_fit(settings) {
+    if !settings::settings_fit(settings) {
         return Planned::Refuse(Refusal::Field);
     }
     if !places::count_fits(count) {
@@ -84,7 +84,7 @@ pub fn open_house(
 ) -> Kept
     ensures { λ r. ⌜ Opens held (now (store .entry)) (house resource kind update) count r (now (store .exit)) ⌝ }
 {
-    open(held, store, packet::house(resource, kind, update), count)
+    open(held, store, settings::house(resource, kind, update), count)
 }
 
 // Makes the place that holds a resource unused, all its fields 0. The store stays. Refused, the record is as it came.

@@ -8,6 +8,7 @@ pub mod Roots
 pub mod Encoding
 pub mod Repair
 pub mod Packet
+pub mod Settings
 pub mod Pack
 pub mod Places
 pub mod Contents

@@ -9,9 +9,9 @@ use borrow.Author.Needs.{needs}
 use borrow.Author.Tests.{not-true, not-false}
 use Rattle.ground.specs.Lists.{ceil}
 use Rattle.ground.proofs.Listed.{ceil-below}
-use Rattle.packet.specs.declared.Settings.{Settings}
-use Rattle.packet.specs.Settings.{settingsFit}
-use Rattle.packet.proofs.Laws.{settings-facts}
+use Rattle.settings.specs.declared.Settings.{Settings}
+use Rattle.settings.specs.Settings.{settingsFit}
+use Rattle.settings.proofs.Laws.{settings-facts}
 use Rattle.pack.specs.Pack.{codedLength, countOf}
 use Rattle.pack.specs.Inner.{payloadLength}
 use Rattle.pack.specs.declared.Plan.the-variants.{Go}

@@ -2,7 +2,7 @@
 -- Assumes nothing.
 use mathlib.Core.Path.{subst}
 use native.Mathlib.Omega.{arith}
-use Rattle.packet.specs.declared.Settings.{Settings}
+use Rattle.settings.specs.declared.Settings.{Settings}
 use Rattle.pack.specs.Pack.{packOf, Packs}
 use Rattle.pack.proofs.pack_house.Statement.{statement}
 use Rattle.pack.proofs.pack_house.Tie as tie

@@ -3,7 +3,7 @@
 use mathlib.Core.Path.{_≡_, sym, _∙_}
 use mathlib.Core.Bool.{true}
 use borrow.Author.Tests.{eq-eqb, ne-eqb, not-true, not-false}
-use Rattle.packet.specs.Settings.{settingsFit}
+use Rattle.settings.specs.Settings.{settingsFit}
 use Rattle.places.specs.Places.{settingsIn, rangesFit}
 use Rattle.places.proofs.ranges.ranges_fit.Statement.{statement}
 use Rattle.places.proofs.ranges.ranges_fit.Tie as tie

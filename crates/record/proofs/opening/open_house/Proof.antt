@@ -1,7 +1,7 @@
 -- The house setting, opened.
 use mathlib.Core.Path.{subst}
 use native.Mathlib.Omega.{arith}
-use Rattle.packet.specs.declared.Settings.{Settings}
+use Rattle.settings.specs.declared.Settings.{Settings}
 use Rattle.record.specs.Open.{Opens}
 use Rattle.record.proofs.opening.open_house.Statement.{statement}
 use Rattle.record.proofs.opening.open_house.Tie as tie

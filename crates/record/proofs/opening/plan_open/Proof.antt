@@ -4,7 +4,7 @@ use mathlib.Core.Bool.{true}
 use Prim.Native.Nat.{ℕ}
 use native.Mathlib.Omega.{arith}
 use borrow.Author.Tests.{not-true, not-false}
-use Rattle.packet.specs.Settings.{settingsFit}
+use Rattle.settings.specs.Settings.{settingsFit}
 use Rattle.places.specs.Places.{countFits, good, firstUnused}
 use Rattle.record.specs.Open.{withUnused}
 use Rattle.record.specs.Inner.{planned}

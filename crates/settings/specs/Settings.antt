@@ -3,7 +3,7 @@
 use mathlib.Core.Bool.{Bool, cond, _&&_, _||_}
 use Prim.Native.Nat.{ℕ, _%_}
 use lib.Dec.{eqb, leb}
-use Rattle.packet.specs.declared.Settings.{Settings}
+use Rattle.settings.specs.declared.Settings.{Settings}
 
 -- a payload or slot size: 1 to 4077 without protection; a multiple of 255, from 255 to 3825, with it
 abbrev pub sizeFits : ℕ → ℕ → Bool

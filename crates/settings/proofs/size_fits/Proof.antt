@@ -1,8 +1,8 @@
--- `packet::size_fits` meets its contract: its tests are the definition's, in its order.
+-- `settings::size_fits` meets its contract: its tests are the definition's, in its order.
 -- Assumes nothing.
 use borrow.Author.Tests.{le-leb, lt-leb, eq-eqb, ne-eqb}
-use Rattle.packet.proofs.size_fits.Statement.{statement}
-use Rattle.packet.proofs.size_fits.Tie as tie
+use Rattle.settings.proofs.size_fits.Statement.{statement}
+use Rattle.settings.proofs.size_fits.Tie as tie
 
 returns : tie.Need-returns
 returns c = rw (eq-eqb _ _ (c .before .if1 .taken), le-leb _ _ (c .if2 .taken))

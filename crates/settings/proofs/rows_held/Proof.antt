@@ -1,8 +1,8 @@
--- `packet::rows_held` meets its contract: its one test is the definition's.
+-- `settings::rows_held` meets its contract: its one test is the definition's.
 -- Assumes nothing.
 use borrow.Author.Tests.{eq-eqb, ne-eqb}
-use Rattle.packet.proofs.rows_held.Statement.{statement}
-use Rattle.packet.proofs.rows_held.Tie as tie
+use Rattle.settings.proofs.rows_held.Statement.{statement}
+use Rattle.settings.proofs.rows_held.Tie as tie
 
 returns : tie.Need-returns
 returns c = rw (eq-eqb _ _ (c .if1 .taken))

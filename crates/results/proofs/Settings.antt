@@ -1,0 +1,18 @@
+-- One result (document 01, section 7) of each public call of crate settings, by that call's own contract.
+-- Assumes nothing.
+use mathlib.Core.Path.{refl}
+use Rattle.ground.proofs.OneResult.{equation}
+use Rattle.results.specs.OneResult.{OneResult}
+use Rattle.settings.proofs as settings
+
+pub size-fits-one : OneResult settings.size_fits.ended settings.size_fits.Reads.Learnt
+size-fits-one κs a r s d e p q = (equation p q, refl)
+
+pub settings-fit-one : OneResult settings.settings_fit.ended settings.settings_fit.Reads.Learnt
+settings-fit-one κs a r s d e p q = (equation p q, refl)
+
+pub rows-held-one : OneResult settings.rows_held.ended settings.rows_held.Reads.Learnt
+rows-held-one κs a r s d e p q = (equation p q, refl)
+
+pub house-one : OneResult settings.house.ended settings.house.Reads.Learnt
+house-one κs a r s d e p q = (equation p q, refl)
