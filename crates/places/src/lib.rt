@@ -1,12 +1,8 @@
-// The record of eight places, and where the bytes of each stand in the store: document 01, section 5; when refusal 9 is given: section 6.
-// A record is judged by `is_good` before anything else is asked of it; every other call here answers for any record.
+// The record of eight places: document 01, section 5. Whether it is good for a store, and where there is room in it, is told by crate room; every call here
+// answers for any record.
 ghost use mathlib.Core.Path.{_≡_};
-ghost use Rattle.places.specs.Places.{freshRecord, coverOf, placeOf, countFits, good, placeNamed, firstUnused};
-ghost use Rattle.places.specs.Room.{lowestStart};
+ghost use Rattle.places.specs.Places.{freshRecord, coverOf, placeOf, countFits, placeNamed, firstUnused};
 use settings::Settings;
-
-mod ranges;
-mod room;
 
 // A place in use holds what a file is collected under and where its slots start. It is in use exactly if its resource is not 0.
 pub struct Place {
@@ -107,61 +103,5 @@ pub fn place_of(settings: Settings, count: u32, start: u32) -> Place
         rows: settings::rows_held(settings),
         slot: settings.size,
         start: start,
-    }
-}
-
-// Whether the record is good for a store of `n` bytes: refusal 9 is given exactly if it is not.
-pub fn is_good(held: Record, n: usize) -> bool
-    ensures { λ r. ⌜ r ≡ good n (held .places) ⌝ }
-{
-    let mut i: usize = 0;
-    while i < 8 {
-        let p = held.places[i];
-        i += 1;
-        if p.resource != 0 {
-            if !ranges::is_sound(n, p) {
-                return false;
-            }
-            // A second loop here, since a function of its own would be handed a copy of the record.
-            let mut j = i;
-            while j < 8 {
-                let q = held.places[j];
-                if !ranges::do_agree(p, q) {
-                    return false;
-                }
-                j += 1;
-            }
-        }
-    }
-    true
-}
-
-// The lowest start at which `size` bytes fit a store of `n` bytes and meet no place. It is 0 or the end of a place in use: a byte
-// lower they would meet that place.
-pub fn lowest_start(held: Record, n: usize, size: usize) -> Found
-    ensures { λ r. ⌜ r ≡ lowestStart n size (held .places) ⌝ }
-{
-    let end = ranges::usable(n);
-    if room::is_free(held, end, size, 0) {
-        return Found::At(0);
-    }
-    let mut best = end + 1;
-    let mut i: usize = 0;
-    while i < 8 {
-        let p = held.places[i];
-        if p.resource != 0 {
-            let start = ranges::end_of(p);
-            if start < best {
-                if room::is_free(held, end, size, start) {
-                    best = start;
-                }
-            }
-        }
-        i += 1;
-    }
-    if best <= end {
-        Found::At(best)
-    } else {
-        Found::Nothing
     }
 }

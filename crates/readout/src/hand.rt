@@ -151,7 +151,7 @@ pub fn hand_out(held: Record, store: &[u8], resource: u16, length: usize, out: &
     ensures { λ r. ⌜ (r ≡ handOutOf held (now (store .entry)) resource length (now (out .entry)) .answer)
         × (now (out .exit) ≡ handOutOf held (now (store .entry)) resource length (now (out .entry)) .output) ⌝ }
 {
-    if !places::is_good(held, store.len()) {
+    if !room::is_good(held, store.len()) {
         return Verdict::Refused(Refusal::Record);
     }
     let Found::At(i) = places::find_place(held, resource) else {

@@ -103,7 +103,7 @@ pub(crate) fn standing(p: Place, store: &[u8]) -> Standing
 pub fn status(held: Record, store: &[u8], resource: u16) -> Standing
     ensures { λ r. ⌜ r ≡ statusOf held (now (store .entry)) resource ⌝ }
 {
-    if !places::is_good(held, store.len()) {
+    if !room::is_good(held, store.len()) {
         return Standing::Refused(Refusal::Record);
     }
     let Found::At(i) = places::find_place(held, resource) else {

@@ -131,7 +131,7 @@ fn offer_at(p: Place, store: &mut [u8], fields: Packet, packet: &[u8]) -> Offere
 pub fn offer(held: Record, store: &mut [u8], packet: &[u8]) -> Offered
     ensures { λ r. ⌜ (r ≡ offerOf held (now (store .entry)) (now (packet .entry)) .answer) × (now (store .exit) ≡ offerOf held (now (store .entry)) (now (packet .entry)) .store) ⌝ }
 {
-    if !places::is_good(held, store.len()) {
+    if !room::is_good(held, store.len()) {
         return Offered::Refused(Refusal::Record);
     }
     let reading = packet::read_fields(packet);

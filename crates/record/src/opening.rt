@@ -26,7 +26,7 @@ fn room_for(held: Record, n: usize, size: usize) -> Planned
     let Found::At(place) = places::find_unused(held) else {
         return Planned::Refuse(Refusal::Full);
     };
-    let Found::At(start) = places::lowest_start(held, n, size) else {
+    let Found::At(start) = room::lowest_start(held, n, size) else {
         return Planned::Refuse(Refusal::Room);
     };
     Planned::Take(place, start)
@@ -36,7 +36,7 @@ fn room_for(held: Record, n: usize, size: usize) -> Planned
 fn plan_open(held: Record, n: usize, settings: Settings, count: u32) -> Planned
     ensures { λ r. ⌜ r ≡ planned (planOf held n settings count) ⌝ }
 {
-    if !places::is_good(held, n) {
+    if !room::is_good(held, n) {
         return Planned::Refuse(Refusal::Record);
     }
     if !settings::settings_fit(settings) {
@@ -91,7 +91,7 @@ pub fn open_house(
 pub fn close(held: Record, store: &[u8], resource: u16) -> Kept
     ensures { λ r. ⌜ r ≡ closeOf held (now (store .entry)) resource ⌝ }
 {
-    if !places::is_good(held, store.len()) {
+    if !room::is_good(held, store.len()) {
         return Kept {
             record: held,
             verdict: Verdict::Refused(Refusal::Record),

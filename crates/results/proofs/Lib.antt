@@ -11,6 +11,7 @@ pub mod Packet
 pub mod Settings
 pub mod Pack
 pub mod Places
+pub mod Room
 pub mod Contents
 pub mod Record
 pub mod Readout

@@ -22,9 +22,3 @@ count-fits-one κs a r s d e p q = (equation p q, refl)
 
 pub place-of-one : OneResult places.place_of.ended places.place_of.Reads.Learnt
 place-of-one κs a r s d e p q = (equation p q, refl)
-
-pub is-good-one : OneResult places.is_good.ended places.is_good.Reads.Learnt
-is-good-one κs a r s d e p q = (equation p q, refl)
-
-pub lowest-start-one : OneResult places.lowest_start.ended places.lowest_start.Reads.Learnt
-lowest-start-one κs a r s d e p q = (equation p q, refl)

@@ -1,4 +1,4 @@
--- `places::is_good` meets its contract: at every turn what is left of the places gives the same answer, and so it is with the later
+-- `room::is_good` meets its contract: at every turn what is left of the places gives the same answer, and so it is with the later
 -- places that one in use is held against. An unused place fits and agrees with all.
 -- Assumes nothing.
 use mathlib.Core.Path.{_≡_, refl, sym, _∙_}
@@ -7,12 +7,12 @@ use native.Mathlib.Omega.{arith}
 use borrow.Author.Needs.{needs}
 use borrow.Author.Tests.{not-true, not-false}
 use lib.ListN.{length, getD, drop}
 use Rattle.places.specs.Places.{unused, all, agree, fits, good}
 use Rattle.places.proofs.Named.{in-use, not-in-use}
 use Rattle.places.proofs.Steps.{mapped-length, all-yes, all-no, all-end, good-unfit, good-clash, good-yes, good-end}
 use Rattle.places.proofs.Keeping.{fits-used, good-skip}
-use Rattle.places.proofs.is_good.Statement.{statement}
-use Rattle.places.proofs.is_good.Tie as tie
+use Rattle.room.proofs.is_good.Statement.{statement}
+use Rattle.room.proofs.is_good.Tie as tie
 
 abbrev Inv-loop2 : tie.InvT-loop2
 Inv-loop2 n held i p j₀ j = all (agree p) (drop j (held .places)) ≡ all (agree p) (drop i (held .places))

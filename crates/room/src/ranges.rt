@@ -2,8 +2,8 @@
 ghost use mathlib.Core.Path.{_≡_};
 ghost use mathlib.Core.Bool.{_&&_};
 ghost use lib.Dec.{leb};
 ghost use Rattle.places.specs.Places.{usable, endOf, settingsIn, rangesFit, agree};
-use super::Place;
+use places::Place;
 use settings::Settings;
 
 // How much of a store of n bytes is used.
@@ -17,7 +17,7 @@ pub(crate) fn usable(n: usize) -> usize
 pub(crate) fn end_of(p: Place) -> usize
     ensures { λ r. ⌜ r ≡ endOf p ⌝ }
 {
-    p.start as usize + super::cover_of(p.count, p.slot)
+    p.start as usize + places::cover_of(p.count, p.slot)
 }
 
 // The settings that a place holds.
@@ -45,7 +45,7 @@ fn ranges_fit(p: Place) -> bool
     if p.rows != settings::rows_held(settings) {
         return false;
     }
-    super::count_fits(p.count)
+    places::count_fits(p.count)
 }
 
 // A place in use that is in its ranges and does not pass the end of a store of n bytes.

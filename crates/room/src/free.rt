@@ -3,10 +3,10 @@ ghost use mathlib.Core.Path.{_≡_};
 ghost use mathlib.Core.Bool.{_&&_};
 ghost use Prim.Native.Nat.{_+_, _<_, _^_};
 ghost use lib.Dec.{leb};
 ghost use Rattle.places.specs.Places.{all};
 ghost use Rattle.places.specs.Room.{clear};
-use super::Place;
-use super::Record;
+use places::Place;
+use places::Record;
 
 // The size bytes from s on meet no byte of a place in use.
 fn is_clear(s: usize, size: usize, p: Place) -> bool
@@ -16,7 +16,7 @@ fn is_clear(s: usize, size: usize, p: Place) -> bool
     if p.resource == 0 {
         return true;
     }
-    if super::ranges::end_of(p) <= s {
+    if crate::ranges::end_of(p) <= s {
         return true;
     }
     s + size <= p.start as usize

@@ -1,4 +1,4 @@
--- `places::lowest_start` meets its contract: 0 is the lowest start if it is free; if not, the lowest is the end of a place in use, and
+-- `room::lowest_start` meets its contract: 0 is the lowest start if it is free; if not, the lowest is the end of a place in use, and
 -- the loop keeps the lowest free one of the ends that it passed, or a number past the end of the usable store.
 -- Assumes nothing.
 use mathlib.Core.Path.{_≡_, sym}
@@ -7,13 +7,13 @@ use Prim.Native.Nat.{_-_}
 use native.Mathlib.Omega.{arith}
 use borrow.Author.Needs.{needs}
 use lib.ListN.{length, getD}
 use Rattle.places.specs.Places.{unused}
 use Rattle.places.proofs.Named.{not-in-use}
 use Rattle.places.proofs.Steps.{mapped-length}
 use Rattle.places.proofs.Candidates.{Best, best-none, best-unused, best-lower, best-met, best-take, best-at, best-nowhere, lowest-zero, free-said}
 use Rattle.places.proofs.Facts.{usable-limit}
-use Rattle.places.proofs.lowest_start.Statement.{statement}
-use Rattle.places.proofs.lowest_start.Tie as tie
+use Rattle.room.proofs.lowest_start.Statement.{statement}
+use Rattle.room.proofs.lowest_start.Tie as tie
 
 abbrev Inv-loop : tie.InvT-loop
 Inv-loop n size held end best₀ i₀ best i = Best n size (held .places) i best

@@ -1,4 +1,4 @@
--- `places::room::is_free` meets its contract: bytes that pass the end are not free; of the others, at every turn what is left of the
+-- `room::free::is_free` meets its contract: bytes that pass the end are not free; of the others, at every turn what is left of the
 -- places gives the same answer.
 -- Assumes nothing.
 use mathlib.Core.Path.{_≡_, sym, _∙_}
@@ -9,11 +9,11 @@ use borrow.Author.Needs.{needs}
 use borrow.Author.Tests.{le-leb, lt-leb, not-true, not-false}
 use lib.Dec.{leb}
 use lib.ListN.{length, drop}
 use Rattle.places.specs.Places.{all}
 use Rattle.places.specs.Room.{clear}
 use Rattle.places.proofs.Steps.{mapped-length, all-yes, all-no, all-end}
-use Rattle.places.proofs.room.is_free.Statement.{statement}
-use Rattle.places.proofs.room.is_free.Tie as tie
+use Rattle.room.proofs.free.is_free.Statement.{statement}
+use Rattle.room.proofs.free.is_free.Tie as tie
 
 abbrev Inv-loop : tie.InvT-loop
 Inv-loop end size s held i₀ i =

@@ -1,8 +1,8 @@
--- `places::ranges::usable` meets its contract: it takes the definition's test.
+-- `room::ranges::usable` meets its contract: it takes the definition's test.
 -- Assumes nothing.
 use borrow.Author.Tests.{le-leb, lt-leb}
-use Rattle.places.proofs.ranges.usable.Statement.{statement}
-use Rattle.places.proofs.ranges.usable.Tie as tie
+use Rattle.room.proofs.ranges.usable.Statement.{statement}
+use Rattle.room.proofs.ranges.usable.Tie as tie
 
 returns : tie.Need-returns
 returns c = simp (le-leb _ _ (c .if1 .taken))

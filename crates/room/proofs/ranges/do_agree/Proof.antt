@@ -1,14 +1,14 @@
--- `places::ranges::do_agree` meets its contract: an unused place agrees with every place; two in use agree by their resources and by
+-- `room::ranges::do_agree` meets its contract: an unused place agrees with every place; two in use agree by their resources and by
 -- the one's end and the other's start.
 -- Assumes nothing.
 use mathlib.Core.Path.{_≡_, sym}
 use mathlib.Core.Bool.{true}
 use native.Mathlib.Omega.{arith}
 use Rattle.places.specs.Places.{inUse}
 use Rattle.places.proofs.Named.{in-use, not-in-use}
 use Rattle.places.proofs.Agreeing.{agree-left, agree-right, agree-shared, agree-before, agree-not-before}
-use Rattle.places.proofs.ranges.do_agree.Statement.{statement}
-use Rattle.places.proofs.ranges.do_agree.Tie as tie
+use Rattle.room.proofs.ranges.do_agree.Statement.{statement}
+use Rattle.room.proofs.ranges.do_agree.Tie as tie
 
 returns : tie.Need-returns
 returns c =

@@ -1,12 +1,12 @@
--- `places::ranges::ranges_fit` meets its contract: it takes the definition's three tests in their order.
+-- `room::ranges::ranges_fit` meets its contract: it takes the definition's three tests in their order.
 -- Assumes nothing.
 use mathlib.Core.Path.{_≡_, sym, _∙_}
 use mathlib.Core.Bool.{true}
 use borrow.Author.Tests.{eq-eqb, ne-eqb, not-true, not-false}
 use Rattle.settings.specs.Settings.{settingsFit}
 use Rattle.places.specs.Places.{settingsIn, rangesFit}
-use Rattle.places.proofs.ranges.ranges_fit.Statement.{statement}
-use Rattle.places.proofs.ranges.ranges_fit.Tie as tie
+use Rattle.room.proofs.ranges.ranges_fit.Statement.{statement}
+use Rattle.room.proofs.ranges.ranges_fit.Tie as tie
 
 settings-in-requires : tie.Need-settings-in-requires
 settings-in-requires c κs = tt

@@ -1,8 +1,8 @@
--- `places::ranges::is_sound` meets its contract: it takes the definition's two tests in their order.
+-- `room::ranges::is_sound` meets its contract: it takes the definition's two tests in their order.
 -- Assumes nothing.
 use mathlib.Core.Path.{sym, _∙_}
-use Rattle.places.proofs.ranges.is_sound.Statement.{statement}
-use Rattle.places.proofs.ranges.is_sound.Tie as tie
+use Rattle.room.proofs.ranges.is_sound.Statement.{statement}
+use Rattle.room.proofs.ranges.is_sound.Tie as tie
 
 ranges-fit-requires : tie.Need-ranges-fit-requires
 ranges-fit-requires c κs = tt

@@ -1,10 +1,10 @@
--- `places::room::is_clear` meets its contract: it takes the definition's three tests in their order.
+-- `room::free::is_clear` meets its contract: it takes the definition's three tests in their order.
 -- Assumes nothing.
 use native.Mathlib.Omega.{arith}
 use borrow.Author.Tests.{eq-eqb, ne-eqb, le-leb, lt-leb}
 use Rattle.places.specs.Room.{clear}
-use Rattle.places.proofs.room.is_clear.Statement.{statement}
-use Rattle.places.proofs.room.is_clear.Tie as tie
+use Rattle.room.proofs.free.is_clear.Statement.{statement}
+use Rattle.room.proofs.free.is_clear.Tie as tie
 
 returns : tie.Need-returns
 unfolding clear

@@ -1,11 +1,11 @@
--- `places::ranges::end_of` meets its contract: the start and the bytes covered, whose sum is far below 2^64.
+-- `room::ranges::end_of` meets its contract: the start and the bytes covered, whose sum is far below 2^64.
 -- Assumes nothing.
 use Prim.Native.Nat.{_+_, _≤_, _^_}
 use native.Mathlib.Nat.{mul-le-mul}
 use native.Mathlib.Omega.{arith}
 use Rattle.places.specs.Places.{endOf}
-use Rattle.places.proofs.ranges.end_of.Statement.{statement}
-use Rattle.places.proofs.ranges.end_of.Tie as tie
+use Rattle.room.proofs.ranges.end_of.Statement.{statement}
+use Rattle.room.proofs.ranges.end_of.Tie as tie
 
 cast-result : tie.Need-cast-result
 cast-result c = omega arith
