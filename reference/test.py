@@ -3,7 +3,7 @@
 beside the first, files sent and handed out, every refusal by a case written by hand, and that compare sees a changed byte.
 The last line says how many checks passed."""
 
-import pathlib, random, subprocess, sys, tempfile, zlib
+import concurrent.futures, os, pathlib, random, subprocess, sys, tempfile, zlib
 
 import cases, random_cases
 import receiver as r
@@ -619,27 +619,33 @@ def changed(data, at):
     return data[:at] + bytes([data[at] ^ 1]) + data[at + 1 :]
 
 
+def refused_by_compare(*runs):
+    """Each is told to be wrong. They run beside each other, a process each."""
+    with concurrent.futures.ThreadPoolExecutor(os.cpu_count()) as pool:
+        for code, _ in pool.map(lambda run: compare(*run), runs):
+            same(code, 1)
+
+
 def test_compare():
     stdin = EVERY.encode()
     stdout = "".join(line + "\n" for line in cases.computed(EVERY.split("\n"))).encode()
     names = [line.split()[1] for line in EVERY.split("\n") if line.startswith("case ")]
     listed = " ".join(f"`{n}`" for n in names).encode()
     same(compare(stdin, stdout, listed), (0, f"ok, {len(names)} cases\n"))
-    for at in RANDOM.sample(range(len(stdout)), 6) + [0, len(stdout) - 1]:
-        same(compare(stdin, changed(stdout, at), listed)[0], 1)
-    for part in (b"case packed accepted 26", b"poke 0 ff", b"refused 9", b"case ninth", b"fields bytes 0 00"):
-        at = stdin.index(part) + len(part) - 1
-        same(compare(changed(stdin, at), stdout, listed)[0], 1)
     code, said = compare(stdin, stdout.replace(b"refused 24", b"refused 22"), listed)
     same((code, said.startswith("padding differs\n")), (1, True))
-    same(compare(stdin, stdout[: stdout.rindex(b"case")], listed)[0], 1)
-    same(compare(stdin, stdout + b"\n", listed)[0], 1)
-    same(compare(stdin, stdout[:-1], listed)[0], 1)
-    same(compare(stdin, stdout, listed.replace(b"`padding`", b"`padded`"))[0], 1)
-    twice = stdin.replace(b"case unknown", b"case held-127")
-    same(compare(twice, stdout.replace(b"case unknown", b"case held-127"), listed)[0], 1)
-    less = b"# unknown: left out"
-    same(compare(stdin.replace(b"case unknown refused 10", less), b"", listed)[0], 1)
+    places = RANDOM.sample(range(len(stdout)), 6) + [0, len(stdout) - 1]
+    parts = (b"case packed accepted 26", b"poke 0 ff", b"refused 9", b"case ninth", b"fields bytes 0 00")
+    refused_by_compare(
+        *((stdin, changed(stdout, at), listed) for at in places),
+        *((changed(stdin, stdin.index(part) + len(part) - 1), stdout, listed) for part in parts),
+        (stdin, stdout[: stdout.rindex(b"case")], listed),
+        (stdin, stdout + b"\n", listed),
+        (stdin, stdout[:-1], listed),
+        (stdin, stdout, listed.replace(b"`padding`", b"`padded`")),
+        (stdin.replace(b"case unknown", b"case held-127"), stdout.replace(b"case unknown", b"case held-127"), listed),
+        (stdin.replace(b"case unknown refused 10", b"# unknown: left out"), b"", listed),
+    )
 
 
 def test_compare_the_cases():
@@ -649,9 +655,8 @@ def test_compare_the_cases():
         print("crates/cases has no stdout yet: not looked at")
         return
     stdin, stdout = (folder / "stdin").read_bytes(), (folder / "stdout").read_bytes()
-    same(compare(stdin, changed(stdout, RANDOM.randrange(len(stdout))), stdin)[0], 1)
     end = stdin.index(b"\n", stdin.rindex(b"\ncase ") + 1)
-    same(compare(changed(stdin, end - 1), stdout, stdin)[0], 1)
+    refused_by_compare((stdin, changed(stdout, RANDOM.randrange(len(stdout))), stdin), (changed(stdin, end - 1), stdout, stdin))
 
 
 for name, test in list(globals().items()):
