@@ -7,10 +7,10 @@ ghost use Rattle.packet.specs.Settings.{house};
 ghost use Rattle.packet.specs.Told.{fieldList};
 ghost use Rattle.face.specs.Layout.{recordBytes};
 ghost use Rattle.face.specs.Face.{answerOf, Says, Keeps, puts, encodeSays, repairSays, readSays, packSays, openSays, offerSays, statusSays, handSays, closeSays};
+use opening::Kept;
 use packet::Packet;
 use packet::Reading;
 use packet::Settings;
-use record::Kept;
 
 mod answers;
 mod memory;
@@ -153,7 +153,7 @@ pub extern "C" fn bh_open(
         rows,
         size: slot,
     };
-    let kept = record::open(memory::record_in(held), store, settings, count);
+    let kept = opening::open(memory::record_in(held), store, settings, count);
     put_kept(held, kept)
 }
 
@@ -173,7 +173,7 @@ pub extern "C" fn bh_open_house(
         return answers::NO_RECORD;
     }
     let before = memory::record_in(held);
-    let kept = record::open_house(before, store, resource, kind, update, count);
+    let kept = opening::open_house(before, store, resource, kind, update, count);
     put_kept(held, kept)
 }
 
@@ -228,6 +228,6 @@ pub extern "C" fn bh_close(held: &mut [u8], store: &[u8], resource: u16) -> u64
     if held.len() != 128 {
         return answers::NO_RECORD;
     }
-    let kept = record::close(memory::record_in(held), store, resource);
+    let kept = opening::close(memory::record_in(held), store, resource);
     put_kept(held, kept)
 }

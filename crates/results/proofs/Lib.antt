@@ -11,6 +11,7 @@ pub mod Packet
 pub mod Pack
 pub mod Places
 pub mod Contents
+pub mod Opening
 pub mod Record
 pub mod Readout
 pub mod Face
