@@ -7,9 +7,9 @@ ghost use Rattle.settings.specs.Settings.{house};
 ghost use Rattle.packet.specs.Told.{fieldList};
 ghost use Rattle.face.specs.Layout.{recordBytes};
 ghost use Rattle.face.specs.Face.{answerOf, Says, Keeps, puts, encodeSays, repairSays, readSays, packSays, openSays, offerSays, statusSays, handSays, closeSays};
+use opening::Kept;
 use packet::Packet;
 use packet::Reading;
-use record::Kept;
 use settings::Settings;
 
 mod answers;
@@ -152,7 +152,7 @@ pub extern "C" fn bh_open(
         rows,
         size: slot,
     };
-    let kept = record::open(face::record_in(held), store, settings, count);
+    let kept = opening::open(face::record_in(held), store, settings, count);
     put_kept(held, kept)
 }
 
@@ -172,7 +172,7 @@ pub extern "C" fn bh_open_house(
         return answers::NO_RECORD;
     }
     let before = face::record_in(held);
-    let kept = record::open_house(before, store, resource, kind, update, count);
+    let kept = opening::open_house(before, store, resource, kind, update, count);
     put_kept(held, kept)
 }
 
@@ -227,6 +227,6 @@ pub extern "C" fn bh_close(held: &mut [u8], store: &[u8], resource: u16) -> u64
     if held.len() != 128 {
         return answers::NO_RECORD;
     }
-    let kept = record::close(face::record_in(held), store, resource);
+    let kept = opening::close(face::record_in(held), store, resource);
     put_kept(held, kept)
 }

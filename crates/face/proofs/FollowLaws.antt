@@ -21,9 +21,9 @@ use Rattle.places.specs.declared.Found.the-variants.{At, Nothing}
 use Rattle.places.specs.Places.{unused, placeOf, good, placeNamed}
 use Rattle.places.proofs.Facts.{PlaceFacts, named-facts, end-sum}
 use Rattle.places.proofs.Keeping.{at-set}
-use Rattle.record.specs.Open.{Plan, refuse, take, planOf, openOf, closedAt, closeOf}
-use Rattle.record.proofs.PlanLaws.{taking, open-by}
-use Rattle.record.proofs.OpenLaws.{open-good, open-named, open-own, refused-record}
+use Rattle.opening.specs.Open.{Plan, refuse, take, planOf, openOf, closedAt, closeOf}
+use Rattle.opening.proofs.PlanLaws.{taking, open-by}
+use Rattle.opening.proofs.OpenLaws.{open-good, open-named, open-own, refused-record}
 use Rattle.face.specs.Layout.{two, four, placeIn, recordIn}
 use Rattle.face.specs.Face.{openSays, closeSays}
 use Rattle.face.specs.Statements.{RecordsFollow}

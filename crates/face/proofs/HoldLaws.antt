@@ -9,10 +9,10 @@ use lib.Dec.{eqb}
 use lib.ListN.{length}
 use Rattle.settings.specs.declared.Settings.{Settings}
 use Rattle.places.specs.declared.Record.{Record}
-use Rattle.record.specs.declared.Kept.{Kept}
+use Rattle.opening.specs.declared.Kept.{Kept}
 use Rattle.refusals.specs.declared.Verdict.{Verdict}
 use Rattle.record.specs.declared.Offered.{Offered}
-use Rattle.record.specs.Open.{openOf, Opens, closeOf}
+use Rattle.opening.specs.Open.{openOf, Opens, closeOf}
 use Rattle.refusals.specs.Told.{verdictTold}
 use Rattle.record.specs.Offer.{offerOf}
 use Rattle.record.specs.Told.{offeredTold}

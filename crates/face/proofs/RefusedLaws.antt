@@ -29,11 +29,11 @@ use Rattle.places.specs.declared.Found.the-variants.{At, Nothing}
 use Rattle.places.specs.Places.{good, placeNamed}
 use Rattle.record.specs.declared.Offered.{Offered}
 use Rattle.record.specs.declared.Offered.the-variants.{Stored, Repeat}
-use Rattle.record.specs.Open.{openOf, closedAt, closeOf}
+use Rattle.opening.specs.Open.{openOf, closedAt, closeOf}
 use Rattle.record.specs.Offer.{offerOf}
 use Rattle.record.specs.Told.{offeredTold}
 use Rattle.readout.specs.Hand.{handOutOf}
-use Rattle.record.proofs.OpenLaws.{refused-record, refused-store, refused-plan}
+use Rattle.opening.proofs.OpenLaws.{refused-record, refused-store, refused-plan}
 use Rattle.record.proofs.OfferLaws.{offer-refused}
 use Rattle.readout.proofs.HandLaws.{hand-refused}
 use Rattle.code.specs.Code.{Bytes}

@@ -17,7 +17,7 @@ use Rattle.packet.specs.Packet.{readOf}
 use Rattle.packet.specs.Told.{readingTold}
 use Rattle.pack.specs.Pack.{packOf}
 use Rattle.pack.specs.Told.{packedTold}
-use Rattle.record.specs.Open.{openOf, closeOf}
+use Rattle.opening.specs.Open.{openOf, closeOf}
 use Rattle.record.specs.Offer.{offerOf}
 use Rattle.record.specs.Told.{offeredTold}
 use Rattle.readout.specs.Hand.{statusOf, handOutOf}

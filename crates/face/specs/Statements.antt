@@ -7,7 +7,7 @@ use Prim.Native.Nat.{ℕ, _%_}
 use lib.ListN.{length}
 use Rattle.code.specs.Code.{Bytes}
 use Rattle.settings.specs.declared.Settings.{Settings}
-use Rattle.record.specs.Open.{openOf, closeOf}
+use Rattle.opening.specs.Open.{openOf, closeOf}
 use Rattle.face.specs.Layout.{recordIn}
 use Rattle.face.specs.Face.{Said, Says, Kept, Keeps, encodeSays, repairSays, readSays, packSays, openSays, offerSays, handSays, closeSays}
 

@@ -27,12 +27,12 @@ use Rattle.places.specs.Places.{unused, good, placeNamed, placeOf}
 use Rattle.places.proofs.Truth.{and-both}
 use Rattle.contents.specs.Contents.{Slot as Content, wrong, holding, contents}
 use Rattle.contents.proofs.Places.{length-contents}
-use Rattle.record.specs.Open.{Plan, refuse, take as taken, planOf, carriedOut, Opening, openOf}
+use Rattle.opening.specs.Open.{Plan, refuse, take as taken, planOf, carriedOut, Opening, openOf}
 use Rattle.record.specs.Offer.{Offering, Judged, refuse as refuse-packet, put, judge, differs, offerJudged, offerOf, judgeBy}
 use Rattle.readout.specs.Hand.{Handing, handContents, handOutOf}
-use Rattle.record.proofs.PlanLaws.{Taking, taking, taking-plan, open-by}
-use Rattle.record.proofs.OpenLaws.{open-named, open-own, open-empty, open-keeps, open-keeps-length, accepted-plan, refused-record, refused-store}
-use Rattle.record.proofs.CloseLaws.{close-keeps-good}
+use Rattle.opening.proofs.PlanLaws.{Taking, taking, taking-plan, open-by}
+use Rattle.opening.proofs.OpenLaws.{open-named, open-own, open-empty, open-keeps, open-keeps-length, accepted-plan, refused-record, refused-store}
+use Rattle.opening.proofs.CloseLaws.{close-keeps-good}
 use Rattle.record.proofs.OfferCases.{offer-unread, offer-placed}
 use Rattle.record.proofs.OfferFacts.{read-resource}
 use Rattle.record.proofs.OfferLaws.{Placed, Sound, heldAfter, held-after, slots-kept, offer-sound, offer-holds, offer-length}

@@ -32,9 +32,9 @@ use Rattle.readout.specs.Hand.{Handing, handRows, handJoined, handContents, han
 use Rattle.refusals.specs.declared.Verdict.{Verdict}
 use Rattle.refusals.specs.Told.{acceptedWith, verdictTold}
 use Rattle.code.specs.Mend.{whole, behind}
-use Rattle.record.specs.Open.{take as take-plan, Opening, openOf}
-use Rattle.record.proofs.PlanLaws.{Taking, taking-plan, open-by}
-use Rattle.record.proofs.OpenLaws.{open-empty}
+use Rattle.opening.specs.Open.{take as take-plan, Opening, openOf}
+use Rattle.opening.proofs.PlanLaws.{Taking, taking-plan, open-by}
+use Rattle.opening.proofs.OpenLaws.{open-empty}
 use Rattle.promises.specs.Calls.{Answer, fresh, step}
 use Rattle.promises.specs.Calls.Call.{offering}
 use Rattle.promises.specs.Statements.{Protected, Copy, rowIn, Fair, AllFair, Offers, Carries, HandsOut, Demand3, FromFresh}

@@ -22,8 +22,8 @@ use Rattle.layout.proofs.Coded.{tables-reach}
 use Rattle.places.specs.Places.{usable, coverOf, countFits, freshRecord, firstFrom}
 use Rattle.places.proofs.Keeping.{fresh-good}
 use Rattle.places.proofs.Opened.{fresh-lowest}
-use Rattle.record.specs.Open.{take, Opening}
-use Rattle.record.proofs.PlanLaws.{Taking, taking-plan, open-by}
+use Rattle.opening.specs.Open.{take, Opening}
+use Rattle.opening.proofs.PlanLaws.{Taking, taking-plan, open-by}
 use Rattle.promises.specs.Calls.{Answer, telling, State, step, fresh}
 use Rattle.promises.specs.Calls.Call.{packing, opening}
 use Rattle.promises.specs.Statements.{Protected, FromFresh}

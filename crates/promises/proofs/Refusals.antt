@@ -20,9 +20,9 @@ use Rattle.places.specs.declared.Record.{Record}
 use Rattle.places.specs.declared.Found.{Found}
 use Rattle.places.specs.declared.Found.the-variants.{At, Nothing}
 use Rattle.places.specs.Places.{good, placeNamed}
-use Rattle.record.specs.declared.Kept.{Kept}
+use Rattle.opening.specs.declared.Kept.{Kept}
 use Rattle.record.specs.declared.Offered.{Offered}
-use Rattle.record.specs.Open.{Plan, refuse, take, planOf, carriedOut, openOf, closedAt, closeOf}
+use Rattle.opening.specs.Open.{Plan, refuse, take, planOf, carriedOut, openOf, closedAt, closeOf}
 use Rattle.record.specs.Offer.{offerOf}
 use Rattle.record.specs.Told.{offeredTold}
 use Rattle.readout.specs.Hand.{handOutOf}

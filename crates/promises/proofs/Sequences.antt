@@ -20,17 +20,17 @@ use Rattle.places.specs.declared.Found.the-variants.{At, Nothing}
 use Rattle.places.specs.Places.{unused, good, placeNamed, placeOf}
 use Rattle.places.proofs.Truth.{differ, and-both}
 use Rattle.contents.specs.Contents.{contents}
-use Rattle.record.specs.declared.Kept.{Kept as Record-kept}
-use Rattle.record.specs.Open.{Plan, refuse, take, planOf, carriedOut, Opening, openOf, closedAt, closeOf}
+use Rattle.opening.specs.declared.Kept.{Kept as Record-kept}
+use Rattle.opening.specs.Open.{Plan, refuse, take, planOf, carriedOut, Opening, openOf, closedAt, closeOf}
 use Rattle.record.specs.declared.Offered.{Offered}
 use Rattle.record.specs.Offer.{offerOf}
 use Rattle.record.specs.Told.{offeredTold}
 use Rattle.readout.specs.declared.Standing.{Standing}
 use Rattle.readout.specs.Told.{standingTold}
 use Rattle.readout.specs.Hand.{statusOf, Handing, handOutOf}
-use Rattle.record.proofs.PlanLaws.{taking, open-by}
-use Rattle.record.proofs.OpenLaws.{open-named, open-own, open-empty, open-keeps-length, refused-record, refused-store}
-use Rattle.record.proofs.CloseLaws.{close-record, close-unknown, close-found, close-named}
+use Rattle.opening.proofs.PlanLaws.{taking, open-by}
+use Rattle.opening.proofs.OpenLaws.{open-named, open-own, open-empty, open-keeps-length, refused-record, refused-store}
+use Rattle.opening.proofs.CloseLaws.{close-record, close-unknown, close-found, close-named}
 use Rattle.record.proofs.OfferLaws.{offer-length, alike-answer, alike-holds}
 use Rattle.readout.proofs.HandLaws.{status-same, hand-same}
 use Rattle.promises.specs.Calls.{Call, telling, State, step, fresh, names, about}

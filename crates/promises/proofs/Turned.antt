@@ -27,9 +27,9 @@ use Rattle.places.specs.declared.Place.{Place}
 use Rattle.places.specs.declared.Found.the-variants.{At, Nothing}
 use Rattle.places.specs.Places.{firstFrom, freshRecord, placeOf}
 use Rattle.contents.specs.Contents.{Slot as Content, holding, contents}
-use Rattle.record.specs.Open.{take as take-plan, Opening}
-use Rattle.record.proofs.PlanLaws.{Taking, taking-plan, open-by}
-use Rattle.record.proofs.OpenLaws.{open-empty}
+use Rattle.opening.specs.Open.{take as take-plan, Opening}
+use Rattle.opening.proofs.PlanLaws.{Taking, taking-plan, open-by}
+use Rattle.opening.proofs.OpenLaws.{open-empty}
 use Rattle.record.proofs.OfferCases.{payload-length}
 use Rattle.record.proofs.OfferFacts.{read-known}
 use Rattle.readout.specs.Hand.{Handing, handContents, handOutOf}

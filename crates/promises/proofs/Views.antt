@@ -16,11 +16,11 @@ use Rattle.places.proofs.Truth.{differ, and-join}
 use Rattle.places.proofs.Named.{names-in-use, names-resource}
 use Rattle.places.proofs.Holders.{found-names, unused-at}
 use Rattle.contents.specs.Contents.{contents}
-use Rattle.record.specs.Open.{Plan, refuse, take, planOf, openOf, closeOf}
+use Rattle.opening.specs.Open.{Plan, refuse, take, planOf, openOf, closeOf}
 use Rattle.record.specs.Offer.{offerOf}
-use Rattle.record.proofs.PlanLaws.{taking, open-by}
-use Rattle.record.proofs.OpenLaws.{open-named-other, open-others, open-keeps-length, refused-record, refused-store}
-use Rattle.record.proofs.CloseLaws.{close-record, close-unknown, close-found, close-others, close-named-other}
+use Rattle.opening.proofs.PlanLaws.{taking, open-by}
+use Rattle.opening.proofs.OpenLaws.{open-named-other, open-others, open-keeps-length, refused-record, refused-store}
+use Rattle.opening.proofs.CloseLaws.{close-record, close-unknown, close-found, close-others, close-named-other}
 use Rattle.record.proofs.OfferLaws.{offer-length, offer-other}
 use Rattle.promises.specs.Calls.{Call, State, step, names, about}
 use Rattle.promises.specs.Calls.Call.{packing, opening, offering, asking, handing, closing}

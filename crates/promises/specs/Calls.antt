@@ -13,7 +13,7 @@ use Rattle.pack.specs.Pack.{packOf}
 use Rattle.pack.specs.Told.{packedTold}
 use Rattle.places.specs.declared.Record.{Record}
 use Rattle.places.specs.Places.{freshRecord}
-use Rattle.record.specs.Open.{openOf, closeOf}
+use Rattle.opening.specs.Open.{openOf, closeOf}
 use Rattle.record.specs.Offer.{offerOf}
 use Rattle.record.specs.Told.{offeredTold}
 use Rattle.readout.specs.Hand.{statusOf, handOutOf}

@@ -1,7 +1,4 @@
 pub mod SlotLaws
-pub mod PlanLaws
-pub mod OpenLaws
-pub mod CloseLaws
 pub mod CrcLaws
 pub mod MendLaws
 pub mod OfferCases

@@ -1,34 +1,19 @@
--- The steps of the loops that clear, write and compare slots, and the laws of `same`.
+-- A slot as it is written and compared: the steps of the comparing loop, and the laws of `same`.
 -- Assumes nothing.
 use mathlib.Core.Path.{_≡_, refl, sym, ap, ap₂, _∙_}
 use mathlib.Core.Bool.{Bool, true, false, true≢false, _&&_}
 use mathlib.Core.List.{List, [], _∷_}
-use Prim.Native.Nat.{ℕ, suc, _+_, _-_, _*_, _/_, _%_, _<_, _≤_}
-use native.Mathlib.Nat.{add-zero, add-mul, one-mul}
+use Prim.Native.Nat.{ℕ, suc, _+_, _-_, _/_, _%_, _<_, _≤_}
+use native.Mathlib.Nat.{add-zero}
 use native.Mathlib.Numerals.{add-one, add-two}
 use native.Mathlib.Omega.{arith}
 use borrow.Author.Tests.{eq-eqb, ne-eqb, eqb-true}
 use lib.Dec.{eqb}
 use lib.ListN.{length, getD, set, drop, drop-of-length-le}
 use lib.Seq.{sets, set-comm, drop-cons}
-use Rattle.contents.specs.Slots.{cleared, stored}
+use Rattle.contents.specs.Slots.{stored}
 use Rattle.contents.specs.Contents.{bytesAt}
 use Rattle.record.specs.Offer.{same}
-
--- ---- clearing, a slot at a time
-
-pub cleared-step : (s : List ℕ) (at n w : ℕ) → 0 < n → cleared s at n w ≡ cleared (set (set s at 0) (at + 1) 0) (at + w) (n - 1) w
-unfolding cleared
-cleared-step s at n w h = let e : n ≡ suc (n - 1) = omega arith in ap (λ (m : ℕ). cleared s at m w) e
-
-pub cleared-none : (s : List ℕ) (at n w : ℕ) → n ≤ 0 → cleared s at n w ≡ s
-unfolding cleared
-cleared-none s at n w h = let e : n ≡ 0 = omega arith in ap (λ (m : ℕ). cleared s at m w) e
-
-pub rest-room : (n w : ℕ) → 0 < n → n * w ≡ (n - 1) * w + w
-rest-room n w h =
-    let e : n ≡ n - 1 + 1 = omega arith in
-    ap (λ (m : ℕ). m * w) e ∙ add-mul (n - 1) 1 w ∙ ap (λ (m : ℕ). (n - 1) * w + m) (one-mul w)
 
 -- ---- a payload first, then its length: the same as in the order in which they stand
 

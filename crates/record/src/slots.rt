@@ -1,8 +1,8 @@
 // The slots of a lent store: document 01, section 5. Private to the crate: who calls has judged the record, so that the bytes named here are in the store.
 ghost use mathlib.Core.Path.{_≡_};
-ghost use Prim.Native.Nat.{_+_, _*_, _≤_, _<_};
+ghost use Prim.Native.Nat.{_+_, _≤_, _<_};
 ghost use lib.ListN.{length};
-ghost use Rattle.contents.specs.Slots.{cleared, stored};
+ghost use Rattle.contents.specs.Slots.{stored};
 ghost use Rattle.contents.specs.Contents.{bytesAt, slotAt};
 ghost use Rattle.record.specs.Offer.{same};
 use places::Place;
@@ -12,21 +12,6 @@ pub(crate) fn slot_at(p: Place, number: u32) -> usize
     ensures { λ r. ⌜ r ≡ slotAt p number ⌝ }
 {
     p.start as usize + number as usize * (p.slot as usize + 2)
-}
-
-// Sets the length of each of `count` slots, `width` bytes apart, to 0.
-pub(crate) fn clear_slots(store: &mut [u8], start: usize, count: usize, width: usize)
-    requires { ⌜ (2 ≤ width) × (start + count * width ≤ length (now store)) ⌝ }
-    ensures { λ r. ⌜ now (store .exit) ≡ cleared (now (store .entry)) start count width ⌝ }
-{
-    let mut at = start;
-    let mut left = count;
-    while 0 < left {
-        store[at] = 0;
-        store[at + 1] = 0;
-        at += width;
-        left -= 1;
-    }
 }
 
 // Puts a payload into the slot at `at`. Its length is written last: a process that is killed before leaves the slot empty.

@@ -13,6 +13,7 @@ pub mod Pack
 pub mod Places
 pub mod Room
 pub mod Contents
+pub mod Opening
 pub mod Record
 pub mod Readout
 pub mod Face

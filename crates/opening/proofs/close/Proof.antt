@@ -9,9 +9,9 @@ use lib.ListN.{length}
 use Rattle.places.specs.declared.Found.the-variants.{At}
 use Rattle.places.specs.Places.{good, placeNamed}
 use Rattle.places.proofs.Steps.{mapped-length}
-use Rattle.record.proofs.CloseLaws.{close-record, close-unknown, close-found, close-below}
-use Rattle.record.proofs.opening.close.Statement.{statement}
-use Rattle.record.proofs.opening.close.Tie as tie
+use Rattle.opening.proofs.CloseLaws.{close-record, close-unknown, close-found, close-below}
+use Rattle.opening.proofs.close.Statement.{statement}
+use Rattle.opening.proofs.close.Tie as tie
 
 -- the test passed, and the place found
 sound : (c : tie.Else1) → good (length (c .before .before .before .args .store .now)) (c .before .before .before .args .held .places) ≡ true

@@ -7,11 +7,11 @@ use lib.ListN.{length, set}
 use Rattle.refusals.specs.declared.Verdict.the-variants.{Accepted}
 use Rattle.places.specs.declared.Place.{Place}
 use Rattle.places.proofs.Steps.{mapped-length}
-use Rattle.record.specs.Open.{take, planOf}
-use Rattle.record.proofs.PlanLaws.{Taking, taking, planned-refuse, planned-take, open-refused, open-taken}
-use Rattle.record.proofs.OpenLaws.{open-below, open-room, open-start}
-use Rattle.record.proofs.opening.open.Statement.{statement}
-use Rattle.record.proofs.opening.open.Tie as tie
+use Rattle.opening.specs.Open.{take, planOf}
+use Rattle.opening.proofs.PlanLaws.{Taking, taking, planned-refuse, planned-take, open-refused, open-taken}
+use Rattle.opening.proofs.OpenLaws.{open-below, open-room, open-start}
+use Rattle.opening.proofs.open.Statement.{statement}
+use Rattle.opening.proofs.open.Tie as tie
 
 -- what the plan to take says
 plan-is : (c : tie.After-i) → planOf (c .before .before .before .before .args .held) (length (c .before .before .before .before .args .store .now)) (c .before .before .before .before .args .settings) (c .before .before .before .before .args .count) ≡ take (c .i .given .0 .0) (c .i .given .0 .1 .0)

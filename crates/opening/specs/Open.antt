@@ -16,7 +16,7 @@ use Rattle.places.specs.declared.Found.the-variants.{At, Nothing}
 use Rattle.places.specs.Places.{unused, coverOf, placeOf, countFits, good, placeNamed, firstUnused}
 use Rattle.places.specs.Room.{lowestStart}
 use Rattle.contents.specs.Slots.{cleared}
-use Rattle.record.specs.declared.Kept.{Kept}
+use Rattle.opening.specs.declared.Kept.{Kept}
 
 -- ---- open
 

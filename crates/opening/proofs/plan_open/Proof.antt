@@ -6,11 +6,11 @@ use native.Mathlib.Omega.{arith}
 use borrow.Author.Tests.{not-true, not-false}
 use Rattle.settings.specs.Settings.{settingsFit}
 use Rattle.places.specs.Places.{countFits, good, firstUnused}
-use Rattle.record.specs.Open.{withUnused}
-use Rattle.record.specs.Inner.{planned}
-use Rattle.record.proofs.PlanLaws.{plan-record, plan-settings, plan-count, plan-held, plan-new}
-use Rattle.record.proofs.opening.plan_open.Statement.{statement}
-use Rattle.record.proofs.opening.plan_open.Tie as tie
+use Rattle.opening.specs.Open.{withUnused}
+use Rattle.opening.specs.Inner.{planned}
+use Rattle.opening.proofs.PlanLaws.{plan-record, plan-settings, plan-count, plan-held, plan-new}
+use Rattle.opening.proofs.plan_open.Statement.{statement}
+use Rattle.opening.proofs.plan_open.Tie as tie
 
 -- what the tests passed say
 sound : (c : tie.Else1) → good (c .before .before .args .n) (c .before .before .args .held .places) ≡ true

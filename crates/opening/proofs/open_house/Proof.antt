@@ -2,9 +2,9 @@
 use mathlib.Core.Path.{subst}
 use native.Mathlib.Omega.{arith}
 use Rattle.settings.specs.declared.Settings.{Settings}
-use Rattle.record.specs.Open.{Opens}
-use Rattle.record.proofs.opening.open_house.Statement.{statement}
-use Rattle.record.proofs.opening.open_house.Tie as tie
+use Rattle.opening.specs.Open.{Opens}
+use Rattle.opening.proofs.open_house.Statement.{statement}
+use Rattle.opening.proofs.open_house.Tie as tie
 
 house-requires : tie.Need-house-requires
 house-requires c κs = tt

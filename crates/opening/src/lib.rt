@@ -1,17 +1,26 @@
-// Open and Close: document 01, section 5. Refusals in the orders 9, 17, 18, 19, 20 and 9, 10.
+// Open and Close of the collecting record: document 01, section 5. The record is a struct by value, returned anew; open clears slots of the lent store.
+// Refusals in the orders 9, 17, 18, 19, 20 and 9, 10. What is done with a place while it is open stands in the crates record and readout.
 ghost use mathlib.Core.Path.{_≡_};
+ghost use Prim.Native.Nat.{_+_, _*_, _≤_};
+ghost use lib.ListN.{length};
 ghost use Rattle.settings.specs.Settings.{house};
 ghost use Rattle.places.specs.Places.{firstUnused};
-ghost use Rattle.record.specs.Open.{withUnused, planOf, Opens, closeOf};
-ghost use Rattle.record.specs.Inner.{planned};
-use super::Kept;
-use super::slots;
+ghost use Rattle.contents.specs.Slots.{cleared};
+ghost use Rattle.opening.specs.Open.{withUnused, planOf, Opens, closeOf};
+ghost use Rattle.opening.specs.Inner.{planned};
 use places::Found;
 use places::Place;
 use places::Record;
+pub use places::fresh;
 use refusals::Refusal;
 use refusals::Verdict;
 use settings::Settings;
+
+// The record after open or close, and what is answered. Beside a refusal the record is as it came.
+pub struct Kept {
+    pub record: Record,
+    pub verdict: Verdict,
+}
 
 // What open is to do: to refuse, or to take the place of a number from a start on.
 pub(crate) enum Planned {
@@ -51,6 +60,21 @@ fn plan_open(held: Record, n: usize, settings: Settings, count: u32) -> Planned
     room_for(held, n, places::cover_of(count, settings.size))
 }
 
+// Sets the length of each of `count` slots, `width` bytes apart, to 0. Who calls has judged the record, so that these bytes are in the store.
+fn clear_slots(store: &mut [u8], start: usize, count: usize, width: usize)
+    requires { ⌜ (2 ≤ width) × (start + count * width ≤ length (now store)) ⌝ }
+    ensures { λ r. ⌜ now (store .exit) ≡ cleared (now (store .entry)) start count width ⌝ }
+{
+    let mut at = start;
+    let mut left = count;
+    while 0 < left {
+        store[at] = 0;
+        store[at + 1] = 0;
+        at += width;
+        left -= 1;
+    }
+}
+
 // Opens a place for the `count` packets of a file under `settings`: the first unused one, from the lowest start at which its slots fit
 // the store and meet no other place. Each of its slots is then empty. Refused, record and store are as they came.
 pub fn open(held: Record, store: &mut [u8], settings: Settings, count: u32) -> Kept
@@ -62,7 +86,7 @@ pub fn open(held: Record, store: &mut [u8], settings: Settings, count: u32) -> K
             verdict: Verdict::Refused(refusal),
         },
         Planned::Take(i, start) => {
-            slots::clear_slots(store, start, count as usize, settings.size as usize + 2);
+            clear_slots(store, start, count as usize, settings.size as usize + 2);
             let mut next = held;
             next.places[i] = places::place_of(settings, count, start as u32);
             Kept {

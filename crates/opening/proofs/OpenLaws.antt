@@ -29,8 +29,8 @@ use Rattle.contents.specs.Slots.{cleared}
 use Rattle.contents.specs.Contents.{holding, contents}
 use Rattle.contents.proofs.Bytes.{length-cleared}
 use Rattle.contents.proofs.Places.{apart-meets, clearing-empties, clearing-leaves}
-use Rattle.record.specs.Open.{Plan, refuse, take, planOf, Opening, openOf}
-use Rattle.record.proofs.PlanLaws.{Fitting, Taking, Reason, held, full, lacking, reason, taking, plan-room, open-by}
+use Rattle.opening.specs.Open.{Plan, refuse, take, planOf, Opening, openOf}
+use Rattle.opening.proofs.PlanLaws.{Fitting, Taking, Reason, held, full, lacking, reason, taking, plan-room, open-by}
 
 -- settings that fit name a resource
 resource-used : (g : Settings) → settingsFit g ≡ true → g .resource ≡ 0 → ⊥

@@ -6,9 +6,9 @@ use native.Mathlib.Omega.{arith}
 use borrow.Author.Needs.{needs}
 use lib.ListN.{length, length-set}
 use Rattle.contents.specs.Slots.{cleared}
-use Rattle.record.proofs.SlotLaws.{cleared-step, cleared-none, rest-room}
-use Rattle.record.proofs.slots.clear_slots.Statement.{statement}
-use Rattle.record.proofs.slots.clear_slots.Tie as tie
+use Rattle.opening.proofs.ClearLaws.{cleared-step, cleared-none, rest-room}
+use Rattle.opening.proofs.clear_slots.Statement.{statement}
+use Rattle.opening.proofs.clear_slots.Tie as tie
 
 abbrev Inv-loop : tie.InvT-loop
 Inv-loop store₀ start count width at₀ left₀ store at left =

@@ -17,9 +17,9 @@ use Rattle.places.specs.declared.Found.the-variants.{At, Nothing}
 use Rattle.places.specs.Places.{coverOf, placeOf, countFits, good, placeNamed, firstUnused}
 use Rattle.places.specs.Room.{lowestStart}
 use Rattle.contents.specs.Slots.{cleared}
-use Rattle.record.specs.declared.opening.Planned.the-variants.{Refuse, Take}
-use Rattle.record.specs.Inner.{planned}
-use Rattle.record.specs.Open.{Plan, refuse, take, withStart, withUnused, withHolder, planOf, Opening, carriedOut, openOf, Opens}
+use Rattle.opening.specs.declared.Planned.the-variants.{Refuse, Take}
+use Rattle.opening.specs.Inner.{planned}
+use Rattle.opening.specs.Open.{Plan, refuse, take, withStart, withUnused, withHolder, planOf, Opening, carriedOut, openOf, Opens}
 
 -- ---- a place and a start, where nothing before refuses
 

@@ -3,10 +3,10 @@ use mathlib.Core.Path.{_≡_, sym, ap, _∙_}
 use native.Mathlib.Omega.{arith}
 use Rattle.places.specs.declared.Found.the-variants.{At}
 use Rattle.places.specs.Places.{firstUnused}
-use Rattle.record.specs.Inner.{planned}
-use Rattle.record.proofs.PlanLaws.{room-full, room-none, room-take}
-use Rattle.record.proofs.opening.room_for.Statement.{statement}
-use Rattle.record.proofs.opening.room_for.Tie as tie
+use Rattle.opening.specs.Inner.{planned}
+use Rattle.opening.proofs.PlanLaws.{room-full, room-none, room-take}
+use Rattle.opening.proofs.room_for.Statement.{statement}
+use Rattle.opening.proofs.room_for.Tie as tie
 
 -- the unused place that was found
 unused : (c : tie.After-place) → firstUnused (c .before .before .before .args .held .places) ≡ At (c .place .given .0 .0)

@@ -16,7 +16,7 @@ use Rattle.places.specs.declared.Found.the-variants.{At, Nothing}
 use Rattle.places.specs.Places.{unused, good, placeNamed}
 use Rattle.places.proofs.Holders.{found-names, named-gone, named-left}
 use Rattle.places.proofs.Keeping.{good-unset}
-use Rattle.record.specs.Open.{closedAt, closeOf}
+use Rattle.opening.specs.Open.{closedAt, closeOf}
 
 -- ---- case by case, in the order 9, 10
 

@@ -1,0 +1,4 @@
+pub mod ClearLaws
+pub mod PlanLaws
+pub mod OpenLaws
+pub mod CloseLaws
