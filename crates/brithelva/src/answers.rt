@@ -1,4 +1,4 @@
-// Answers as one number, and bytes put at the start of an output: the header include/brithelva.h says how.
+// Answers as one number: the header include/brithelva.h says how.
 ghost use mathlib.Core.Path.{_≡_};
 ghost use Prim.Native.Nat.{_<_};
 ghost use Rattle.refusals.specs.Told.{refusedAs, verdictTold};
@@ -6,7 +6,7 @@ ghost use Rattle.pack.specs.Told.{packedTold};
 ghost use Rattle.record.specs.Told.{offeredTold};
 ghost use Rattle.readout.specs.declared.Standing.the-variants.{Filled};
 ghost use Rattle.readout.specs.Told.{standingTold};
-ghost use Rattle.face.specs.Face.{answerOf, Says, puts, putsIf};
+ghost use Rattle.face.specs.Face.{answerOf, Says, putsIf};
 use pack::Packed;
 use places::Found;
 use readout::Standing;
@@ -16,9 +16,6 @@ use refusals::Verdict;
 
 // Record's number, for bytes lent as a record that are not 128.
 pub(crate) const NO_RECORD: u64 = 9;
-
-// Output's number, for an output that is too short.
-pub(crate) const NO_ROOM: u64 = 26;
 
 // A refusal's number and value.
 pub(crate) fn refused(r: Refusal) -> u64
@@ -81,23 +78,12 @@ pub(crate) fn standing_as(standing: Standing) -> u64
     }
 }
 
-// The bytes at the start of the output, if it has room.
-pub(crate) fn put(bytes: &[u8], out: &mut [u8]) -> u64
-    ensures { λ r. ⌜ Says (puts (now (bytes .entry)) (now (out .entry))) r (now (out .exit)) ⌝ }
-{
-    if out.len() < bytes.len() {
-        return NO_ROOM;
-    }
-    words::copy_in(out, 0, bytes);
-    0
-}
-
 // The bytes that go with a verdict.
 pub(crate) fn put_if(verdict: Verdict, bytes: &[u8], out: &mut [u8]) -> u64
     ensures { λ r. ⌜ Says (putsIf (verdictTold verdict) (now (bytes .entry)) (now (out .entry))) r (now (out .exit)) ⌝ }
 {
     match verdict {
-        Verdict::Accepted => put(bytes, out),
+        Verdict::Accepted => face::put(bytes, out),
         Verdict::Refused(r) => refused(r),
     }
 }

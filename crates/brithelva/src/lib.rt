@@ -4,11 +4,9 @@ ghost use lib.ListN.{length};
 ghost use Rattle.refusals.specs.Told.{verdictTold};
 ghost use Rattle.crc.specs.Crc.{crc32Of};
 ghost use Rattle.settings.specs.Settings.{house};
-ghost use Rattle.packet.specs.Told.{fieldList};
 ghost use Rattle.face.specs.Layout.{recordBytes};
-ghost use Rattle.face.specs.Face.{answerOf, Says, Keeps, puts, encodeSays, repairSays, readSays, packSays, openSays, offerSays, statusSays, handSays, closeSays};
+ghost use Rattle.face.specs.Face.{answerOf, Says, Keeps, encodeSays, repairSays, readSays, packSays, openSays, offerSays, statusSays, handSays, closeSays};
 use opening::Kept;
-use packet::Packet;
 use packet::Reading;
 use settings::Settings;
 
@@ -42,32 +40,13 @@ pub extern "C" fn bh_repair_row(row: &[u8], fixed: &mut [u8]) -> u64
     answers::put_if(verdict, &mended.row, fixed)
 }
 
-// The nine fields in the header's order, at the start of `out`.
-fn put_fields(f: Packet, out: &mut [u32]) -> u64
-    ensures { λ r. ⌜ Says (puts (fieldList f) (now (out .entry))) r (now (out .exit)) ⌝ }
-{
-    if out.len() < 9 {
-        return answers::NO_ROOM;
-    }
-    out[0] = f.resource as u32;
-    out[1] = f.number;
-    out[2] = f.update as u32;
-    out[3] = f.length as u32;
-    out[4] = f.count;
-    out[5] = f.kind as u32;
-    out[6] = f.protection as u32;
-    out[7] = f.rows as u32;
-    out[8] = f.reserved as u32;
-    0
-}
-
 // The fields of a packet as nine numbers, at the start of `fields`.
 #[no_mangle]
 pub extern "C" fn bh_read_fields(packet: &[u8], fields: &mut [u32]) -> u64
     ensures { λ r. ⌜ Says (readSays (now (packet .entry)) (now (fields .entry))) r (now (fields .exit)) ⌝ }
 {
     match packet::read_fields(packet) {
-        Reading::Sent(f) => put_fields(f, fields),
+        Reading::Sent(f) => face::put_fields(f, fields),
         Reading::Refused(r) => answers::refused(r),
     }
 }

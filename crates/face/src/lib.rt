@@ -1,9 +1,12 @@
-// The record as 128 bytes, read and written (specs/Layout.antt). Beside this code the crate has what each function of the C face answers and leaves (specs/), and the
-// laws of it (proofs/).
+// What the C face reads and writes of lent memory: the record as 128 bytes (specs/Layout.antt), bytes and fields put at the start of an output. Beside this code the
+// crate has what each function of the C face answers and leaves (specs/Face.antt), and the laws of it (proofs/).
 ghost use mathlib.Core.Path.{_≡_};
 ghost use Prim.Native.Nat.{_+_, _*_, _≤_};
 ghost use lib.ListN.{length};
+ghost use Rattle.packet.specs.Told.{fieldList};
+ghost use Rattle.face.specs.Face.{Says, puts};
 ghost use Rattle.face.specs.Layout.{two, four, placeIn, recordIn, placeBytes, recordBytes};
+use packet::Packet;
 use places::Place;
 use places::Record;
 
@@ -115,4 +118,37 @@ pub fn record_bytes(held: Record) -> [u8; 128]
         i += 1;
     }
     out
+}
+
+// Output's number, for an output that is too short.
+const NO_ROOM: u64 = 26;
+
+// The bytes at the start of the output, if it has room.
+pub fn put(bytes: &[u8], out: &mut [u8]) -> u64
+    ensures { λ r. ⌜ Says (puts (now (bytes .entry)) (now (out .entry))) r (now (out .exit)) ⌝ }
+{
+    if out.len() < bytes.len() {
+        return NO_ROOM;
+    }
+    words::copy_in(out, 0, bytes);
+    0
+}
+
+// The nine fields in the header's order, at the start of `out`.
+pub fn put_fields(f: Packet, out: &mut [u32]) -> u64
+    ensures { λ r. ⌜ Says (puts (fieldList f) (now (out .entry))) r (now (out .exit)) ⌝ }
+{
+    if out.len() < 9 {
+        return NO_ROOM;
+    }
+    out[0] = f.resource as u32;
+    out[1] = f.number;
+    out[2] = f.update as u32;
+    out[3] = f.length as u32;
+    out[4] = f.count;
+    out[5] = f.kind as u32;
+    out[6] = f.protection as u32;
+    out[7] = f.rows as u32;
+    out[8] = f.reserved as u32;
+    0
 }

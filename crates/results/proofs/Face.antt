@@ -7,6 +7,12 @@ use Rattle.results.proofs.Lent.{after, lent}
 use Rattle.face.proofs as face
 use Rattle.brithelva.proofs as brithelva
 
+pub put-one : OneResult face.put.ended face.put.Reads.Learnt
+put-one κs a r s d e p q = (equation (p .answers) (q .answers), after 1 (lent (equation (p .leaves) (q .leaves)) refl))
+
+pub put-fields-one : OneResult face.put_fields.ended face.put_fields.Reads.Learnt
+put-fields-one κs a r s d e p q = (equation (p .answers) (q .answers), after 1 (lent (equation (p .leaves) (q .leaves)) refl))
+
 pub record-in-one : OneResult face.record_in.ended face.record_in.Reads.Learnt
 record-in-one κs a r s d e p q = (equation p q, refl)
 

@@ -1,5 +1,5 @@
 -- The record's bytes are as many as those that they replace.
-use mathlib.Core.Path.{ap, _∙_}
+use mathlib.Core.Path.{_∙_}
 use native.Mathlib.Omega.{arith}
 use Rattle.ground.proofs.Writing.{sets-all}
 use Rattle.brithelva.proofs.put_kept.Statement.{statement}

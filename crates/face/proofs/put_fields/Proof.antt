@@ -2,9 +2,9 @@
 use mathlib.Core.Path.{refl}
 use native.Mathlib.Omega.{arith}
 use lib.ListN.{length-set}
 use Rattle.face.proofs.SayLaws.{puts-short, puts-fits}
-use Rattle.brithelva.proofs.put_fields.Statement.{statement}
-use Rattle.brithelva.proofs.put_fields.Tie as tie
+use Rattle.face.proofs.put_fields.Statement.{statement}
+use Rattle.face.proofs.put_fields.Tie as tie
 
 returns : tie.Need-returns
 returns c = puts-short _ _ _ (c .if1 .taken) refl

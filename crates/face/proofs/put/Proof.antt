@@ -1,9 +1,9 @@
 -- Where there is no room nothing is written and 26 is answered; else the bytes stand at the start.
 use mathlib.Core.Path.{refl}
 use native.Mathlib.Omega.{arith}
 use Rattle.face.proofs.SayLaws.{puts-short, puts-fits}
-use Rattle.brithelva.proofs.answers.put.Statement.{statement}
-use Rattle.brithelva.proofs.answers.put.Tie as tie
+use Rattle.face.proofs.put.Statement.{statement}
+use Rattle.face.proofs.put.Tie as tie
 
 returns : tie.Need-returns
 returns c = puts-short _ _ _ (c .if1 .taken) refl
