@@ -76,10 +76,14 @@ cases:
 	@rt check cases
 	@tests/random-cases
 
-# the library, and on x86-64 the one that a fuzzer sees into. For each `rt` proves `brithelva` itself once more, and nothing below it
-library: build/libbrithelva.a
+# the library, and on x86-64 the one that a fuzzer sees into. For each `rt` proves `brithelva` itself once more, and nothing below it: so beside each other
 ifeq ($(machine),x86_64)
-library: build/watched.a
+library:
+	@mkdir -p build
+	@rt check brithelva >build/library.log 2>&1 || { cat build/library.log; exit 1; }
+	@$(MAKE) --no-print-directory -j2 beside=yes build/libbrithelva.a build/watched.a
+else
+library: build/libbrithelva.a
 endif
 
 command: build/run
@@ -129,8 +133,9 @@ endif
 fuzz: build/run
 	@fuzz/run $(SECONDS) $(SEED)
 
-build/watched.a: build/libbrithelva.a fuzz/watched
-	@fuzz/watched $@ >build/watched.log 2>&1 || { echo 'fuzz: the fuzzer does not see into the library here'; cp build/libbrithelva.a $@; }
+# empty where it cannot be had
+build/watched.a: $(if $(beside),,build/libbrithelva.a) fuzz/watched $(sources)
+	@fuzz/watched $@ >build/watched.log 2>&1 || { echo 'fuzz: the fuzzer does not see into the library here'; : >$@; }
 
 # ---- times beside other libraries, on this machine's own processor
 bench:
