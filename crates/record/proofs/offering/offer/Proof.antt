@@ -14,7 +14,7 @@ use Rattle.places.proofs.Steps.{mapped-length}
 use Rattle.places.proofs.Named.{names-in-use}
 use Rattle.places.proofs.Keeping.{good-at}
 use Rattle.places.proofs.Holders.{found-names}
-use Rattle.record.proofs.OfferCases.{told, come, refusal-read, offer-bad, offer-unread, offer-unknown, offer-placed}
+use Rattle.record.proofs.OfferCases.{told, come, offer-bad, offer-unread, offer-unknown, offer-placed}
 use Rattle.record.proofs.offering.offer.Statement.{statement}
 use Rattle.record.proofs.offering.offer.Tie as tie
 
@@ -22,16 +22,16 @@ use Rattle.record.proofs.offering.offer.Tie as tie
 well : (c : tie.Else1) → good (length (c .before .before .before .before .args .store .now)) (c .before .before .before .before .args .t1 .places) ≡ true
 well c = sym (c .before .is-good .ensures) ∙ not-false _ (c .if1 .left)
 
-read : (c : tie.After-known-told) → readOf (c .before .before .before .before .before .before .before .before .args .packet .now) ≡ Sent (c .before .reading .given .0 .0)
-read c = sym (c .before .before .before .read-fields .ensures) ∙ c .before .reading .given .1
+read : (c : tie.After-known-told2) → readOf (c .before .before .before .before .before .before .before .before .args .packet .now) ≡ Sent (c .before .fields .given .0 .0)
+read c = sym (c .before .before .before .read-fields .ensures) ∙ c .before .fields .given .1
 
-named : (c : tie.After-known-told2) → placeNamed (c .before .before .before .before .before .before .before .before .before .before .before .before .args .t1 .places) (c .before .before .before .before .before .reading .given .0 .0 .resource) ≡ At (c .before .i .given .0 .0)
+named : (c : tie.After-known-told3) → placeNamed (c .before .before .before .before .before .before .before .before .before .before .before .before .args .t1 .places) (c .before .before .before .before .before .fields .given .0 .0 .resource) ≡ At (c .before .i .given .0 .0)
 named c = sym (c .before .before .before .find-place .ensures) ∙ c .before .i .given .1
 
 eight : (c : tie.Start) → length (c .args .t1 .places) ≡ 8
 eight c = search (needs, mapped-length)
 
-below : (c : tie.After-known-told2) → c .before .i .given .0 .0 < 8
+below : (c : tie.After-known-told3) → c .before .i .given .0 .0 < 8
 below c = omega (arith, found-names _ _ _ (named c) .0, eight (c .before .before .before .before .before .before .before .before .before .before .before .before))
 
 is-good-requires : tie.Need-is-good-requires
@@ -43,19 +43,16 @@ returns c = told (offer-bad _ _ _ (sym (c .before .is-good .ensures) ∙ not-tru
 read-fields-requires : tie.Need-read-fields-requires
 read-fields-requires c κs = tt
 
-enum-known-reading : tie.Need-enum-known-reading
-enum-known-reading c = omega arith
-
-enum-told : tie.Need-enum-told
-enum-told c = omega arith
-
-refusal-in-requires : tie.Need-refusal-in-requires
-refusal-in-requires c κs = tt
+enum-known-refusal : tie.Need-enum-known-refusal
+enum-known-refusal c = omega arith
 
 returns-2 : tie.Need-returns-2
 returns-2 c =
     let s = c .before .before .before .before .before .before .before .before .args in
-    told (offer-unread (s .t1) (s .store .now) (s .packet .now) (well (c .before .before .before .before)) _ (sym (c .before .before .before .read-fields .ensures) ∙ refusal-read _ _ _ (c .before .enum-told .given .1) (c .refusal-in .ensures)))
+    told (offer-unread (s .t1) (s .store .now) (s .packet .now) (well (c .before .before .before .before)) _ (sym (c .before .before .before .read-fields .ensures) ∙ c .before .refusal .given .1))
+
+enum-known-fields : tie.Need-enum-known-fields
+enum-known-fields c = omega arith
 
 find-place-requires : tie.Need-find-place-requires
 find-place-requires c κs = tt
@@ -63,13 +60,13 @@ find-place-requires c κs = tt
 enum-known-i : tie.Need-enum-known-i
 enum-known-i c = omega arith
 
-enum-told-2 : tie.Need-enum-told-2
-enum-told-2 c = omega arith
+enum-told : tie.Need-enum-told
+enum-told c = omega arith
 
 returns-3 : tie.Need-returns-3
 returns-3 c =
     let s = c .before .before .before .before .before .before .before .before .before .before .before .args in
-    told (offer-unknown (s .t1) (s .store .now) (s .packet .now) (well (c .before .before .before .before .before .before .before)) _ (read (c .before .before .before)) (sym (c .before .before .find-place .ensures) ∙ c .enum-told2 .given .1))
+    told (offer-unknown (s .t1) (s .store .now) (s .packet .now) (well (c .before .before .before .before .before .before .before)) _ (read (c .before .before .before)) (sym (c .before .before .find-place .ensures) ∙ c .enum-told .given .1))
 
 mul-p : tie.Need-mul-p
 mul-p c = omega (arith, below c)
@@ -80,7 +77,8 @@ element-copy-out-p c = below c
 offer-at-requires : tie.Need-offer-at-requires
 offer-at-requires c κs =
     let n = named (c .before .before) in
-    (read (c .before .before .before .before .before .before), good-at _ _ _ (well (c .before .before .before .before .before .before .before .before .before .before)) (found-names _ _ _ n .0), names-in-use (getD (c .before .before .before .before .before .before .before .before .before .before .before .before .before .before .args .t1 .places) (c .before .before .before .i .given .0 .0) unused) _ (found-names _ _ _ n .1))
+    let p = getD (c .before .before .before .before .before .before .before .before .before .before .before .before .before .before .args .t1 .places) (c .before .before .before .i .given .0 .0) unused in
+    (read (c .before .before .before .before .before .before), good-at _ _ _ (well (c .before .before .before .before .before .before .before .before .before .before)) (found-names _ _ _ n .0), names-in-use p _ (found-names _ _ _ n .1))
 
 same-length : tie.Need-same-length
 same-length c = omega arith
@@ -97,13 +95,12 @@ offer-spec =
     is-good-requires
     returns
     read-fields-requires
-    enum-known-reading
-    enum-told
-    refusal-in-requires
+    enum-known-refusal
     returns-2
+    enum-known-fields
     find-place-requires
     enum-known-i
-    enum-told-2
+    enum-told
     returns-3
     mul-p
     element-copy-out-p
