@@ -14,7 +14,7 @@ use Rattle.refusals.specs.declared.Refusal.the-variants.{Unknown, Other, Wide, 
 use Rattle.refusals.specs.declared.Verdict.{Verdict}
 use Rattle.refusals.specs.declared.Verdict.the-variants as verdicts
 use Rattle.repair.specs.Repair.{mendingOf, Mends}
-use Rattle.repair.proofs.AllRows.{mend-accepted, mend-refused}
+use Rattle.repair.proofs.AllRows.{mend-refused}
 use Rattle.packet.specs.declared.Packet.{Packet}
 use Rattle.packet.specs.declared.Reading.{Reading}
 use Rattle.packet.specs.declared.Reading.the-variants.{Sent}
@@ -25,15 +25,13 @@ use Rattle.places.specs.declared.Found.the-variants.{At, Nothing}
 use Rattle.places.specs.Places.{unused, good, placeNamed}
 use Rattle.contents.specs.Slots.{lengthAt, stored}
 use Rattle.contents.specs.Contents.{holding, bytesAt, slotAt, lengthFits, slotOf}
-use Rattle.contents.proofs.Bytes.{length-bytes}
 use Rattle.contents.proofs.Slots.{slot-holds, slot-wrong, slot-empty}
 use Rattle.record.specs.declared.Offered.{Offered}
 use Rattle.record.specs.declared.Offered.the-variants.{Stored, Repeat, Refused}
 use Rattle.code.specs.Mend.{Mended, whole, broken, mendRows}
 use Rattle.record.specs.Mend.{payloadIn, mendedIn, agrees}
 use Rattle.record.specs.Offer.{differs, refuse, put, judgeMended, judge, same, Offering, storing, offerJudged, offerOf, judgeBy, offerBy}
-use Rattle.record.specs.InnerOffer.{Comes, refusalIn}
-use Rattle.record.proofs.SlotLaws.{same-lengths}
+use Rattle.record.specs.InnerOffer.{Comes, judgeCrc, refusalIn}
 
 abbrev pub said : Offered → List ℕ → Offering
 said a s = record { answer = a; store = s }
@@ -45,44 +43,42 @@ told e = (ap (λ (x : Offering). x .answer) (sym e), ap (λ (x : Offering). x .s
 pub come : {o o′ : Offering} {a : Offered} {s : List ℕ} → o ≡ o′ → Comes o′ a s → Comes o a s
 come e c = (c .0 ∙ ap (λ (x : Offering). x .answer) (sym e), c .1 ∙ ap (λ (x : Offering). x .store) (sym e))
 
--- ---- a payload and the slot of its number, which stands at at and has the length n
-module _ (p : Place) (s : List ℕ) (k : ℕ) (b : List ℕ) (at : ℕ) (d : at ≡ slotAt p k) (n : ℕ) (e : n ≡ lengthAt s at) where
+-- ---- a payload and the slot of its number, which stands at at and has the length n, where the CRC agrees with it
+
+pub put-crc : (p : Place) (s : List ℕ) (k : ℕ) (b : List ℕ) (a : Bool) → a ≡ false → offerJudged p s (judgeCrc k b a) ≡ said (Refused Crc) s
+put-crc p s k b a h = rw h refl
+
+module _ (p : Place) (s : List ℕ) (k : ℕ) (b : List ℕ) (a : Bool) (h : a ≡ true) (at : ℕ) (d : at ≡ slotAt p k) (n : ℕ) (e : n ≡ lengthAt s at) where
+  agreed : offerJudged p s (judgeCrc k b a) ≡ offerJudged p s (put k b)
+  agreed = rw h refl
+
   slot-length : lengthAt s (slotAt p k) ≡ n
   slot-length = sym (e ∙ ap (lengthAt s) d)
 
-  pub put-wrong : lengthFits p n ≡ false → offerJudged p s (put k b) ≡ said (Refused Slot) s
-  put-wrong h = rw (slot-wrong p s k (ap (lengthFits p) slot-length ∙ h)) refl
+  pub put-wrong : lengthFits p n ≡ false → offerJudged p s (judgeCrc k b a) ≡ said (Refused Slot) s
+  put-wrong f = agreed ∙ rw (slot-wrong p s k (ap (lengthFits p) slot-length ∙ f)) refl
 
-  pub put-empty : n ≡ 0 → offerJudged p s (put k b) ≡ said Stored (stored s at b)
-  put-empty z = rw (slot-empty p s k (slot-length ∙ z)) (ap (λ (x : ℕ). said Stored (stored s x b)) (sym d))
+  pub put-empty : n ≡ 0 → offerJudged p s (judgeCrc k b a) ≡ said Stored (stored s at b)
+  put-empty z = agreed ∙ rw (slot-empty p s k (slot-length ∙ z)) (ap (λ (x : ℕ). said Stored (stored s x b)) (sym d))
 
-  module _ (f : lengthFits p n ≡ true) (full : n ≡ 0 → ⊥) where
-    put-full : (t : Bool) → same (bytesAt s (slotAt p k + 2) n) b ≡ t → offerJudged p s (put k b) ≡ storing s (slotAt p k) b (cond t Repeat (Refused Conflict))
-    put-full t h = by n refl
+  -- a slot that holds something, and r says whether that is the payload
+  module _ (f : lengthFits p n ≡ true) (full : n ≡ 0 → ⊥) (r : Bool) (t : r ≡ same (bytesAt s (at + 2) n) b) where
+    put-full : offerJudged p s (judgeCrc k b a) ≡ storing s (slotAt p k) b (cond r Repeat (Refused Conflict))
+    put-full = agreed ∙ by n refl
       where
-        by : (m : ℕ) → n ≡ m → offerJudged p s (put k b) ≡ storing s (slotAt p k) b (cond t Repeat (Refused Conflict))
+        by : (m : ℕ) → n ≡ m → offerJudged p s (put k b) ≡ storing s (slotAt p k) b (cond r Repeat (Refused Conflict))
         by zero w = absurd (full w)
         by (suc m) w =
             let o : slotOf p s k ≡ holding (bytesAt s (slotAt p k + 2) (suc m)) =
             slot-holds p s k (suc m) (slot-length ∙ w) (sym (ap (lengthFits p) w) ∙ f) in
-            let y : same (bytesAt s (slotAt p k + 2) (suc m)) b ≡ t =
-            sym (ap (λ (x : ℕ). same (bytesAt s (slotAt p k + 2) x) b) w) ∙ h in
+            let y : same (bytesAt s (slotAt p k + 2) (suc m)) b ≡ r = sym (t ∙ ap₂ (λ (x y : ℕ). same (bytesAt s (x + 2) y) b) d w) in
             rw o (ap (λ (x : Bool). storing s (slotAt p k) b (cond x Repeat (Refused Conflict))) y)
 
-    -- another length
-    pub put-other : (n ≡ length b → ⊥) → offerJudged p s (put k b) ≡ said (Refused Conflict) s
-    put-other u = put-full false (same-lengths (bytesAt s (slotAt p k + 2) n) b (λ z. u (sym (length-bytes s (slotAt p k + 2) n) ∙ z)))
+    pub put-same : r ≡ true → offerJudged p s (judgeCrc k b a) ≡ said Repeat s
+    put-same w = put-full ∙ ap (λ (x : Bool). storing s (slotAt p k) b (cond x Repeat (Refused Conflict))) w
 
-    -- the same length, and r says whether the bytes are the same
-    module _ (l : n ≡ length b) (r : Bool) (t : r ≡ same (bytesAt s (at + 2) (length b)) b) where
-      compared : same (bytesAt s (slotAt p k + 2) n) b ≡ r
-      compared = ap₂ (λ (x y : ℕ). same (bytesAt s (x + 2) y) b) (sym d) l ∙ sym t
-
-      pub put-same : r ≡ true → offerJudged p s (put k b) ≡ said Repeat s
-      put-same h = put-full true (compared ∙ h)
-
-      pub put-conflict : r ≡ false → offerJudged p s (put k b) ≡ said (Refused Conflict) s
-      put-conflict h = put-full false (compared ∙ h)
+    pub put-conflict : r ≡ false → offerJudged p s (judgeCrc k b a) ≡ said (Refused Conflict) s
+    put-conflict w = put-full ∙ ap (λ (x : Bool). storing s (slotAt p k) b (cond x Repeat (Refused Conflict))) w
 
 -- ---- the payload of a packet
 
@@ -96,14 +92,18 @@ cut q = take (length q - 4 - 14) (drop 14 q)
 pub payload-cut : (q : List ℕ) → cut q ≡ payloadIn q
 payload-cut q = let e : length q - 4 - 14 ≡ length q - 18 = omega arith in ap (λ (n : ℕ). take n (drop 14 q)) e
 
-pub cut-length : (q : List ℕ) → 18 ≤ length q → length (cut q) ≡ length q - 18
-cut-length q h = ap length (payload-cut q) ∙ payload-length q h
+-- the rows of a protected one: at most fifteen
+pub rows-cut : (q : List ℕ) → 18 ≤ length q → length q ≤ 4095 → (length q - 18) % 255 ≡ 0 → (length (cut q) ≤ 3825) × (length (cut q) % 255 ≡ 0)
+rows-cut q h l m =
+    let e : length (cut q) ≡ length q - 18 = ap length (payload-cut q) ∙ payload-length q h in
+    let r : (length q - 18) / 255 ≤ 15 = omega arith in
+    (omega arith, ap (λ (n : ℕ). n % 255) e ∙ m)
 
--- the payload at the front of the buffer
-pub copied-part : (q l : List ℕ) → length (cut q) ≤ 3825 → l ≡ sets (replicate 3825 0) 0 (cut q) → take (length (cut q)) l ≡ cut q
-copied-part q l h e =
-    ap (take (length (cut q))) (e ∙ sets-front (replicate 3825 0) (cut q) (omega (arith, length-replicate {A = ℕ} 3825 0)))
-    ∙ take-at (cut q) (drop (length (cut q)) (replicate 3825 0)) (length (cut q)) refl
+-- a payload at the front of the buffer
+pub copied-part : (b l : List ℕ) → length b ≤ 3825 → l ≡ sets (replicate 3825 0) 0 b → take (length b) l ≡ b
+copied-part b l h e =
+    ap (take (length b)) (e ∙ sets-front (replicate 3825 0) b (omega (arith, length-replicate {A = ℕ} 3825 0)))
+    ∙ take-at b (drop (length b) (replicate 3825 0)) (length b) refl
 
 pub mended-plain : (t : ℕ) (q : List ℕ) → t ≡ 0 → mendedIn t q ≡ whole (payloadIn q)
 unfolding mendedIn
@@ -115,34 +115,17 @@ mended-rows t q z = rw (ne-eqb t 0 z) refl
 
 -- ---- a packet judged at a place
 
-module _ (k : ℕ) (q b : List ℕ) where
-  pub crc-wrong : agrees q b ≡ false → judgeMended k q (whole b) ≡ refuse Crc
-  crc-wrong h = rw h refl
+-- the payload is b, as it came or repaired, and r says whether the CRC agrees
+pub mended-crc : (k : ℕ) (q b : List ℕ) (m : Mended) → m ≡ whole b → (r : Bool) → r ≡ agrees q b → judgeMended k q m ≡ judgeCrc k b r
+mended-crc k q b m e r a = ap (judgeMended k q) e ∙ sym (ap (judgeCrc k b) a)
 
-  pub crc-right : agrees q b ≡ true → judgeMended k q (whole b) ≡ put k b
-  crc-right h = rw h refl
-
--- the payload is b, as it came or repaired
-module _ (p : Place) (s : List ℕ) (k : ℕ) (q b : List ℕ) (m : Mended) (e : m ≡ whole b) where
-  pub mended-wrong : agrees q b ≡ false → offerJudged p s (judgeMended k q m) ≡ said (Refused Crc) s
-  mended-wrong h = ap (offerJudged p s) (ap (judgeMended k q) e ∙ crc-wrong k q b h)
-
-  pub mended-right : agrees q b ≡ true → offerJudged p s (judgeMended k q m) ≡ offerJudged p s (put k b)
-  mended-right h = ap (offerJudged p s) (ap (judgeMended k q) e ∙ crc-right k q b h)
-
--- what the repair of a packet's rows was answered, and what it left
-module _ (q : List ℕ) (m : length (cut q) % 255 ≡ 0) (h : length (cut q) ≤ 3825) (v : Verdict) (l : List ℕ) (w : Mends (mendingOf (cut q)) v l) where
-  of-cut : (x : Mended) → mendRows (length (cut q) / 255) 0 (cut q) ≡ x → mendRows (length (payloadIn q) / 255) 0 (payloadIn q) ≡ x
-  of-cut x e = ap (λ (b : List ℕ). mendRows (length b / 255) 0 b) (sym (payload-cut q)) ∙ e
-
-  pub rows-whole : v ≡ verdicts.Accepted → mendRows (length (payloadIn q) / 255) 0 (payloadIn q) ≡ whole l
-  rows-whole e = of-cut (whole l) (mend-accepted (cut q) m h v l w e)
-
-  pub rows-broken : (p : Place) (s : List ℕ) (k : ℕ) (r : Refusal) → v ≡ verdicts.Refused r
-      → offerJudged p s (judgeMended k q (mendRows (length (payloadIn q) / 255) 0 (payloadIn q))) ≡ said (Refused r) s
-  rows-broken p s k r e =
-      let f = mend-refused (cut q) m h v l w r e in
-      ap (λ (x : Mended). offerJudged p s (judgeMended k q x)) (of-cut (broken (f .0)) (f .2)) ∙ ap (λ (x : Refusal). said (Refused x) s) (sym (f .1))
+-- what the repair of a payload's rows was answered
+module _ (b : List ℕ) (m : length b % 255 ≡ 0) (h : length b ≤ 3825) (v : Verdict) (l : List ℕ) (w : Mends (mendingOf b) v l) where
+  pub rows-broken : (p : Place) (s : List ℕ) (k : ℕ) (q : List ℕ) (r : Refusal) → v ≡ verdicts.Refused r
+      → offerJudged p s (judgeMended k q (mendRows (length b / 255) 0 b)) ≡ said (Refused r) s
+  rows-broken p s k q r e =
+      let f = mend-refused b m h v l w r e in
+      ap (λ (x : Mended). offerJudged p s (judgeMended k q x)) (f .2) ∙ ap (λ (x : Refusal). said (Refused x) s) (sym (f .1))
 
 module _ (p : Place) (f : Packet) (q : List ℕ) where
   pub judge-other : differs p f ≡ true → judge p f q ≡ refuse Other
@@ -160,16 +143,19 @@ module _ (p : Place) (f : Packet) (q : List ℕ) where
 
     -- what is put is the repaired payload, where its CRC agrees
     pub judge-puts : (b : List ℕ) → length (payloadIn q) ≤ p .slot → mendedIn (f .protection) q ≡ whole b → agrees q b ≡ true → judge p f q ≡ put (f .number) b
-    judge-puts b h m a = judge-mended h ∙ ap (judgeMended (f .number) q) m ∙ crc-right (f .number) q b a
+    judge-puts b h m a = judge-mended h ∙ mended-crc (f .number) q b (mendedIn (f .protection) q) m true (sym a)
 
-    -- the payload goes on as it came, or repaired
+    -- the payload goes on as it came, or to be repaired
     module _ (s : List ℕ) (h : length (payloadIn q) ≤ p .slot) where
-      pub offer-as-it-came : f .protection ≡ 0 → offerJudged p s (judge p f q) ≡ offerJudged p s (judgeMended (f .number) q (whole (payloadIn q)))
-      offer-as-it-came z = ap (offerJudged p s) (judge-mended h ∙ ap (judgeMended (f .number) q) (mended-plain (f .protection) q z))
+      pub offer-as-it-came : f .protection ≡ 0 → (r : Bool) → r ≡ agrees q (cut q) → offerJudged p s (judge p f q) ≡ offerJudged p s (judgeCrc (f .number) (cut q) r)
+      offer-as-it-came z r a =
+          ap (offerJudged p s) (judge-mended h ∙ mended-crc (f .number) q (cut q) (mendedIn (f .protection) q) (mended-plain (f .protection) q z ∙ ap whole (sym (payload-cut q))) r a)
 
       pub offer-repaired : (f .protection ≡ 0 → ⊥)
-          → offerJudged p s (judge p f q) ≡ offerJudged p s (judgeMended (f .number) q (mendRows (length (payloadIn q) / 255) 0 (payloadIn q)))
-      offer-repaired z = ap (offerJudged p s) (judge-mended h ∙ ap (judgeMended (f .number) q) (mended-rows (f .protection) q z))
+          → offerJudged p s (judge p f q) ≡ offerJudged p s (judgeMended (f .number) q (mendRows (length (cut q) / 255) 0 (cut q)))
+      offer-repaired z =
+          ap (offerJudged p s) (judge-mended h ∙ ap (judgeMended (f .number) q) (mended-rows (f .protection) q z))
+          ∙ ap (λ (b : List ℕ). offerJudged p s (judgeMended (f .number) q (mendRows (length b / 255) 0 b))) (sym (payload-cut q))
 
 -- ---- an offer to a record
 

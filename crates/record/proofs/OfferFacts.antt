@@ -4,7 +4,7 @@ use mathlib.Core.Path.{_≡_, refl, sym, ap, _∙_}
 use mathlib.Core.Logic.{⊎-elim}
 use mathlib.Core.Bool.{Bool, true, false, cond, not, _&&_}
 use mathlib.Core.List.{List}
-use Prim.Native.Nat.{ℕ, _+_, _-_, _%_, _<_, _≤_}
+use Prim.Native.Nat.{ℕ, _+_, _-_, _*_, _%_, _<_, _≤_}
 use native.Mathlib.Omega.{arith}
 use borrow.Author.Tests.{eq-eqb, ne-eqb, eqb-true, leb-false, ltb-false, not-false}
 use lib.Dec.{eqb, ltb}
@@ -118,3 +118,8 @@ slot-below n p f w b d =
 pub slot-room : (n : ℕ) (p : Place) (f : Packet) → PlaceFacts n p → (0 < f .kind → f .number < f .count) → differs p f ≡ false
     → slotAt p (f .number) + (p .slot + 2) ≤ n
 slot-room n p f w b d = omega (arith, slot-within p (f .number) (slot-below n p f w b d) .1, w .ends-within)
+
+-- where a slot starts, as the code reckons it
+pub slot-sum : (p : Place) (k : ℕ) → slotAt p k ≡ p .start + k * (p .slot + 2)
+unfolding slotAt
+slot-sum p k = refl

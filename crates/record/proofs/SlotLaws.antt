@@ -13,6 +13,7 @@ use lib.ListN.{length, getD, set, drop, drop-of-length-le}
 use lib.Seq.{sets, set-comm, drop-cons}
 use Rattle.contents.specs.Slots.{stored}
 use Rattle.contents.specs.Contents.{bytesAt}
+use Rattle.contents.proofs.Bytes.{length-bytes}
 use Rattle.record.specs.Offer.{same}
 
 -- ---- a payload first, then its length: the same as in the order in which they stand
@@ -29,38 +30,42 @@ stored-made s at b =
     ∙ set-before (set s at (length b % 256)) (at + 1) (length b / 256) (at + 2) b (omega arith)
     ∙ rw (add-two at, add-one at) refl
 
--- ---- comparing, a byte at a time: behind the first i bytes what is left says what all says
-pub record Comparing (s : List ℕ) (at : ℕ) (b : List ℕ) (i : ℕ) : Type 0 where
-  pub within : i ≤ length b
-  pub rest : same (bytesAt s (at + i) (length b - i)) (drop i b) ≡ same (bytesAt s at (length b)) b
+-- ---- comparing n bytes with as many, a byte at a time: behind the first i what is left says what all says
+pub record Comparing (s : List ℕ) (at n : ℕ) (b : List ℕ) (i : ℕ) : Type 0 where
+  pub whole : n ≡ length b
+  pub within : i ≤ n
+  pub rest : same (bytesAt s (at + i) (n - i)) (drop i b) ≡ same (bytesAt s at n) b
 
-pub comparing-begin : (s : List ℕ) (at : ℕ) (b : List ℕ) → Comparing s at b 0
-comparing-begin s at b =
-    let e : length b - 0 ≡ length b = omega arith in
-    record { within = omega arith; rest = ap₂ (λ (x y : ℕ). same (bytesAt s x y) b) (add-zero at) e }
+pub comparing-begin : (s : List ℕ) (at n : ℕ) (b : List ℕ) → n ≡ length b → Comparing s at n b 0
+comparing-begin s at n b w =
+    let e : n - 0 ≡ n = omega arith in
+    record { whole = w; within = omega arith; rest = ap₂ (λ (x y : ℕ). same (bytesAt s x y) b) (add-zero at) e }
 
-module _ (s : List ℕ) (at : ℕ) (b : List ℕ) (i : ℕ) (c : Comparing s at b i) where
-  pub comparing-end : length b ≤ i → true ≡ same (bytesAt s at (length b)) b
+module _ (s : List ℕ) (at n : ℕ) (b : List ℕ) (i : ℕ) (c : Comparing s at n b i) where
+  pub comparing-end : n ≤ i → true ≡ same (bytesAt s at n) b
   comparing-end h =
-      let e : length b - i ≡ 0 = omega arith in
-      sym (ap₂ (λ (n : ℕ) (l : List ℕ). same (bytesAt s (at + i) n) l) e (drop-of-length-le b h)) ∙ c .rest
+      let w : n ≡ length b = c .whole in
+      let e : n - i ≡ 0 = omega arith in
+      let o : length b ≤ i = omega arith in
+      sym (ap₂ (λ (m : ℕ) (l : List ℕ). same (bytesAt s (at + i) m) l) e (drop-of-length-le b o)) ∙ c .rest
 
-  module _ (h : i < length b) where
-    byte-on : same (bytesAt s (at + i) (length b - i)) (drop i b) ≡ (eqb (getD s (at + i) 0) (getD b i 0) && same (bytesAt s (at + (i + 1)) (length b - (i + 1))) (drop (i + 1) b))
+  module _ (h : i < n) where
+    byte-on : same (bytesAt s (at + i) (n - i)) (drop i b) ≡ (eqb (getD s (at + i) 0) (getD b i 0) && same (bytesAt s (at + (i + 1)) (n - (i + 1))) (drop (i + 1) b))
     byte-on =
-        let e : length b - i ≡ suc (length b - (i + 1)) = omega arith in
+        let w : n ≡ length b = c .whole in
+        let e : n - i ≡ suc (n - (i + 1)) = omega arith in
         let d : suc (at + i) ≡ at + (i + 1) = omega arith in
-        let t : drop i b ≡ getD b i 0 ∷ drop (i + 1) b = drop-cons b i 0 h ∙ ap (λ (n : ℕ). getD b i 0 ∷ drop n b) (sym (add-one i)) in
-        ap₂ (λ (n : ℕ) (l : List ℕ). same (bytesAt s (at + i) n) l) e t
-        ∙ ap (λ (n : ℕ). eqb (getD s (at + i) 0) (getD b i 0) && same (bytesAt s n (length b - (i + 1))) (drop (i + 1) b)) d
+        let t : drop i b ≡ getD b i 0 ∷ drop (i + 1) b = drop-cons b i 0 (omega arith) ∙ ap (λ (m : ℕ). getD b i 0 ∷ drop m b) (sym (add-one i)) in
+        ap₂ (λ (m : ℕ) (l : List ℕ). same (bytesAt s (at + i) m) l) e t
+        ∙ ap (λ (m : ℕ). eqb (getD s (at + i) 0) (getD b i 0) && same (bytesAt s m (n - (i + 1))) (drop (i + 1) b)) d
 
-    by-test : (t : Bool) → eqb (getD s (at + i) 0) (getD b i 0) ≡ t → (t && same (bytesAt s (at + (i + 1)) (length b - (i + 1))) (drop (i + 1) b)) ≡ same (bytesAt s at (length b)) b
-    by-test t e = sym (byte-on ∙ ap (λ (x : Bool). x && same (bytesAt s (at + (i + 1)) (length b - (i + 1))) (drop (i + 1) b)) e) ∙ c .rest
+    by-test : (t : Bool) → eqb (getD s (at + i) 0) (getD b i 0) ≡ t → (t && same (bytesAt s (at + (i + 1)) (n - (i + 1))) (drop (i + 1) b)) ≡ same (bytesAt s at n) b
+    by-test t e = sym (byte-on ∙ ap (λ (x : Bool). x && same (bytesAt s (at + (i + 1)) (n - (i + 1))) (drop (i + 1) b)) e) ∙ c .rest
 
-    pub comparing-more : getD s (at + i) 0 ≡ getD b i 0 → Comparing s at b (i + 1)
-    comparing-more e = record { within = omega arith; rest = by-test true (eq-eqb (getD s (at + i) 0) (getD b i 0) e) }
+    pub comparing-more : getD s (at + i) 0 ≡ getD b i 0 → Comparing s at n b (i + 1)
+    comparing-more e = record { whole = c .whole; within = omega arith; rest = by-test true (eq-eqb (getD s (at + i) 0) (getD b i 0) e) }
 
-    pub comparing-not : (getD s (at + i) 0 ≡ getD b i 0 → ⊥) → false ≡ same (bytesAt s at (length b)) b
+    pub comparing-not : (getD s (at + i) 0 ≡ getD b i 0 → ⊥) → false ≡ same (bytesAt s at n) b
     comparing-not d = by-test false (ne-eqb (getD s (at + i) 0) (getD b i 0) d)
 
 -- ---- `same` says that two lists are equal
@@ -86,6 +91,6 @@ same-differs a b d = by (same a b) refl
     by true e = absurd (d (same-equal a b e))
     by false e = refl
 
--- lists of other lengths differ
-pub same-lengths : (a b : List ℕ) → (length a ≡ length b → ⊥) → same a b ≡ false
-same-lengths a b d = same-differs a b (λ e. d (ap length e))
+-- as many bytes as are not those of a list differ from it
+pub same-lengths : (s : List ℕ) (at n : ℕ) (b : List ℕ) → (n ≡ length b → ⊥) → false ≡ same (bytesAt s at n) b
+same-lengths s at n b d = sym (same-differs (bytesAt s at n) b (λ e. d (sym (length-bytes s at n) ∙ ap length e)))

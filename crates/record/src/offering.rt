@@ -2,16 +2,15 @@
 // Refusals in the order 9, then 1 to 8 as the field reader gives them, then 10 to 16.
 ghost use mathlib.Core.Path.{_≡_};
 ghost use mathlib.Core.Bool.{true};
-ghost use Prim.Native.Nat.{_+_, _-_, _/_, _%_, _≤_};
+ghost use Prim.Native.Nat.{_+_, _/_, _%_, _≤_};
 ghost use lib.ListN.{length};
 ghost use Rattle.packet.specs.Packet.{readOf};
 ghost use Rattle.packet.specs.declared.Reading.the-variants.{Sent};
 ghost use Rattle.places.specs.Places.{inUse, fits};
 ghost use Rattle.contents.specs.Contents.{slotAt};
-ghost use Rattle.code.specs.Mend.{whole, mendRows};
-ghost use Rattle.record.specs.Mend.{payloadIn};
-ghost use Rattle.record.specs.Offer.{differs, put, judgeMended, judge, offerJudged, offerOf};
-ghost use Rattle.record.specs.InnerOffer.{Comes, refusalIn};
+ghost use Rattle.code.specs.Mend.{mendRows};
+ghost use Rattle.record.specs.Offer.{differs, judgeMended, judge, offerJudged, offerOf};
+ghost use Rattle.record.specs.InnerOffer.{Comes, judgeCrc, refusalIn};
 use super::Offered;
 use super::mend;
 use super::slots;
@@ -52,12 +51,15 @@ fn differs(p: Place, fields: Packet) -> bool
     fields.protection == 1 && fields.rows != p.rows
 }
 
-// A payload meets the slot of its number: an empty one takes it, and no other changes.
-fn put_in(p: Place, store: &mut [u8], number: u32, payload: &[u8]) -> Offered
+// A payload meets the slot of its number: an empty one takes it, and no other changes. Before that it is told whether the packet's CRC agrees with it.
+fn put_in(p: Place, store: &mut [u8], number: u32, payload: &[u8], agrees: bool) -> Offered
     requires { ⌜ (slotAt p number + (p .slot + 2) ≤ length (now store)) × (length (now payload) ≤ p .slot) ⌝ }
-    ensures { λ r. ⌜ Comes (offerJudged p (now (store .entry)) (put number (now (payload .entry)))) r (now (store .exit)) ⌝ }
+    ensures { λ r. ⌜ Comes (offerJudged p (now (store .entry)) (judgeCrc number (now (payload .entry)) agrees)) r (now (store .exit)) ⌝ }
 {
-    let at = slots::slot_at(p, number);
+    if !agrees {
+        return Offered::Refused(Refusal::Crc);
+    }
+    let at = p.start as usize + number as usize * (p.slot as usize + 2);
     let n = contents::slot_length(store, at);
     if !contents::length_fits(p, n) {
         return Offered::Refused(Refusal::Slot);
@@ -66,35 +68,17 @@ fn put_in(p: Place, store: &mut [u8], number: u32, payload: &[u8]) -> Offered
         slots::put_slot(store, at, payload);
         return Offered::Stored;
     }
-    if n != payload.len() {
-        return Offered::Refused(Refusal::Conflict);
-    }
-    if slots::same_bytes(store, at + 2, payload) {
+    if slots::same_bytes(store, at + 2, n, payload) {
         return Offered::Repeat;
     }
     Offered::Refused(Refusal::Conflict)
 }
 
-// A packet without protection: its payload goes on as it came.
-fn offer_plain(p: Place, store: &mut [u8], number: u32, packet: &[u8]) -> Offered
-    requires { ⌜ (slotAt p number + (p .slot + 2) ≤ length (now store)) × (19 ≤ length (now packet)) × (length (now packet) ≤ p .slot + 18) ⌝ }
-    ensures { λ r. ⌜ Comes (offerJudged p (now (store .entry)) (judgeMended number (now (packet .entry)) (whole (payloadIn (now (packet .entry)))))) r (now (store .exit)) ⌝ }
-{
-    let end = packet.len() - Packet::CRC;
-    let payload = &packet[Packet::HEADER..end];
-    if !mend::crc_agrees(packet, payload) {
-        return Offered::Refused(Refusal::Crc);
-    }
-    put_in(p, store, number, payload)
-}
-
 // A packet with protection: each row of its payload is repaired first, and the repaired payload goes on. There are fifteen rows at most.
-fn offer_rows(p: Place, store: &mut [u8], number: u32, packet: &[u8]) -> Offered
-    requires { ⌜ (slotAt p number + (p .slot + 2) ≤ length (now store)) × (19 ≤ length (now packet)) × (length (now packet) ≤ 4095) × (length (now packet) ≤ p .slot + 18) × ((length (now packet) - 18) % 255 ≡ 0) ⌝ }
-    ensures { λ r. ⌜ Comes (offerJudged p (now (store .entry)) (judgeMended number (now (packet .entry)) (mendRows (length (payloadIn (now (packet .entry))) / 255) 0 (payloadIn (now (packet .entry)))))) r (now (store .exit)) ⌝ }
+fn offer_rows(p: Place, store: &mut [u8], number: u32, packet: &[u8], payload: &[u8]) -> Offered
+    requires { ⌜ (slotAt p number + (p .slot + 2) ≤ length (now store)) × (14 ≤ length (now packet)) × (length (now payload) ≤ p .slot) × (length (now payload) ≤ 3825) × (length (now payload) % 255 ≡ 0) ⌝ }
+    ensures { λ r. ⌜ Comes (offerJudged p (now (store .entry)) (judgeMended number (now (packet .entry)) (mendRows (length (now (payload .entry)) / 255) 0 (now (payload .entry))))) r (now (store .exit)) ⌝ }
 {
-    let end = packet.len() - Packet::CRC;
-    let payload = &packet[Packet::HEADER..end];
     let n = payload.len();
     let mut buffer = [0u8; Packet::PROTECTED];
     words::copy_in(&mut buffer, 0, payload);
@@ -103,10 +87,7 @@ fn offer_rows(p: Place, store: &mut [u8], number: u32, packet: &[u8]) -> Offered
         return Offered::Refused(refusal);
     }
     let mended = &buffer[..n];
-    if !mend::crc_agrees(packet, mended) {
-        return Offered::Refused(Refusal::Crc);
-    }
-    put_in(p, store, number, mended)
+    put_in(p, store, number, mended, mend::crc_agrees(packet, mended))
 }
 
 // A packet that was read, at the place that holds its resource.
@@ -117,13 +98,21 @@ fn offer_at(p: Place, store: &mut [u8], fields: Packet, packet: &[u8]) -> Offere
     if differs(p, fields) {
         return Offered::Refused(Refusal::Other);
     }
-    if (p.slot as usize) < packet.len() - (Packet::HEADER + Packet::CRC) {
+    let end = packet.len() - Packet::CRC;
+    let payload = &packet[Packet::HEADER..end];
+    if (p.slot as usize) < payload.len() {
         return Offered::Refused(Refusal::Wide);
     }
     if fields.protection == 0 {
-        return offer_plain(p, store, fields.number, packet);
+        return put_in(
+            p,
+            store,
+            fields.number,
+            payload,
+            mend::crc_agrees(packet, payload),
+        );
     }
-    offer_rows(p, store, fields.number, packet)
+    offer_rows(p, store, fields.number, packet, payload)
 }
 
 // Offers one packet to the place that holds its resource. Its payload, repaired under protection, goes into the slot of its number if that is empty; a slot

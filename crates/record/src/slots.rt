@@ -3,16 +3,8 @@ ghost use mathlib.Core.Path.{_≡_};
 ghost use Prim.Native.Nat.{_+_, _≤_, _<_};
 ghost use lib.ListN.{length};
 ghost use Rattle.contents.specs.Slots.{stored};
-ghost use Rattle.contents.specs.Contents.{bytesAt, slotAt};
+ghost use Rattle.contents.specs.Contents.{bytesAt};
 ghost use Rattle.record.specs.Offer.{same};
-use places::Place;
-
-// Where slot `number` of a place starts.
-pub(crate) fn slot_at(p: Place, number: u32) -> usize
-    ensures { λ r. ⌜ r ≡ slotAt p number ⌝ }
-{
-    p.start as usize + number as usize * (p.slot as usize + 2)
-}
 
 // Puts a payload into the slot at `at`. Its length is written last: a process that is killed before leaves the slot empty.
 pub(crate) fn put_slot(store: &mut [u8], at: usize, payload: &[u8])
@@ -25,13 +17,16 @@ pub(crate) fn put_slot(store: &mut [u8], at: usize, payload: &[u8])
     store[at + 1] = (n / 256) as u8;
 }
 
-// Whether the bytes of `store` from `at` on begin with those of `payload`.
-pub(crate) fn same_bytes(store: &[u8], at: usize, payload: &[u8]) -> bool
+// Whether the `n` bytes of `store` from `at` on are those of `payload`.
+pub(crate) fn same_bytes(store: &[u8], at: usize, n: usize, payload: &[u8]) -> bool
     requires { ⌜ at + length (now payload) ≤ length (now store) ⌝ }
-    ensures { λ r. ⌜ r ≡ same (bytesAt (now (store .entry)) at (length (now (payload .entry)))) (now (payload .entry)) ⌝ }
+    ensures { λ r. ⌜ r ≡ same (bytesAt (now (store .entry)) at n) (now (payload .entry)) ⌝ }
 {
+    if n != payload.len() {
+        return false;
+    }
     let mut i: usize = 0;
-    while i < payload.len() {
+    while i < n {
         if store[at + i] != payload[i] {
             return false;
         }

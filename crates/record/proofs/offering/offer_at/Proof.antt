@@ -10,7 +10,7 @@ use Rattle.places.proofs.Facts.{PlaceFacts, place-facts}
 use Rattle.contents.specs.Contents.{slotAt}
 use Rattle.record.specs.Mend.{payloadIn}
 use Rattle.record.specs.Offer.{differs, offerJudged}
-use Rattle.record.proofs.OfferCases.{told, come, payload-length, judge-other, judge-wide, offer-as-it-came, offer-repaired}
+use Rattle.record.proofs.OfferCases.{told, come, payload-cut, rows-cut, judge-other, judge-wide, offer-as-it-came, offer-repaired}
 use Rattle.record.proofs.OfferFacts.{slot-room}
 use Rattle.record.proofs.offering.offer_at.Statement.{statement}
 use Rattle.record.proofs.offering.offer_at.Tie as tie
@@ -28,10 +28,8 @@ alike c = sym (c .before .differs .ensures) ∙ c .if1 .left
 room : (c : tie.Else1) → slotAt (c .before .before .before .before .args .p) (c .before .before .before .before .args .fields .number) + (c .before .before .before .before .args .p .slot + 2) ≤ length (c .before .before .before .before .args .store .now)
 room c = slot-room _ _ _ (place (c .before .before .before .before)) (sent (c .before .before) .below) (alike c)
 
-narrow : (c : tie.Else2) → length (payloadIn (c .before .before .before .before .before .before .args .packet .now)) ≤ c .before .before .before .before .before .before .args .p .slot
-narrow c =
-    let s = sent (c .before .before .before .before) in
-    omega (arith, payload-length (c .before .before .before .before .before .before .args .packet .now) (omega arith))
+narrow : (c : tie.Else2) → length (payloadIn (c .before .before .before .before .before .before .before .args .packet .now)) ≤ c .before .before .before .before .before .before .before .args .p .slot
+narrow c = omega (arith, ap length (payload-cut (c .before .before .before .before .before .before .before .args .packet .now)))
 
 differs-requires : tie.Need-differs-requires
 differs-requires c κs = tt
@@ -39,42 +37,53 @@ differs-requires c κs = tt
 returns : tie.Need-returns
 returns c = told (ap (offerJudged _ _) (judge-other _ _ _ (sym (c .before .differs .ensures) ∙ c .if1 .taken)))
 
+sub-end : tie.Need-sub-end
+sub-end c = let s = sent (c .before .before) in omega arith
+
+sub-payload : tie.Need-sub-payload
+sub-payload c = let s = sent (c .before .before) in omega arith
+
+part-payload-start : tie.Need-part-payload-start
+part-payload-start c = let s = sent (c .before .before) in omega arith
+
+part-payload-end : tie.Need-part-payload-end
+part-payload-end c = omega arith
+
 cast-if2 : tie.Need-cast-if2
 cast-if2 c = omega arith
 
-add-if2 : tie.Need-add-if2
-add-if2 c = omega arith
-
-sub-if2 : tie.Need-sub-if2
-sub-if2 c = let s = sent (c .before .before .before) in omega arith
-
 returns-2 : tie.Need-returns-2
 returns-2 c =
-    let s = sent (c .before .before .before .before) in
-    let q = c .before .before .before .before .before .before .args .packet .now in
-    told (ap (offerJudged _ _) (judge-wide _ _ q (alike (c .before .before)) (omega (arith, payload-length q (omega arith)))))
+    let q = c .before .before .before .before .before .before .before .args .packet .now in
+    told (ap (offerJudged _ _) (judge-wide _ _ q (alike (c .before .before .before)) (omega (arith, ap length (payload-cut q)))))
 
-offer-plain-requires : tie.Need-offer-plain-requires
-offer-plain-requires c κs =
-    let s = sent (c .before .before .before .before .before .before .before) in
-    (room (c .before .before .before .before .before), s .least, omega arith)
+crc-agrees-requires : tie.Need-crc-agrees-requires
+crc-agrees-requires c κs = let s = sent (c .before .before .before .before .before .before .before .before) in omega arith
+
+put-in-requires : tie.Need-put-in-requires
+put-in-requires c κs = (room (c .before .before .before .before .before .before .before), omega arith)
 
 same-length : tie.Need-same-length
 same-length c = omega arith
 
 returns-3 : tie.Need-returns-3
-returns-3 c = come (offer-as-it-came _ _ _ (alike (c .before .before .before .before .before .before .before .before)) _ (narrow (c .before .before .before .before .before .before)) (c .before .before .before .before .if3 .taken)) (c .before .before .offer-plain .ensures)
+returns-3 c =
+    let q = c .before .before .before .before .before .before .before .before .before .before .before .before .before .before .args .packet .now in
+    come (offer-as-it-came _ _ q (alike (c .before .before .before .before .before .before .before .before .before .before)) _ (narrow (c .before .before .before .before .before .before .before)) (c .before .before .before .before .before .if3 .taken) _ (c .before .before .before .crc-agrees .ensures)) (c .before .before .put-in .ensures)
 
 offer-rows-requires : tie.Need-offer-rows-requires
 offer-rows-requires c κs =
-    let s = sent (c .before .before .before .before .before .before .before) in
-    (room (c .before .before .before .before .before), s .least, s .most, omega arith, s .multiple (omega arith))
+    let s = sent (c .before .before .before .before .before .before .before .before) in
+    let r = rows-cut (c .before .before .before .before .before .before .before .before .before .before .args .packet .now) (omega arith) (omega arith) (s .multiple (omega arith)) in
+    (room (c .before .before .before .before .before .before), omega arith, omega arith, r .0, r .1)
 
 same-length-2 : tie.Need-same-length-2
 same-length-2 c = omega arith
 
 returns-4 : tie.Need-returns-4
-returns-4 c = come (offer-repaired _ _ _ (alike (c .before .before .before .before .before .before .before .before)) _ (narrow (c .before .before .before .before .before .before)) (c .before .before .before .before .if3 .left)) (c .before .before .offer-rows .ensures)
+returns-4 c =
+    let q = c .before .before .before .before .before .before .before .before .before .before .before .before .before .args .packet .now in
+    come (offer-repaired _ _ q (alike (c .before .before .before .before .before .before .before .before .before)) _ (narrow (c .before .before .before .before .before .before)) (c .before .before .before .before .if3 .left)) (c .before .before .offer-rows .ensures)
 
 pub offer-at-spec : {M : Type 1} → statement M
 offer-at-spec =
@@ -82,11 +91,14 @@ offer-at-spec =
     (tie.spec
     differs-requires
     returns
+    sub-end
+    sub-payload
+    part-payload-start
+    part-payload-end
     cast-if2
-    add-if2
-    sub-if2
     returns-2
-    offer-plain-requires
+    crc-agrees-requires
+    put-in-requires
     same-length
     returns-3
     offer-rows-requires
