@@ -112,10 +112,10 @@ module _ (t : List ℕ) (n : length t ≡ 512) (es : List (List ℕ)) (same : en
         ap (λ (m : ℕ). both (getD t m 0) (getD t (m + 1) 0)) e ∙ sym (entry-is i (omega arith)) ∙ at k v h j;
   }
 
--- the generator's array, without its leading coefficient, in two words
-pub own-words : (g : List ℕ) (x y : ℕ) → g ≡ generator → unpack 8 x ≡ column g 1 1 8 → unpack 8 y ≡ column g 1 9 8 → both x y ≡ lower
+-- the generator, without its leading coefficient, in two words
+pub own-words : (x y : ℕ) → unpack 8 x ≡ column generator 1 1 8 → unpack 8 y ≡ column generator 1 9 8 → both x y ≡ lower
 unfolding both generator lower
-own-words g x y e p q = ap₂ _++_ p q ∙ ap (λ (l : List ℕ). column l 1 1 8 ++ column l 1 9 8) e
+own-words x y p q = ap₂ _++_ p q
 
 pub from-generator : (u v x y : ℕ) (t : List ℕ) → both x y ≡ lower → length t ≡ 508 → take 32 (both u v ∷ lower ∷ entries t) ≡ rows
     → drop 32 (both u v ∷ lower ∷ entries t) ≡ map (follow (both u v ∷ lower ∷ entries t)) (take 224 (both u v ∷ lower ∷ entries t))

@@ -20,7 +20,7 @@ pub struct Encoded {
 }
 
 // The generator's coefficients, the highest power first. The register's table takes its rule from them.
-const GENERATOR: [u8; 17] = [
+pub(crate) const GENERATOR: [u8; 17] = [
     1,
     59,
     13,
@@ -57,7 +57,7 @@ pub fn encode_row(info: &[u8]) -> Encoded
             checks: [0u8; 16],
         };
     }
-    let t = register::table(GENERATOR);
+    let t = register::table();
     let q = register::checks(info, 0, &t);
     let checks = register::spread(q);
     Encoded {
@@ -78,7 +78,7 @@ pub fn put_rows(file: &[u8], m: usize, at: usize, n: usize, out: &mut [u8]) -> V
     if out.len() < n * 255 {
         return Verdict::Refused(Refusal::Output);
     }
-    let t = register::table(GENERATOR);
+    let t = register::table();
     encode::rows(file, m, at, n, &t, out);
     Verdict::Accepted
 }
@@ -88,7 +88,7 @@ pub fn put_rows(file: &[u8], m: usize, at: usize, n: usize, out: &mut [u8]) -> V
 pub fn remainders(rows: &[u8]) -> [u8; 240]
     ensures { λ r. ⌜ r ≡ remaindersOf (now (rows .entry)) ⌝ }
 {
-    let t = register::table(GENERATOR);
+    let t = register::table();
     let n = rows_in(rows.len());
     let mut out = [0u8; 240];
     let mut i: usize = 0;

@@ -4,7 +4,6 @@ ghost use mathlib.Core.Path.{_≡_};
 ghost use Prim.Native.Nat.{_+_, _*_, _%_, _<_, _≤_};
 ghost use lib.ListN.{length};
 ghost use lib.Seq.{sets};
-ghost use Rattle.code.specs.Code.{generator as generatorOf};
 ghost use Rattle.code.specs.Register.{run};
 ghost use Rattle.code.specs.Search.{remainder};
 ghost use Rattle.code.specs.Repair.{checksOf};
@@ -24,21 +23,14 @@ pub(crate) struct Two {
 }
 
 // The table. The entry of 1 at the lowest place is the generator itself, without its leading coefficient; the others are multiples of it.
-pub(crate) fn table(generator: [u8; 17]) -> [u64; 512]
-    requires { ⌜ generator ≡ generatorOf ⌝ }
+pub(crate) fn table() -> [u64; 512]
     ensures { λ t. ⌜ Halves t ⌝ }
 {
+    let generator = crate::GENERATOR;
     let mut t = halves::HALVES;
     t[2] = word(&generator, 1, 1);
     t[3] = word(&generator, 1, 9);
     t
-}
-
-// The lowest half byte.
-fn half(w: u64) -> usize
-    ensures { λ r. ⌜ r ≡ w % 16 ⌝ }
-{
-    (w % 16) as usize
 }
 
 // The register after the eight bytes of `x`.
@@ -51,7 +43,7 @@ fn turn(r: Reg, x: u64, t: &[u64; 512]) -> Reg
     let mut l: u64 = 0;
     let mut k: usize = 0;
     while k < 16 {
-        let i = 32 * k + 2 * half(w);
+        let i = 32 * k + 2 * (w % 16) as usize;
         h = h ^ t[i];
         l = l ^ t[i + 1];
         w = w / 16;

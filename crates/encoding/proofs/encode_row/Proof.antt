@@ -6,7 +6,6 @@ use Prim.Native.Nat.{ℕ}
 use lib.ListN.{length}
 use borrow.Author.Tests.{eq-eqb, ne-eqb}
 use Rattle.refusals.specs.declared.Verdict.the-variants.{Accepted}
-use Rattle.code.specs.Code.{generator}
 use Rattle.code.specs.Repair.{checksOf}
 use Rattle.encoding.specs.Encode.{encodeOf}
 use Rattle.encoding.proofs.Feeding.{part-whole}
@@ -19,8 +18,7 @@ unfolding encodeOf
 returns c = rw (ne-eqb (length (c .before .before .args .info .now)) 239 (search needs))
 
 table-requires : tie.Need-table-requires
-unfolding generator
-table-requires c κs = refl
+table-requires c κs = tt
 
 checks-requires : tie.Need-checks-requires
 checks-requires c κs = search needs

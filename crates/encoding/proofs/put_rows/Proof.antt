@@ -3,7 +3,6 @@
 use borrow.Author.Needs.{needs}
 use mathlib.Core.Path.{refl}
 use native.Mathlib.Omega.{arith}
-use Rattle.code.specs.Code.{generator}
 use Rattle.encoding.proofs.Serving.{put-served, put-refused, put-short, put-written}
 use Rattle.encoding.proofs.put_rows.Statement.{statement}
 use Rattle.encoding.proofs.put_rows.Tie as tie
@@ -23,8 +22,7 @@ returns-2 : tie.Need-returns-2
 returns-2 c = put-short _ _ _ _ _ _ (c .before .before .serves .ensures) (c .before .if1 .left) (search needs)
 
 table-requires : tie.Need-table-requires
-unfolding generator
-table-requires c κs = refl
+table-requires c κs = tt
 
 rows-requires : tie.Need-rows-requires
 rows-requires c κs =

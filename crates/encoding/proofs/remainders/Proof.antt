@@ -8,7 +8,6 @@ use native.Mathlib.Omega.{arith}
 use lib.ListN.{length, replicate}
 use lib.Seq.{sets}
 use Rattle.ground.proofs.Pieces.{pieces, pieces-one, Laid, laid-start, laid-more, laid-done}
-use Rattle.code.specs.Code.{generator}
 use Rattle.code.specs.Search.{remainder}
 use Rattle.encoding.specs.Encode.{restOf, rowsIn, remaindersOf}
 use Rattle.encoding.specs.InnerRegister.{part}
@@ -30,8 +29,7 @@ abbrev μ-loop : tie.MeasureT-loop
 μ-loop rows t n out₀ i₀ out i = n - i
 
 table-requires : tie.Need-table-requires Inv-loop μ-loop
-unfolding generator
-table-requires c κs = refl
+table-requires c κs = tt
 
 rows-in-requires : tie.Need-rows-in-requires Inv-loop μ-loop
 rows-in-requires c κs = tt
