@@ -15,6 +15,10 @@ part d i n = listed (λ k. getD d k 0) n i
 abbrev pub column : List ℕ → ℕ → ℕ → ℕ → List ℕ
 column d m i n = listed (λ c. getD d (i + c * m) 0) n 0
 
+-- the information bytes of a row that starts at byte i of d and has them m apart, from its byte n on
+abbrev pub columnFrom : List ℕ → ℕ → ℕ → ℕ → List ℕ
+columnFrom d m i n = listed (λ c. getD d (i + c * m) 0) (239 - n) n
+
 -- the low k bytes of w, the top one first
 unfoldable pub unpack : ℕ → ℕ → List ℕ
 unpack zero w = []
