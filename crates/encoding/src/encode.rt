@@ -62,16 +62,6 @@ fn gather(file: &[u8], m: usize, at: usize, out: &mut [u8], o: usize)
     trail(file, m, at, c, out, o);
 }
 
-// Writes the row that starts at byte `at` of the file.
-fn one(file: &[u8], m: usize, at: usize, t: &[u64; 512], out: &mut [u8], o: usize)
-    requires { ⌜ (m ≤ 255) × (at ≤ 16777231) × Halves (now t) × (o + 255 ≤ length (now out)) ⌝ }
-    ensures { λ r. ⌜ now (out .exit) ≡ sets (now (out .entry)) o (rowsFrom (now (file .entry)) m at 1) ⌝ }
-{
-    gather(file, m, at, out, o);
-    let q = register::checks(out, o, t);
-    register::put(out, o + 239, q);
-}
-
 // Writes the two rows that start at bytes `at` and `at + 1` of the file.
 fn two(file: &[u8], m: usize, at: usize, t: &[u64; 512], out: &mut [u8], o: usize)
     requires { ⌜ (m ≤ 255) × (at ≤ 16777230) × Halves (now t) × (o + 510 ≤ length (now out)) ⌝ }
@@ -95,13 +85,15 @@ pub(crate) fn rows(file: &[u8], m: usize, at: usize, n: usize, t: &[u64; 512], o
     ensures { λ r. ⌜ now (out .exit) ≡ sets (now (out .entry)) 0 (rowsFrom (now (file .entry)) m at n) ⌝ }
 {
     let mut r: usize = 0;
-    while r < n {
-        if r + 2 <= n {
-            two(file, m, at + r, t, out, r * 255);
-            r += 2;
-        } else {
-            one(file, m, at + r, t, out, r * 255);
-            r += 1;
-        }
+    while r + 2 <= n {
+        two(file, m, at + r, t, out, r * 255);
+        r += 2;
     }
+    if n <= r {
+        return;
+    }
+    let o = r * 255;
+    gather(file, m, at + r, out, o);
+    let q = register::checks(out, o, t);
+    register::put(out, o + 239, q);
 }
