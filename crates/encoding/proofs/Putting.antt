@@ -15,7 +15,7 @@ use Rattle.ground.proofs.Pieces.{pieces-append, pieces-one, length-pieces, Laid
 use Rattle.code.specs.Repair.{checksOf}
 use Rattle.code.proofs.Division.{length-checks}
 use Rattle.encoding.specs.Put.{infoFrom, codedRow, rowsFrom}
-use Rattle.encoding.specs.InnerRegister.{part, column, unpack}
+use Rattle.encoding.specs.InnerRegister.{part, column, unpack, sealed}
 
 -- ---- places in the file
 
@@ -169,13 +169,11 @@ module _ (file : List ℕ) (m at : ℕ) (out : List ℕ) (o : ℕ) (room : o + 5
       ∙ ap (λ (j : ℕ). sets (sets out o (codedRow (info at))) (o + j) (codedRow (info (at + 1)))) (sym (length-row file m at))
       ∙ sym (sets-append out o (codedRow (info at)) (codedRow (info (at + 1)))) ∙ ap (sets out o) (sym rows-two)
 
-  pub rows-put : (u x y z c d : List ℕ) → u ≡ sets out o (info at) → x ≡ sets u (o + 255) (info (at + 1)) → c ≡ checksOf (part x o 239)
-      → d ≡ checksOf (part x (o + 255) 239) → y ≡ sets x (o + 239) c → z ≡ sets y (o + 255 + 239) d → z ≡ sets out o (rowsFrom file m at 2)
-  rows-put u x y z c d e f p q g h =
+  pub rows-put : (u x z : List ℕ) → u ≡ sets out o (info at) → x ≡ sets u (o + 255) (info (at + 1)) → z ≡ sealed x o → z ≡ sets out o (rowsFrom file m at 2)
+  rows-put u x z e f g =
       let i : x ≡ both-informed = f ∙ ap (λ (l : List ℕ). sets l (o + 255) (info (at + 1))) e in
-      let j : c ≡ checksOf (info at) = p ∙ ap checksOf (ap (λ (l : List ℕ). part l o 239) i ∙ first-part) in
-      let k : d ≡ checksOf (info (at + 1)) = q ∙ ap checksOf (ap (λ (l : List ℕ). part l (o + 255) 239) i ∙ second-part) in
-      h ∙ ap₂ (λ (l b : List ℕ). sets l (o + 255 + 239) b) (g ∙ ap₂ (λ (l a : List ℕ). sets l (o + 239) a) i j) k ∙ placed
+      g ∙ ap (λ (l : List ℕ). sealed l o) i
+      ∙ ap₂ (λ (c d : List ℕ). sets (sets both-informed (o + 239) (checksOf c)) (o + 255 + 239) (checksOf d)) first-part second-part ∙ placed
 
 -- ---- rows written one behind the other: r rows are; what is left makes what the whole makes
 abbrev pub Putting : List ℕ → ℕ → ℕ → ℕ → List ℕ → List ℕ → ℕ → Type 0

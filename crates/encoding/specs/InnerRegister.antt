@@ -4,8 +4,10 @@ use mathlib.Core.Path.{_≡_}
 use mathlib.Core.List.{List, [], _∷_, _++_}
 use Prim.Native.Nat.{ℕ, zero, suc, _+_, _-_, _*_, _/_, _%_, _^_, _<_, _≤_}
 use lib.ListN.{length, getD, replicate}
+use lib.Seq.{sets}
 use Rattle.ground.specs.Lists.{listed}
 use Rattle.code.specs.Register.{run}
+use Rattle.code.specs.Repair.{checksOf}
 
 -- n bytes of d, from byte i on
 abbrev pub part : List ℕ → ℕ → ℕ → List ℕ
@@ -18,6 +20,10 @@ column d m i n = listed (λ c. getD d (i + c * m) 0) n 0
 -- the information bytes of a row that starts at byte i of d and has them m apart, from its byte n on
 abbrev pub columnFrom : List ℕ → ℕ → ℕ → ℕ → List ℕ
 columnFrom d m i n = listed (λ c. getD d (i + c * m) 0) (239 - n) n
+
+-- the checks of two rows written behind their 239 bytes, which stand from byte i and from byte i + 255 of d on
+abbrev pub sealed : List ℕ → ℕ → List ℕ
+sealed d i = sets (sets d (i + 239) (checksOf (part d i 239))) (i + 255 + 239) (checksOf (part d (i + 255) 239))
 
 -- the low k bytes of w, the top one first
 unfoldable pub unpack : ℕ → ℕ → List ℕ

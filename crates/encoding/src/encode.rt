@@ -67,16 +67,9 @@ fn two(file: &[u8], m: usize, at: usize, t: &[u64; 512], out: &mut [u8], o: usiz
     requires { ⌜ (m ≤ 255) × (at ≤ 16777230) × Halves (now t) × (o + 510 ≤ length (now out)) ⌝ }
     ensures { λ r. ⌜ now (out .exit) ≡ sets (now (out .entry)) o (rowsFrom (now (file .entry)) m at 2) ⌝ }
 {
-    let behind = o + 255;
-    let first = o + 239;
-    let second = behind + 239;
     gather(file, m, at, out, o);
-    gather(file, m, at + 1, out, behind);
-    let q = register::checks_two(out, o, t);
-    let a = q.a;
-    let b = q.b;
-    register::put(out, first, a);
-    register::put(out, second, b);
+    gather(file, m, at + 1, out, o + 255);
+    register::seal_two(out, o, t);
 }
 
 // Writes the n rows from byte `at` of the file on to the start of `out`.

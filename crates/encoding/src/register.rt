@@ -7,19 +7,13 @@ ghost use lib.Seq.{sets};
 ghost use Rattle.code.specs.Register.{run};
 ghost use Rattle.code.specs.Search.{remainder};
 ghost use Rattle.code.specs.Repair.{checksOf};
-ghost use Rattle.encoding.specs.InnerRegister.{part, column, unpack, both, Halves, Feeding};
+ghost use Rattle.encoding.specs.InnerRegister.{part, column, unpack, both, sealed, Halves, Feeding};
 use crate::halves;
 
 // Sixteen bytes, the first one at the top of `h`.
 pub(crate) struct Reg {
     pub h: u64,
     pub l: u64,
-}
-
-// The registers of two rows.
-pub(crate) struct Two {
-    pub a: Reg,
-    pub b: Reg,
 }
 
 // The table. The entry of 1 at the lowest place is the generator itself, without its leading coefficient; the others are multiples of it.
@@ -96,13 +90,14 @@ pub(crate) fn checks(d: &[u8], at: usize, t: &[u64; 512]) -> Reg
     r
 }
 
-// The checks of two rows that stand one behind the other: of the 239 bytes from `at` on, and of those from `at + 255` on. The two registers take turns, so that
-// neither waits for the other.
-pub(crate) fn checks_two(d: &[u8], at: usize, t: &[u64; 512]) -> Two
-    requires { ⌜ (at + 494 ≤ length (now d)) × Halves (now t) ⌝ }
-    ensures { λ r. ⌜ (both (r .a .h) (r .a .l) ≡ checksOf (part (now (d .entry)) at 239)) × (both (r .b .h) (r .b .l) ≡ checksOf (part (now (d .entry)) (at + 255) 239)) ⌝ }
+// Writes the checks of two rows that stand one behind the other, each behind its 239 bytes: of the row from `at` on, and of the one from `at + 255` on. The two
+// registers take turns, so that neither waits for the other.
+pub(crate) fn seal_two(rows: &mut [u8], at: usize, t: &[u64; 512])
+    requires { ⌜ (at + 510 ≤ length (now rows)) × Halves (now t) ⌝ }
+    ensures { λ r. ⌜ now (rows .exit) ≡ sealed (now (rows .entry)) at ⌝ }
 {
     let from = at + 255;
+    let d: &[u8] = rows;
     let mut a = begin(d, at, t);
     let mut b = begin(d, from, t);
     let mut k: usize = 0;
@@ -111,7 +106,8 @@ pub(crate) fn checks_two(d: &[u8], at: usize, t: &[u64; 512]) -> Two
         b = go_on(b, d, from, k, t);
         k += 1;
     }
-    Two { a, b }
+    put(rows, at + 239, a);
+    put(rows, from + 239, b);
 }
 
 // The remainder of the row of 255 bytes from `at` on.
