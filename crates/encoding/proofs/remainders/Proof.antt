@@ -2,6 +2,7 @@
 -- Assumes nothing.
 use mathlib.Core.Path.{_≡_, refl, sym, ap, _∙_}
 use mathlib.Core.List.{List}
+use mathlib.Core.Logic.{⊎-elim}
 use Prim.Native.Nat.{ℕ, _+_, _-_, _*_, _/_, _<_, _≤_}
 use native.Mathlib.Nat.{min-le-left, min-le-right}
 use native.Mathlib.Omega.{arith}
@@ -23,19 +24,19 @@ unfolding restOf
 rest-is-of b i = refl
 
 abbrev Inv-loop : tie.InvT-loop
-Inv-loop rows t n out₀ i₀ out i = Laid (restOf rows) 16 (rowsIn rows) 0 (replicate 240 0) out i
+Inv-loop rows whole n t out₀ i₀ out i = Laid (restOf rows) 16 (rowsIn rows) 0 (replicate 240 0) out i
 
 abbrev μ-loop : tie.MeasureT-loop
-μ-loop rows t n out₀ i₀ out i = n - i
+μ-loop rows whole n t out₀ i₀ out i = n - i
 
 table-requires : tie.Need-table-requires Inv-loop μ-loop
 table-requires c κs = tt
 
-rows-in-requires : tie.Need-rows-in-requires Inv-loop μ-loop
-rows-in-requires c κs = tt
-
 loop-holds : tie.Need-loop-holds Inv-loop μ-loop
 loop-holds c = laid-start _ _ _ _ _
+
+counted : (c : tie.Joined1 Inv-loop μ-loop) → c .if1 .n ≡ rowsIn (c .before .before .args .rows .now)
+counted c = ⊎-elim (λ w. omega arith) (λ w. omega arith) (c .if1 .came)
 
 -- within the loop row i is there
 module _ (c : tie.In-loop Inv-loop μ-loop) where
@@ -43,7 +44,7 @@ module _ (c : tie.In-loop Inv-loop μ-loop) where
   b = c .before .before .before .before .before .args .rows .now
 
   inside : c .before .loop .i < rowsIn b
-  inside = rw (← c .before .before .rows-in .ensures) (c .loop-test .taken)
+  inside = rw (← counted (c .before .before .before)) (c .loop-test .taken)
 
   few : rowsIn b ≤ 15
   few = min-le-left 15 (length b / 255)
@@ -55,7 +56,7 @@ mul-rest : tie.Need-mul-rest Inv-loop μ-loop
 mul-rest c = record { fits = omega (arith, inside c, few c) }
 
 rest-requires : tie.Need-rest-requires Inv-loop μ-loop
-rest-requires c κs = (omega (arith, inside (c .before), there (c .before)), c .before .before .before .before .table .ensures)
+rest-requires c κs = (omega (arith, inside (c .before), there (c .before)), c .before .before .before .table .ensures)
 
 slice-aggregate-put : tie.Need-slice-aggregate-put Inv-loop μ-loop
 slice-aggregate-put c = omega arith
@@ -88,8 +89,8 @@ loop-again c =
 returns : tie.Need-returns Inv-loop μ-loop
 unfolding remaindersOf
 returns c =
-    let b : List ℕ = c .before .before .before .before .before .args .rows .now in
-    laid-done (restOf b) 16 (rowsIn b) 0 _ _ _ (rw (← c .before .before .rows-in .ensures) (c .loop-test .left)) (c .before .loop .inv)
+    let joined = c .before .before .before in
+    laid-done _ _ _ _ _ _ _ (rw (← counted joined) (c .loop-test .left)) (c .before .loop .inv)
 
 pub remainders-spec : {M : Type 1} → statement M
 remainders-spec =
@@ -98,7 +99,6 @@ remainders-spec =
     Inv-loop
     μ-loop
     table-requires
-    rows-in-requires
     loop-holds
     mul-rest
     rest-requires
