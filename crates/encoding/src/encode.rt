@@ -73,10 +73,12 @@ fn two(file: &[u8], m: usize, at: usize, t: &[u64; 512], out: &mut [u8], o: usiz
 }
 
 // Writes the n rows from byte `at` of the file on to the start of `out`.
-pub(crate) fn rows(file: &[u8], m: usize, at: usize, n: usize, t: &[u64; 512], out: &mut [u8])
-    requires { ⌜ (m ≤ 255) × (n ≤ 15) × (at ≤ 16777216) × Halves (now t) × (n * 255 ≤ length (now out)) ⌝ }
+pub(crate) fn rows(file: &[u8], m: usize, at: usize, n: usize, out: &mut [u8])
+    requires { ⌜ (m ≤ 255) × (n ≤ 15) × (at ≤ 16777216) × (n * 255 ≤ length (now out)) ⌝ }
     ensures { λ r. ⌜ now (out .exit) ≡ sets (now (out .entry)) 0 (rowsFrom (now (file .entry)) m at n) ⌝ }
 {
+    let table = register::table();
+    let t = &table;
     let mut r: usize = 0;
     while r + 2 <= n {
         two(file, m, at + r, t, out, r * 255);

@@ -56,12 +56,9 @@ pub fn encode_row(info: &[u8]) -> Encoded
             checks: [0u8; 16],
         };
     }
-    let t = register::table();
-    let q = register::checks(info, 0, &t);
-    let checks = register::spread(q);
     Encoded {
         verdict: Verdict::Accepted,
-        checks,
+        checks: register::row_checks(info),
     }
 }
 
@@ -77,8 +74,7 @@ pub fn put_rows(file: &[u8], m: usize, at: usize, n: usize, out: &mut [u8]) -> V
     if out.len() < n * 255 {
         return Verdict::Refused(Refusal::Output);
     }
-    let t = register::table();
-    encode::rows(file, m, at, n, &t, out);
+    encode::rows(file, m, at, n, out);
     Verdict::Accepted
 }
 

@@ -145,11 +145,14 @@ pub(crate) fn put(out: &mut [u8], at: usize, r: Reg)
     put_word(out, at + 8, r.l);
 }
 
-// The sixteen bytes of a register.
-pub(crate) fn spread(r: Reg) -> [u8; 16]
-    ensures { λ a. ⌜ a ≡ both (r .h) (r .l) ⌝ }
+// The checks of a row's 239 information bytes, which are all of `info`.
+pub(crate) fn row_checks(info: &[u8]) -> [u8; 16]
+    requires { ⌜ length (now info) ≡ 239 ⌝ }
+    ensures { λ r. ⌜ r ≡ checksOf (now (info .entry)) ⌝ }
 {
+    let t = table();
+    let q = checks(info, 0, &t);
     let mut a = [0u8; 16];
-    put(&mut a, 0, r);
+    put(&mut a, 0, q);
     a
 }

@@ -8,10 +8,13 @@ use Rattle.encoding.proofs.encode.rows.Statement.{statement}
 use Rattle.encoding.proofs.encode.rows.Tie as tie
 
 abbrev Inv-loop : tie.InvT-loop
-Inv-loop file m at n t out₀ r₀ out r = Putting file m at n out₀ out r
+Inv-loop file m at n out₀ t r₀ out r = Putting file m at n out₀ out r
 
 abbrev μ-loop : tie.MeasureT-loop
-μ-loop file m at n t out₀ r₀ out r = n - r
+μ-loop file m at n out₀ t r₀ out r = n - r
+
+table-requires : tie.Need-table-requires Inv-loop μ-loop
+table-requires c κs = tt
 
 loop-holds : tie.Need-loop-holds Inv-loop μ-loop
 loop-holds c = laid-start _ _ _ _ _
@@ -27,8 +30,8 @@ mul-two c = omega arith
 
 two-requires : tie.Need-two-requires Inv-loop μ-loop
 two-requires c κs =
-    let s = c .before .before .before .before .before .pre in
-    (s .0, omega arith, s .3, omega arith)
+    let made = c .before .before .before .before in
+    (made .before .before .before .pre .0, omega arith, made .table .ensures, omega arith)
 
 add-r : tie.Need-add-r Inv-loop μ-loop
 add-r c = omega arith
@@ -52,10 +55,10 @@ add-gather : tie.Need-add-gather Inv-loop μ-loop
 add-gather c = omega arith
 
 gather-requires : tie.Need-gather-requires Inv-loop μ-loop
-gather-requires c κs = (c .before .before .before .before .before .before .pre .0, omega arith, omega arith)
+gather-requires c κs = (c .before .before .before .before .before .before .before .before .pre .0, omega arith, omega arith)
 
 checks-requires : tie.Need-checks-requires Inv-loop μ-loop
-checks-requires c κs = (omega arith, c .before .before .before .before .before .before .before .before .before .before .pre .3)
+checks-requires c κs = (omega arith, c .before .before .before .before .before .before .before .before .before .table .ensures)
 
 add-put : tie.Need-add-put Inv-loop μ-loop
 add-put c = omega arith
@@ -81,6 +84,7 @@ rows-spec =
     (tie.spec
     Inv-loop
     μ-loop
+    table-requires
     loop-holds
     add-loop
     add-two
