@@ -3,7 +3,6 @@
 use mathlib.Core.Path.{refl, sym, _∙_}
 use Prim.Native.Nat.{ℕ, _-_}
 use native.Mathlib.Omega.{arith}
-use borrow.Author.Needs.{needs}
 use lib.Bits.{bitXor, xor-lt}
 use Rattle.code.proofs.Lists.{add-comm}
 use Rattle.encoding.specs.InnerRegister.{both, through}
@@ -59,7 +58,7 @@ returns : tie.Need-returns Inv-loop μ-loop
 returns c =
     let s = c .before .before .before .args in
     let w : ℕ = bitXor (s .r .h) (s .x) in
-    turning-done w (s .r .l) _ _ _ _ (c .loop-test .left) (xor-lt 64 (s .r .h) (s .x) (search needs) (search needs)) (c .before .loop .inv)
+    turning-done w (s .r .l) _ _ _ _ (c .loop-test .left) (xor-lt 64 (s .r .h) (s .x) (omega arith) (omega arith)) (c .before .loop .inv)
     ∙ add-comm (both (s .r .l) 0) (through w) ∙ sym (turned (s .r .h) (s .r .l) (s .x))
 
 pub turn-spec : {M : Type 1} → statement M
