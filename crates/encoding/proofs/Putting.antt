@@ -15,7 +15,7 @@ use Rattle.ground.proofs.Pieces.{pieces-append, pieces-one, length-pieces, Laid
 use Rattle.code.specs.Repair.{checksOf}
 use Rattle.code.proofs.Division.{length-checks}
 use Rattle.encoding.specs.Put.{infoFrom, codedRow, rowsFrom}
-use Rattle.encoding.specs.InnerRegister.{part, column, unpack, sealed}
+use Rattle.encoding.specs.InnerRegister.{part, column, unpack, checksAt, sealed}
 
 -- ---- places in the file
 
@@ -115,7 +115,8 @@ row-written l o info n =
     ap (λ (k : ℕ). sets (sets l o info) (o + k) (checksOf info)) (sym n) ∙ sym (sets-append l o info (checksOf info))
 
 pub row-put : (file : List ℕ) (m at : ℕ) (out : List ℕ) (o : ℕ) (x y c : List ℕ) → o + 255 ≤ length out → x ≡ sets out o (infoFrom file m at)
-    → c ≡ checksOf (part x o 239) → y ≡ sets x (o + 239) c → y ≡ sets out o (rowsFrom file m at 1)
+    → c ≡ checksAt x o → y ≡ sets x (o + 239) c → y ≡ sets out o (rowsFrom file m at 1)
+unfolding checksAt
 row-put file m at out o x y c h e f g =
     let info : List ℕ = infoFrom file m at in
     let n : length info ≡ 239 = length-info file m at in
@@ -170,6 +171,7 @@ module _ (file : List ℕ) (m at : ℕ) (out : List ℕ) (o : ℕ) (room : o + 5
       ∙ sym (sets-append out o (codedRow (info at)) (codedRow (info (at + 1)))) ∙ ap (sets out o) (sym rows-two)
 
   pub rows-put : (u x z : List ℕ) → u ≡ sets out o (info at) → x ≡ sets u (o + 255) (info (at + 1)) → z ≡ sealed x o → z ≡ sets out o (rowsFrom file m at 2)
+  unfolding sealed checksAt
   rows-put u x z e f g =
       let i : x ≡ both-informed = f ∙ ap (λ (l : List ℕ). sets l (o + 255) (info (at + 1))) e in
       g ∙ ap (λ (l : List ℕ). sealed l o) i

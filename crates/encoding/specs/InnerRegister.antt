@@ -6,6 +6,7 @@ use Prim.Native.Nat.{ℕ, zero, suc, _+_, _-_, _*_, _/_, _%_, _^_, _<_, _≤_}
 use lib.ListN.{length, getD, replicate}
 use lib.Seq.{sets}
 use Rattle.ground.specs.Lists.{listed}
+use Rattle.code.specs.Search.{remainder}
 use Rattle.code.specs.Register.{run}
 use Rattle.code.specs.Repair.{checksOf}
 
@@ -21,9 +22,17 @@ column d m i n = listed (λ c. getD d (i + c * m) 0) n 0
 abbrev pub columnFrom : List ℕ → ℕ → ℕ → ℕ → List ℕ
 columnFrom d m i n = listed (λ c. getD d (i + c * m) 0) (239 - n) n
 
+-- the checks of the 239 bytes of d from byte i on
+unfoldable pub checksAt : List ℕ → ℕ → List ℕ
+checksAt d i = checksOf (part d i 239)
+
+-- what the row of 255 bytes from byte i of d on leaves
+unfoldable pub remainderAt : List ℕ → ℕ → List ℕ
+remainderAt d i = remainder 239 (part d i 255)
+
 -- the checks of two rows written behind their 239 bytes, which stand from byte i and from byte i + 255 of d on
-abbrev pub sealed : List ℕ → ℕ → List ℕ
-sealed d i = sets (sets d (i + 239) (checksOf (part d i 239))) (i + 255 + 239) (checksOf (part d (i + 255) 239))
+unfoldable pub sealed : List ℕ → ℕ → List ℕ
+sealed d i = sets (sets d (i + 239) (checksAt d i)) (i + 255 + 239) (checksAt d (i + 255))
 
 -- the low k bytes of w, the top one first
 unfoldable pub unpack : ℕ → ℕ → List ℕ

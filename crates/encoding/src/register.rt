@@ -5,9 +5,8 @@ ghost use Prim.Native.Nat.{_+_, _*_, _%_, _<_, _≤_};
 ghost use lib.ListN.{length};
 ghost use lib.Seq.{sets};
 ghost use Rattle.code.specs.Register.{run};
-ghost use Rattle.code.specs.Search.{remainder};
 ghost use Rattle.code.specs.Repair.{checksOf};
-ghost use Rattle.encoding.specs.InnerRegister.{part, column, unpack, both, sealed, Halves, Feeding};
+ghost use Rattle.encoding.specs.InnerRegister.{column, unpack, both, checksAt, remainderAt, sealed, Halves, Feeding};
 use crate::halves;
 
 // Sixteen bytes, the first one at the top of `h`.
@@ -79,7 +78,7 @@ fn go_on(r: Reg, d: &[u8], at: usize, k: usize, t: &[u64; 512]) -> Reg
 // The checks of the 239 bytes of `d` from `at` on.
 pub(crate) fn checks(d: &[u8], at: usize, t: &[u64; 512]) -> Reg
     requires { ⌜ (at + 239 ≤ length (now d)) × Halves (now t) ⌝ }
-    ensures { λ r. ⌜ both (r .h) (r .l) ≡ checksOf (part (now (d .entry)) at 239) ⌝ }
+    ensures { λ r. ⌜ both (r .h) (r .l) ≡ checksAt (now (d .entry)) at ⌝ }
 {
     let mut r = begin(d, at, t);
     let mut k: usize = 0;
@@ -113,7 +112,7 @@ pub(crate) fn seal_two(rows: &mut [u8], at: usize, t: &[u64; 512])
 // The remainder of the row of 255 bytes from `at` on.
 pub(crate) fn rest(d: &[u8], at: usize, t: &[u64; 512]) -> Reg
     requires { ⌜ (at + 255 ≤ length (now d)) × Halves (now t) ⌝ }
-    ensures { λ r. ⌜ both (r .h) (r .l) ≡ remainder 239 (part (now (d .entry)) at 255) ⌝ }
+    ensures { λ r. ⌜ both (r .h) (r .l) ≡ remainderAt (now (d .entry)) at ⌝ }
 {
     let q = checks(d, at, t);
     Reg {

@@ -9,9 +9,8 @@ use native.Mathlib.Omega.{arith}
 use lib.ListN.{length, replicate}
 use lib.Seq.{sets}
 use Rattle.ground.proofs.Pieces.{pieces, pieces-one, Laid, laid-start, laid-more, laid-done}
-use Rattle.code.specs.Search.{remainder}
 use Rattle.encoding.specs.Encode.{restOf, rowsIn, remaindersOf}
-use Rattle.encoding.specs.InnerRegister.{part}
+use Rattle.encoding.specs.InnerRegister.{remainderAt}
 use Rattle.encoding.proofs.Feeding.{length-rest}
 use Rattle.encoding.proofs.remainders.Statement.{statement}
 use Rattle.encoding.proofs.remainders.Tie as tie
@@ -19,8 +18,8 @@ use Rattle.encoding.proofs.remainders.Tie as tie
 at-zero : (f : ℕ → List ℕ) (i : ℕ) → pieces f 1 (0 + i) ≡ f i
 at-zero f i = let e : 0 + i ≡ i = omega arith in pieces-one f (0 + i) ∙ ap f e
 
-rest-is-of : (b : List ℕ) (i : ℕ) → remainder 239 (part b (i * 255) 255) ≡ restOf b i
-unfolding restOf
+rest-is-of : (b : List ℕ) (i : ℕ) → remainderAt b (i * 255) ≡ restOf b i
+unfolding restOf remainderAt
 rest-is-of b i = refl
 
 abbrev Inv-loop : tie.InvT-loop

@@ -1,12 +1,11 @@
 -- `register::row_checks` writes what the register holds over sixteen zeros.
 -- Assumes nothing.
-use mathlib.Core.Path.{ap, _∙_}
+use mathlib.Core.Path.{_∙_}
 use native.Mathlib.Omega.{arith}
 use lib.ListN.{replicate}
 use Rattle.ground.proofs.Writing.{sets-all}
-use Rattle.code.specs.Repair.{checksOf}
 use Rattle.encoding.proofs.Words.{length-both}
-use Rattle.encoding.proofs.Feeding.{part-whole}
+use Rattle.encoding.proofs.Feeding.{checks-whole}
 use Rattle.encoding.proofs.register.row_checks.Statement.{statement}
 use Rattle.encoding.proofs.register.row_checks.Tie as tie
 
@@ -27,7 +26,7 @@ returns c =
     let checked = c .before .before .before in
     let s = checked .before .before .before .before in
     c .before .put .ensures ∙ sets-all (replicate 16 0) _ (length-both (checked .checks .result .h) (checked .checks .result .l))
-    ∙ checked .checks .ensures ∙ ap checksOf (part-whole (s .args .info .now) 239 (s .pre))
+    ∙ checked .checks .ensures ∙ checks-whole (s .args .info .now) (s .pre)
 
 pub row-checks-spec : {M : Type 1} → statement M
 row-checks-spec =

@@ -5,7 +5,7 @@ use mathlib.Core.List.{List}
 use Prim.Native.Nat.{ℕ, _+_, _-_}
 use native.Mathlib.Omega.{arith}
 use lib.Seq.{sets}
-use Rattle.encoding.specs.InnerRegister.{both, Feeding}
+use Rattle.encoding.specs.InnerRegister.{both, sealed, Feeding}
 use Rattle.encoding.proofs.Feeding.{feeding-done}
 use Rattle.encoding.proofs.register.seal_two.Statement.{statement}
 use Rattle.encoding.proofs.register.seal_two.Tie as tie
@@ -63,6 +63,7 @@ same-length : tie.Need-same-length Inv-loop μ-loop
 same-length c = omega arith
 
 returns : tie.Need-returns Inv-loop μ-loop
+unfolding sealed
 returns c =
     let first = c .before .before .before .before .before .before in
     let end = first .before .before in
