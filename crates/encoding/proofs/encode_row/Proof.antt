@@ -4,6 +4,8 @@ use mathlib.Core.Path.{_≡_, ap}
 use mathlib.Core.List.{List}
 use Prim.Native.Nat.{ℕ}
 use lib.ListN.{length}
+use native.Mathlib.Omega.{arith}
+use borrow.Author.Needs.{needs}
 use borrow.Author.Tests.{eq-eqb, ne-eqb}
 use Rattle.refusals.specs.declared.Verdict.the-variants.{Accepted}
 use Rattle.encoding.specs.Encode.{encodeOf}
@@ -12,15 +14,15 @@ use Rattle.encoding.proofs.encode_row.Tie as tie
 
 returns : tie.Need-returns
 unfolding encodeOf
-returns c = rw (ne-eqb (length (c .before .before .args .info .now)) 239 (c .if1 .taken))
+returns c = rw (ne-eqb (length (c .before .before .args .info .now)) 239 (search needs))
 
 row-checks-requires : tie.Need-row-checks-requires
-row-checks-requires c κs = c .if1 .left
+row-checks-requires c κs = omega arith
 
 returns-2 : tie.Need-returns-2
 unfolding encodeOf
 returns-2 c =
-    rw (eq-eqb (length (c .before .before .before .args .info .now)) 239 (c .before .if1 .left))
+    rw (eq-eqb (length (c .before .before .before .args .info .now)) 239 (omega arith))
     (ap (λ (l : List ℕ). record { verdict = Accepted; checks = l }) (c .row-checks .ensures))
 
 pub encode-row-spec : {M : Type 1} → statement M

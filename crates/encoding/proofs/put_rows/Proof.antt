@@ -17,22 +17,21 @@ mul-if2 c =
     omega (arith, f .count)
 
 returns-2 : tie.Need-returns-2
-returns-2 c = put-short _ _ _ _ _ _ (c .before .before .serves .ensures) (c .before .if1 .left) (c .if2 .taken)
+returns-2 c = put-short _ _ _ _ _ _ (c .before .before .serves .ensures) (c .before .if1 .left) (omega arith)
 
 rows-requires : tie.Need-rows-requires
 rows-requires c κs =
     let tested = c .before .before in
     let f = put-served _ _ _ _ _ (tested .before .serves .ensures) (tested .if1 .left) in
-    (f .rows, f .count, f .start, c .before .if2 .left)
+    (f .rows, f .count, f .start, omega arith)
 
 same-length : tie.Need-same-length
 same-length c = omega arith
 
 returns-3 : tie.Need-returns-3
 returns-3 c =
-    let room = c .before .before .before .before in
-    let tested = room .before in
-    put-written _ _ _ _ _ _ (tested .before .serves .ensures) (tested .if1 .left) _ (room .if2 .left) (c .before .before .rows .ensures)
+    let tested = c .before .before .before .before .before in
+    put-written _ _ _ _ _ _ (tested .before .serves .ensures) (tested .if1 .left) _ (omega arith) (c .before .before .rows .ensures)
 
 pub put-rows-spec : {M : Type 1} → statement M
 put-rows-spec =
