@@ -3,7 +3,7 @@
 use mathlib.Core.Path.{_≡_, refl, sym, ap, ap₂, _∙_, subst}
 use mathlib.Core.List.{List, [], _∷_, _++_}
 use Prim.Native.Nat.{ℕ, suc, _+_, _-_, _*_, _^_, _<_, _≤_}
-use native.Mathlib.Nat.{lt-of-lt-of-le}
+use native.Mathlib.Nat.{lt-of-lt-of-le, mul-le-mul-right}
 use native.Mathlib.Numerals.{add-one}
 use native.Mathlib.Omega.{arith}
 use lib.ListN.{length, getD, set, length-set}
@@ -30,6 +30,10 @@ module _ (d : List ℕ) (m at w n : ℕ) (p : Packing d m at w n) where
   -- there is room for one byte more
   pub packing-room : n < 8 → w < 2 ^ 56
   packing-room h = lt-of-lt-of-le (p .small) (pow-mono {i = n * 8} {j = 56} (omega arith))
+
+  -- and it stands no further than the last
+  pub packing-near : n < 8 → n * m ≤ 7 * m
+  packing-near h = mul-le-mul-right {m = n} {n = 7} m (omega arith)
 
   pub packing-more : (b : ℕ) → n < 8 → b < 256 → b ≡ getD d (at + n * m) 0 → Packing d m at (w * 256 + b) (n + 1)
   packing-more b h j e =

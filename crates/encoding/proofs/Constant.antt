@@ -3,15 +3,15 @@
 use mathlib.Core.Path.{_≡_, refl, sym, ap, ap₂, _∙_}
 use mathlib.Core.List.{List, [], _∷_, _++_, map}
 use Prim.Native.Nat.{ℕ, zero, suc, _+_, _*_, _/_, _%_, _^_, _<_}
-use native.Mathlib.Nat.{mod-lt, zero-lt-suc, mul-assoc, lt-of-lt-of-le}
+use native.Mathlib.Nat.{mod-lt, zero-lt-suc, mul-assoc, add-mul, one-mul, lt-of-lt-of-le}
 use native.Mathlib.Omega.{arith}
 use lib.ListN.{length, getD, take, drop, List·getD-append, List·getD-map}
 use lib.Seq.{getD-take, getD-drop, getD-append-add}
 use lib.Pow.{pow-add, pow-mono, shl-lt}
-use lib.Bits.{xor-shifted}
+use lib.Bits.{bitXor, xor-shifted}
 use Rattle.ground.specs.Bits.{sum}
 use Rattle.ground.proofs.Sums.{sum-zero}
-use Rattle.ground.proofs.Listed.{getD-listed-0}
+use Rattle.ground.proofs.Listed.{getD-listed-0, listed-append, listed-same}
 use Rattle.ground.specs.Lists.{listed}
 use Rattle.code.specs.Code.{add, scale, generator}
 use Rattle.code.specs.Search.{lower}
@@ -31,9 +31,54 @@ unfoldable pub follow : List (List ℕ) → List ℕ → List ℕ
 follow es [] = []
 follow es (a ∷ r) = add (add (getD es (16 + a / 16) []) (getD es (a % 16) [])) r
 
+-- twice as many: b added to each
+unfoldable pub doubled : List (List ℕ) → List ℕ → List (List ℕ)
+doubled es b = es ++ map (add b) es
+
+-- the products with p times 0 to 15, as sums of four of them
+unfoldable pub sixteen : ℕ → List (List ℕ)
+sixteen p =
+    doubled (doubled (doubled (doubled (scale (0 * p) lower ∷ []) (scale (1 * p) lower)) (scale (2 * p) lower)) (scale (4 * p) lower)) (scale (8 * p) lower)
+
 -- the first two rows
 unfoldable pub rows : List (List ℕ)
-rows = listed (λ v. scale v lower) 16 0 ++ listed (λ v. scale (v * 16) lower) 16 0
+rows = sixteen 1 ++ sixteen 16
+
+map-listed : (g : List ℕ → List ℕ) (f : ℕ → List ℕ) (n i : ℕ) → map g (listed f n i) ≡ listed (λ k. g (f k)) n i
+map-listed g f zero i = refl
+map-listed g f (suc n) i = ap (λ (l : List (List ℕ)). g (f i) ∷ l) (map-listed g f n (suc i))
+
+-- the products with 2^s times a number
+abbrev times : ℕ → ℕ → List ℕ
+times s v = scale (v * 2 ^ s) lower
+
+-- a bit above the others
+above : (s a k : ℕ) → k < 2 ^ a → add (times s (2 ^ a)) (times s k) ≡ times s (2 ^ a + k)
+unfolding sum
+above s a k h =
+    let e : 2 ^ a * 2 ^ s ≡ 1 * 2 ^ (a + s) = sym (pow-add 2 a s) ∙ sym (one-mul (2 ^ (a + s))) in
+    sym (scale-sum (2 ^ a * 2 ^ s) (k * 2 ^ s) lower)
+    ∙ ap (λ (n : ℕ). scale n lower)
+    (ap (λ (n : ℕ). bitXor n (k * 2 ^ s)) e ∙ xor-shifted 1 (a + s) (k * 2 ^ s) (shl-lt a s h) ∙ ap (λ (n : ℕ). n + k * 2 ^ s) (sym e) ∙ sym (add-mul (2 ^ a) k (2 ^ s)))
+
+doubling : (s a : ℕ) → doubled (listed (times s) (2 ^ a) 0) (times s (2 ^ a)) ≡ listed (times s) (2 ^ a + 2 ^ a) 0
+unfolding doubled
+doubling s a =
+    ap (λ (l : List (List ℕ)). listed (times s) (2 ^ a) 0 ++ l)
+    (map-listed (add (times s (2 ^ a))) (times s) (2 ^ a) 0
+    ∙ listed-same (λ k. add (times s (2 ^ a)) (times s k)) (times s) (2 ^ a) 0 (0 + 2 ^ a)
+    (λ k h.
+    let z : 0 + k ≡ k = omega arith in
+    let o : 2 ^ a + k ≡ 0 + 2 ^ a + k = omega arith in
+    ap (λ (n : ℕ). add (times s (2 ^ a)) (times s n)) z ∙ above s a k h ∙ ap (times s) o))
+    ∙ sym (listed-append (times s) (2 ^ a) (2 ^ a) 0)
+
+sixteen-listed : (s : ℕ) → sixteen (2 ^ s) ≡ listed (times s) 16 0
+unfolding sixteen
+sixteen-listed s =
+    ap (λ (l : List (List ℕ)). doubled (doubled (doubled l (times s 2)) (times s 4)) (times s 8)) (doubling s 0)
+    ∙ ap (λ (l : List (List ℕ)). doubled (doubled l (times s 4)) (times s 8)) (doubling s 1)
+    ∙ ap (λ (l : List (List ℕ)). doubled l (times s 8)) (doubling s 2) ∙ doubling s 3
 
 entry-at : (t : List ℕ) (i : ℕ) → 2 * i + 1 < length t → getD (entries t) i [] ≡ both (getD t (2 * i) 0) (getD t (2 * i + 1) 0)
 unfolding entries
@@ -49,19 +94,21 @@ module _ (t : List ℕ) (n : length t ≡ 512) (es : List (List ℕ)) (same : en
   entry-is : (i : ℕ) → 2 * i + 1 < length t → getD es i [] ≡ both (getD t (2 * i) 0) (getD t (2 * i + 1) 0)
   entry-is i h = ap (λ (l : List (List ℕ)). getD l i []) (sym same) ∙ entry-at t i h
 
-  lowest : (v : ℕ) → v < 16 → getD es v [] ≡ scale v lower
+  parted : take 32 es ≡ listed (times 0) 16 0 ++ listed (times 4) 16 0
   unfolding rows
+  parted = a ∙ ap₂ _++_ (sixteen-listed 0) (sixteen-listed 4)
+
+  lowest : (v : ℕ) → v < 16 → getD es v [] ≡ scale v lower
   lowest v h =
-      sym (getD-take 32 es v [] (omega arith)) ∙ ap (λ (l : List (List ℕ)). getD l v []) a
-      ∙ List·getD-append (listed (λ x. scale x lower) 16 0) (listed (λ x. scale (x * 16) lower) 16 0) [] v h
-      ∙ getD-listed-0 (λ x. scale x lower) 16 v [] h
+      let e : v * 1 ≡ v = omega arith in
+      sym (getD-take 32 es v [] (omega arith)) ∙ ap (λ (l : List (List ℕ)). getD l v []) parted
+      ∙ List·getD-append (listed (times 0) 16 0) (listed (times 4) 16 0) [] v h
+      ∙ getD-listed-0 (times 0) 16 v [] h ∙ ap (λ (n : ℕ). scale n lower) e
 
   second : (v : ℕ) → v < 16 → getD es (16 + v) [] ≡ scale (v * 16) lower
-  unfolding rows
   second v h =
-      sym (getD-take 32 es (16 + v) [] (omega arith)) ∙ ap (λ (l : List (List ℕ)). getD l (16 + v) []) a
-      ∙ getD-append-add (listed (λ x. scale x lower) 16 0) (listed (λ x. scale (x * 16) lower) 16 0) v []
-      ∙ getD-listed-0 (λ x. scale (x * 16) lower) 16 v [] h
+      sym (getD-take 32 es (16 + v) [] (omega arith)) ∙ ap (λ (l : List (List ℕ)). getD l (16 + v) []) parted
+      ∙ getD-append-add (listed (times 0) 16 0) (listed (times 4) 16 0) v [] ∙ getD-listed-0 (times 4) 16 v [] h
 
   later : (i : ℕ) → i < 224 → getD es (32 + i) [] ≡ follow es (getD es i [])
   unfolding follow
@@ -112,10 +159,10 @@ module _ (t : List ℕ) (n : length t ≡ 512) (es : List (List ℕ)) (same : en
         ap (λ (m : ℕ). both (getD t m 0) (getD t (m + 1) 0)) e ∙ sym (entry-is i (omega arith)) ∙ at k v h j;
   }
 
--- the generator's array, without its leading coefficient, in two words
-pub own-words : (g : List ℕ) (x y : ℕ) → g ≡ generator → unpack 8 x ≡ column g 1 1 8 → unpack 8 y ≡ column g 1 9 8 → both x y ≡ lower
+-- the generator, without its leading coefficient, in two words
+pub own-words : (x y : ℕ) → unpack 8 x ≡ column generator 1 1 8 → unpack 8 y ≡ column generator 1 9 8 → both x y ≡ lower
 unfolding both generator lower
-own-words g x y e p q = ap₂ _++_ p q ∙ ap (λ (l : List ℕ). column l 1 1 8 ++ column l 1 9 8) e
+own-words x y p q = ap₂ _++_ p q
 
 pub from-generator : (u v x y : ℕ) (t : List ℕ) → both x y ≡ lower → length t ≡ 508 → take 32 (both u v ∷ lower ∷ entries t) ≡ rows
     → drop 32 (both u v ∷ lower ∷ entries t) ≡ map (follow (both u v ∷ lower ∷ entries t)) (take 224 (both u v ∷ lower ∷ entries t))

@@ -18,7 +18,7 @@ use Rattle.code.specs.Repair.{checksOf}
 use Rattle.code.proofs.Lists.{zeros, length-zeros}
 use Rattle.code.proofs.Division.{length-remainder, remainder-row, run-checks}
 use Rattle.encoding.specs.Encode.{restOf, rowsIn, remaindersOf}
-use Rattle.encoding.specs.InnerRegister.{part, column, unpack, both, Feeding}
+use Rattle.encoding.specs.InnerRegister.{part, column, unpack, both, checksAt, remainderAt, Feeding}
 use Rattle.encoding.proofs.Words.{length-unpack, unpack-push, unpack-top, both-zero, both-xor}
 use Rattle.encoding.proofs.Turns.{run-append, next-zeros}
 
@@ -29,7 +29,7 @@ part-append d i n k = listed-append (λ j. getD d j 0) n k i
 pub length-part : (d : List ℕ) (i n : ℕ) → length (part d i n) ≡ n
 length-part d i n = length-listed (λ j. getD d j 0) n i
 
-pub part-whole : (d : List ℕ) (n : ℕ) → length d ≡ n → part d 0 n ≡ d
+part-whole : (d : List ℕ) (n : ℕ) → length d ≡ n → part d 0 n ≡ d
 part-whole d n e = ap (part d 0) (sym e) ∙ listed-whole d 0
 
 -- bytes that stand side by side
@@ -77,17 +77,22 @@ feeding-more d at w k r s h e q f =
           ∙ f .left;
     }
 
-pub feeding-done : (d : List ℕ) (at k : ℕ) (r : List ℕ) → 29 ≤ k → Feeding d at r k → r ≡ checksOf (part d at 239)
-unfolding run
+pub feeding-done : (d : List ℕ) (at k : ℕ) (r : List ℕ) → 29 ≤ k → Feeding d at r k → r ≡ checksAt d at
+unfolding checksAt run
 feeding-done d at k r h f =
     let m : k ≤ 29 = f .within in
     let e : 8 * (29 - k) ≡ 0 = omega arith in
     ap (λ (n : ℕ). run r (part d (at + 8 * k + 7) n)) (sym e) ∙ f .left ∙ run-checks (part d at 239) (length-part d at 239)
 
+-- of a list that has no more
+pub checks-whole : (d : List ℕ) → length d ≡ 239 → checksAt d 0 ≡ checksOf d
+unfolding checksAt
+checks-whole d e = ap checksOf (part-whole d 239 e)
+
 -- the checks of a row, less those that came with it
-pub rest-is : (d : List ℕ) (at h l x y : ℕ) → both h l ≡ checksOf (part d at 239) → unpack 8 x ≡ column d 1 (at + 239) 8 → unpack 8 y ≡ column d 1 (at + 247) 8
-    → both (bitXor h x) (bitXor l y) ≡ remainder 239 (part d at 255)
-unfolding both
+pub rest-is : (d : List ℕ) (at h l x y : ℕ) → both h l ≡ checksAt d at → unpack 8 x ≡ column d 1 (at + 239) 8 → unpack 8 y ≡ column d 1 (at + 247) 8
+    → both (bitXor h x) (bitXor l y) ≡ remainderAt d at
+unfolding both checksAt remainderAt
 rest-is d at h l x y e u v =
     let o : at + 247 ≡ at + 239 + 8 = omega arith in
     both-xor h l x y

@@ -2,10 +2,11 @@
 -- Assumes nothing.
 use mathlib.Core.Path.{_≡_, refl, sym, ap, ap₂, _∙_, subst}
 use mathlib.Core.List.{List, [], _∷_, _++_, append-assoc}
-use Prim.Native.Nat.{ℕ, suc, _+_, _*_, _<_, _≤_}
-use native.Mathlib.Nat.{add-mul, one-mul, mul-le-mul}
+use Prim.Native.Nat.{ℕ, suc, _+_, _-_, _*_, _<_, _≤_}
+use native.Mathlib.Nat.{add-mul, one-mul, mul-le-mul, mul-le-mul-right}
+use native.Mathlib.Numerals.{add-one}
 use native.Mathlib.Omega.{arith}
-use lib.ListN.{length, getD, set, take, drop, length-append}
+use lib.ListN.{length, getD, set, take, drop, length-set, length-append}
 use lib.Seq.{set-comm, sets, sets-eq, length-sets, take-at, drop-at, length-take-le}
 use Rattle.ground.specs.Lists.{listed}
 use Rattle.ground.proofs.Listed.{length-listed, listed-append, listed-same, listed-part}
@@ -14,12 +15,15 @@ use Rattle.ground.proofs.Pieces.{pieces-append, pieces-one, length-pieces, Laid
 use Rattle.code.specs.Repair.{checksOf}
 use Rattle.code.proofs.Division.{length-checks}
 use Rattle.encoding.specs.Put.{infoFrom, codedRow, rowsFrom}
-use Rattle.encoding.specs.InnerRegister.{part, column, unpack}
+use Rattle.encoding.specs.InnerRegister.{part, column, unpack, checksAt, sealed}
 
 -- ---- places in the file
 
-pub within : (c m : ℕ) → c < 239 → m ≤ 255 → c * m ≤ 60690
-within c m h j = mul-le-mul {n₁ = c} {m₁ = m} {n₂ = 238} {m₂ = 255} (omega arith) j
+pub within : (c m : ℕ) → c ≤ 239 → m ≤ 255 → c * m ≤ 60945
+within c m h j = mul-le-mul {n₁ = c} {m₁ = m} {n₂ = 239} {m₂ = 255} h j
+
+pub word-within : (len m at c : ℕ) → c < 232 → at + 238 * m < len → at + c * m + 7 * m < len
+word-within len m at c h j = omega (arith, mul-le-mul-right {m = c} {n = 231} m (omega arith))
 
 pub further : (c m : ℕ) → (c + 1) * m ≡ c * m + m
 further c m = add-mul c 1 m ∙ ap (λ (k : ℕ). c * m + k) (one-mul m)
@@ -33,24 +37,37 @@ column-from file m at i n =
     let e : at + i * m + k * m ≡ at + (i + k) * m = omega (arith, add-mul i k m) in
     ap (λ (c : ℕ). getD file (at + i * m + c * m) 0) z ∙ ap (λ (j : ℕ). getD file j 0) e)
 
--- eight bytes more, where 8 · c are written
-pub words-more : (file : List ℕ) (m at o c w : ℕ) (out₀ out next : List ℕ) → c < 29 → unpack 8 w ≡ column file m (at + 8 * c * m) 8 → next ≡ sets out (o + 8 * c) (unpack 8 w)
-    → Run (λ j. getD file (at + j * m) 0) 232 o out₀ out (8 * c) → Run (λ j. getD file (at + j * m) 0) 232 o out₀ next (8 * (c + 1))
-words-more file m at o c w out₀ out next h e f r =
-    let s : 8 * c + 8 ≡ 8 * (c + 1) = omega arith in
-    subst (λ (k : ℕ). Run (λ j. getD file (at + j * m) 0) 232 o out₀ next k) s
-    (run-jump (λ j. getD file (at + j * m) 0) 232 o out₀ out (8 * c) r 8 next (omega arith) (f ∙ ap (sets out (o + 8 * c)) (e ∙ column-from file m at (8 * c) 8)))
+-- ---- the information of a row, of which c bytes are written
 
--- the last seven behind them
-pub info-put : (file : List ℕ) (m at : ℕ) (out : List ℕ) (o : ℕ) (x y : List ℕ) → x ≡ sets out o (column file m at 232) → y ≡ sets x (o + 232) (column file m (at + 232 * m) 7)
-    → y ≡ sets out o (infoFrom file m at)
-unfolding infoFrom
-info-put file m at out o x y e f =
-    f
-    ∙ ap₂ (λ (k : ℕ) (l : List ℕ). sets x (o + k) l) (sym (length-listed (λ c. getD file (at + c * m) 0) 232 0)) (column-from file m at 232 7)
-    ∙ ap (λ (l : List ℕ). sets l (o + length (column file m at 232)) (listed (λ c. getD file (at + c * m) 0) 7 232)) e
-    ∙ sym (sets-append out o (column file m at 232) (listed (λ c. getD file (at + c * m) 0) 7 232))
-    ∙ ap (sets out o) (sym (listed-append (λ c. getD file (at + c * m) 0) 232 7 0))
+-- eight bytes more
+pub words-more : (file : List ℕ) (m at o c w : ℕ) (out₀ out next : List ℕ) → c + 8 ≤ 239 → unpack 8 w ≡ column file m (at + c * m) 8 → next ≡ sets out (o + c) (unpack 8 w)
+    → Run (λ j. getD file (at + j * m) 0) 239 o out₀ out c → Run (λ j. getD file (at + j * m) 0) 239 o out₀ next (c + 8)
+words-more file m at o c w out₀ out next h e f r =
+    run-jump (λ j. getD file (at + j * m) 0) 239 o out₀ out c r 8 next h (f ∙ ap (sets out (o + c)) (e ∙ column-from file m at c 8))
+
+-- those from byte n on: what is left to write makes what all of them make
+pub record Trailing (f : ℕ → ℕ) (o n : ℕ) (out₀ out : List ℕ) (c : ℕ) : Type 0 where
+  pub within : c ≤ 239
+  pub long : length out ≡ length out₀
+  pub left : sets out (o + c) (listed f (239 - c) c) ≡ sets out₀ (o + n) (listed f (239 - n) n)
+
+pub trailing-more : (f : ℕ → ℕ) (o n : ℕ) (out₀ out : List ℕ) (c v : ℕ) → c < 239 → v ≡ f c → Trailing f o n out₀ out c
+    → Trailing f o n out₀ (set out (o + c) v) (c + 1)
+trailing-more f o n out₀ out c v h e t =
+    let k : 239 - c ≡ suc (239 - (c + 1)) = omega arith in
+    let p : o + (c + 1) ≡ suc (o + c) = omega arith in
+    record {
+      within = omega arith;
+      long = length-set out (o + c) v ∙ t .long;
+      left =
+          ap₂ (λ (x i : ℕ). sets (set out (o + c) x) i (listed f (239 - (c + 1)) (c + 1))) e p
+          ∙ ap (λ (i : ℕ). sets (set out (o + c) (f c)) (suc (o + c)) (listed f (239 - (c + 1)) i)) (add-one c)
+          ∙ ap (λ (i : ℕ). sets out (o + c) (listed f i c)) (sym k) ∙ t .left;
+    }
+
+pub trailing-done : (f : ℕ → ℕ) (o n : ℕ) (out₀ out : List ℕ) (c : ℕ) → 239 ≤ c → Trailing f o n out₀ out c → out ≡ sets out₀ (o + n) (listed f (239 - n) n)
+trailing-done f o n out₀ out c h t =
+    let e : 239 - c ≡ 0 = omega arith in ap (λ (i : ℕ). sets out (o + c) (listed f i c)) (sym e) ∙ t .left
 
 -- ---- rows
 
@@ -98,7 +115,8 @@ row-written l o info n =
     ap (λ (k : ℕ). sets (sets l o info) (o + k) (checksOf info)) (sym n) ∙ sym (sets-append l o info (checksOf info))
 
 pub row-put : (file : List ℕ) (m at : ℕ) (out : List ℕ) (o : ℕ) (x y c : List ℕ) → o + 255 ≤ length out → x ≡ sets out o (infoFrom file m at)
-    → c ≡ checksOf (part x o 239) → y ≡ sets x (o + 239) c → y ≡ sets out o (rowsFrom file m at 1)
+    → c ≡ checksAt x o → y ≡ sets x (o + 239) c → y ≡ sets out o (rowsFrom file m at 1)
+unfolding checksAt
 row-put file m at out o x y c h e f g =
     let info : List ℕ = infoFrom file m at in
     let n : length info ≡ 239 = length-info file m at in
@@ -152,13 +170,12 @@ module _ (file : List ℕ) (m at : ℕ) (out : List ℕ) (o : ℕ) (room : o + 5
       ∙ ap (λ (j : ℕ). sets (sets out o (codedRow (info at))) (o + j) (codedRow (info (at + 1)))) (sym (length-row file m at))
       ∙ sym (sets-append out o (codedRow (info at)) (codedRow (info (at + 1)))) ∙ ap (sets out o) (sym rows-two)
 
-  pub rows-put : (u x y z c d : List ℕ) → u ≡ sets out o (info at) → x ≡ sets u (o + 255) (info (at + 1)) → c ≡ checksOf (part x o 239)
-      → d ≡ checksOf (part x (o + 255) 239) → y ≡ sets x (o + 239) c → z ≡ sets y (o + 255 + 239) d → z ≡ sets out o (rowsFrom file m at 2)
-  rows-put u x y z c d e f p q g h =
+  pub rows-put : (u x z : List ℕ) → u ≡ sets out o (info at) → x ≡ sets u (o + 255) (info (at + 1)) → z ≡ sealed x o → z ≡ sets out o (rowsFrom file m at 2)
+  unfolding sealed checksAt
+  rows-put u x z e f g =
       let i : x ≡ both-informed = f ∙ ap (λ (l : List ℕ). sets l (o + 255) (info (at + 1))) e in
-      let j : c ≡ checksOf (info at) = p ∙ ap checksOf (ap (λ (l : List ℕ). part l o 239) i ∙ first-part) in
-      let k : d ≡ checksOf (info (at + 1)) = q ∙ ap checksOf (ap (λ (l : List ℕ). part l (o + 255) 239) i ∙ second-part) in
-      h ∙ ap₂ (λ (l b : List ℕ). sets l (o + 255 + 239) b) (g ∙ ap₂ (λ (l a : List ℕ). sets l (o + 239) a) i j) k ∙ placed
+      g ∙ ap (λ (l : List ℕ). sealed l o) i
+      ∙ ap₂ (λ (c d : List ℕ). sets (sets both-informed (o + 239) (checksOf c)) (o + 255 + 239) (checksOf d)) first-part second-part ∙ placed
 
 -- ---- rows written one behind the other: r rows are; what is left makes what the whole makes
 abbrev pub Putting : List ℕ → ℕ → ℕ → ℕ → List ℕ → List ℕ → ℕ → Type 0

@@ -4,8 +4,11 @@ use mathlib.Core.Path.{_≡_}
 use mathlib.Core.List.{List, [], _∷_, _++_}
 use Prim.Native.Nat.{ℕ, zero, suc, _+_, _-_, _*_, _/_, _%_, _^_, _<_, _≤_}
 use lib.ListN.{length, getD, replicate}
+use lib.Seq.{sets}
 use Rattle.ground.specs.Lists.{listed}
+use Rattle.code.specs.Search.{remainder}
 use Rattle.code.specs.Register.{run}
+use Rattle.code.specs.Repair.{checksOf}
 
 -- n bytes of d, from byte i on
 abbrev pub part : List ℕ → ℕ → ℕ → List ℕ
@@ -14,6 +17,22 @@ part d i n = listed (λ k. getD d k 0) n i
 -- n bytes of d, from byte i on and m apart
 abbrev pub column : List ℕ → ℕ → ℕ → ℕ → List ℕ
 column d m i n = listed (λ c. getD d (i + c * m) 0) n 0
+
+-- the information bytes of a row that starts at byte i of d and has them m apart, from its byte n on
+abbrev pub columnFrom : List ℕ → ℕ → ℕ → ℕ → List ℕ
+columnFrom d m i n = listed (λ c. getD d (i + c * m) 0) (239 - n) n
+
+-- the checks of the 239 bytes of d from byte i on
+unfoldable pub checksAt : List ℕ → ℕ → List ℕ
+checksAt d i = checksOf (part d i 239)
+
+-- what the row of 255 bytes from byte i of d on leaves
+unfoldable pub remainderAt : List ℕ → ℕ → List ℕ
+remainderAt d i = remainder 239 (part d i 255)
+
+-- the checks of two rows written behind their 239 bytes, which stand from byte i and from byte i + 255 of d on
+unfoldable pub sealed : List ℕ → ℕ → List ℕ
+sealed d i = sets (sets d (i + 239) (checksAt d i)) (i + 255 + 239) (checksAt d (i + 255))
 
 -- the low k bytes of w, the top one first
 unfoldable pub unpack : ℕ → ℕ → List ℕ

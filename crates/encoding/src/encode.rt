@@ -4,7 +4,7 @@ ghost use Prim.Native.Nat.{_+_, _*_, _<_, _≤_};
 ghost use lib.ListN.{length, getD};
 ghost use lib.Seq.{sets};
 ghost use Rattle.encoding.specs.Put.{infoFrom, rowsFrom, putServes};
-ghost use Rattle.encoding.specs.InnerRegister.{column, Halves};
+ghost use Rattle.encoding.specs.InnerRegister.{columnFrom, Halves};
 use crate::register;
 
 // Whether `put_rows` serves, given room.
@@ -33,54 +33,33 @@ fn byte(file: &[u8], i: usize) -> u8
     if i < file.len() { file[i] } else { 0 }
 }
 
-// Writes n bytes of the file, from byte `at` on and m apart.
+// Writes the information bytes of a row from byte n on, one by one.
 fn trail(file: &[u8], m: usize, at: usize, n: usize, out: &mut [u8], o: usize)
-    requires { ⌜ (m ≤ 255) × (at ≤ 33554432) × (n ≤ 239) × (o + n ≤ length (now out)) ⌝ }
-    ensures { λ r. ⌜ now (out .exit) ≡ sets (now (out .entry)) o (column (now (file .entry)) m at n) ⌝ }
+    requires { ⌜ (m ≤ 255) × (at ≤ 16777231) × (n ≤ 239) × (o + 239 ≤ length (now out)) ⌝ }
+    ensures { λ r. ⌜ now (out .exit) ≡ sets (now (out .entry)) (o + n) (columnFrom (now (file .entry)) m at n) ⌝ }
 {
-    let mut i = at;
-    let mut c: usize = 0;
-    while c < n {
+    let mut i = at + n * m;
+    let mut c = n;
+    while c < 239 {
         out[o + c] = byte(file, i);
         i += m;
         c += 1;
     }
 }
 
-// Writes 232 bytes of the file, from byte `at` on and m apart, eight at a time. They lie within the file.
-fn words(file: &[u8], m: usize, at: usize, out: &mut [u8], o: usize)
-    requires { ⌜ (m ≤ 255) × (at + 238 * m < length (now file)) × (o + 232 ≤ length (now out)) ⌝ }
-    ensures { λ r. ⌜ now (out .exit) ≡ sets (now (out .entry)) o (column (now (file .entry)) m at 232) ⌝ }
-{
-    let mut c: usize = 0;
-    while c < 29 {
-        let w = register::word(file, m, at + 8 * c * m);
-        register::put_word(out, o + 8 * c, w);
-        c += 1;
-    }
-}
-
-// Writes the information bytes of the row that starts at byte `at` of the file.
+// Writes the information bytes of the row that starts at byte `at` of the file: eight at a time where all of them lie within the file, and what is left one by one.
 fn gather(file: &[u8], m: usize, at: usize, out: &mut [u8], o: usize)
     requires { ⌜ (m ≤ 255) × (at ≤ 16777231) × (o + 239 ≤ length (now out)) ⌝ }
     ensures { λ r. ⌜ now (out .exit) ≡ sets (now (out .entry)) o (infoFrom (now (file .entry)) m at) ⌝ }
 {
-    if at + 238 * m < file.len() {
-        words(file, m, at, out, o);
-        trail(file, m, at + 232 * m, 7, out, o + 232);
-    } else {
-        trail(file, m, at, 239, out, o);
+    let whole: usize = if at + 238 * m < file.len() { 232 } else { 0 };
+    let mut c: usize = 0;
+    while c < whole {
+        let w = register::word(file, m, at + c * m);
+        register::put_word(out, o + c, w);
+        c += 8;
     }
-}
-
-// Writes the row that starts at byte `at` of the file.
-fn one(file: &[u8], m: usize, at: usize, t: &[u64; 512], out: &mut [u8], o: usize)
-    requires { ⌜ (m ≤ 255) × (at ≤ 16777231) × Halves (now t) × (o + 255 ≤ length (now out)) ⌝ }
-    ensures { λ r. ⌜ now (out .exit) ≡ sets (now (out .entry)) o (rowsFrom (now (file .entry)) m at 1) ⌝ }
-{
-    gather(file, m, at, out, o);
-    let q = register::checks(out, o, t);
-    register::put(out, o + 239, q);
+    trail(file, m, at, c, out, o);
 }
 
 // Writes the two rows that start at bytes `at` and `at + 1` of the file.
@@ -88,31 +67,28 @@ fn two(file: &[u8], m: usize, at: usize, t: &[u64; 512], out: &mut [u8], o: usiz
     requires { ⌜ (m ≤ 255) × (at ≤ 16777230) × Halves (now t) × (o + 510 ≤ length (now out)) ⌝ }
     ensures { λ r. ⌜ now (out .exit) ≡ sets (now (out .entry)) o (rowsFrom (now (file .entry)) m at 2) ⌝ }
 {
-    let behind = o + 255;
-    let first = o + 239;
-    let second = behind + 239;
     gather(file, m, at, out, o);
-    gather(file, m, at + 1, out, behind);
-    let q = register::checks_two(out, o, t);
-    let a = q.a;
-    let b = q.b;
-    register::put(out, first, a);
-    register::put(out, second, b);
+    gather(file, m, at + 1, out, o + 255);
+    register::seal_two(out, o, t);
 }
 
 // Writes the n rows from byte `at` of the file on to the start of `out`.
-pub(crate) fn rows(file: &[u8], m: usize, at: usize, n: usize, t: &[u64; 512], out: &mut [u8])
-    requires { ⌜ (m ≤ 255) × (n ≤ 15) × (at ≤ 16777216) × Halves (now t) × (n * 255 ≤ length (now out)) ⌝ }
+pub(crate) fn rows(file: &[u8], m: usize, at: usize, n: usize, out: &mut [u8])
+    requires { ⌜ (m ≤ 255) × (n ≤ 15) × (at ≤ 16777216) × (n * 255 ≤ length (now out)) ⌝ }
     ensures { λ r. ⌜ now (out .exit) ≡ sets (now (out .entry)) 0 (rowsFrom (now (file .entry)) m at n) ⌝ }
 {
+    let table = register::table();
+    let t = &table;
     let mut r: usize = 0;
-    while r < n {
-        if r + 2 <= n {
-            two(file, m, at + r, t, out, r * 255);
-            r += 2;
-        } else {
-            one(file, m, at + r, t, out, r * 255);
-            r += 1;
-        }
+    while r + 2 <= n {
+        two(file, m, at + r, t, out, r * 255);
+        r += 2;
     }
+    if n <= r {
+        return;
+    }
+    let o = r * 255;
+    gather(file, m, at + r, out, o);
+    let q = register::checks(out, o, t);
+    register::put(out, o + 239, q);
 }

@@ -1,6 +1,5 @@
 // Encoding of rows of RS(255,239): checks, rows of a file's tables, and what rows leave when the generator divides them (document 01, section 3).
 ghost use mathlib.Core.Path.{_≡_};
-ghost use Prim.Native.Nat.{_/_, min};
 ghost use lib.ListN.{length};
 ghost use Rattle.code.specs.Code.{generator as generatorOf};
 ghost use Rattle.encoding.specs.Encode.{encodeOf, remaindersOf};
@@ -20,7 +19,7 @@ pub struct Encoded {
 }
 
 // The generator's coefficients, the highest power first. The register's table takes its rule from them.
-const GENERATOR: [u8; 17] = [
+pub(crate) const GENERATOR: [u8; 17] = [
     1,
     59,
     13,
@@ -57,12 +56,9 @@ pub fn encode_row(info: &[u8]) -> Encoded
             checks: [0u8; 16],
         };
     }
-    let t = register::table(GENERATOR);
-    let q = register::checks(info, 0, &t);
-    let checks = register::spread(q);
     Encoded {
         verdict: Verdict::Accepted,
-        checks,
+        checks: register::row_checks(info),
     }
 }
 
@@ -78,8 +74,7 @@ pub fn put_rows(file: &[u8], m: usize, at: usize, n: usize, out: &mut [u8]) -> V
     if out.len() < n * 255 {
         return Verdict::Refused(Refusal::Output);
     }
-    let t = register::table(GENERATOR);
-    encode::rows(file, m, at, n, &t, out);
+    encode::rows(file, m, at, n, out);
     Verdict::Accepted
 }
 
@@ -88,8 +83,9 @@ pub fn put_rows(file: &[u8], m: usize, at: usize, n: usize, out: &mut [u8]) -> V
 pub fn remainders(rows: &[u8]) -> [u8; 240]
     ensures { λ r. ⌜ r ≡ remaindersOf (now (rows .entry)) ⌝ }
 {
-    let t = register::table(GENERATOR);
-    let n = rows_in(rows.len());
+    let whole = rows.len() / 255;
+    let n: usize = if 15 < whole { 15 } else { whole };
+    let t = register::table();
     let mut out = [0u8; 240];
     let mut i: usize = 0;
     while i < n {
@@ -98,12 +94,4 @@ pub fn remainders(rows: &[u8]) -> [u8; 240]
         i += 1;
     }
     out
-}
-
-// How many whole rows n bytes have, of fifteen at most.
-fn rows_in(n: usize) -> usize
-    ensures { λ r. ⌜ r ≡ min 15 (n / 255) ⌝ }
-{
-    let rows = n / 255;
-    if 15 <= rows { 15 } else { rows }
 }

@@ -4,11 +4,9 @@ ghost use mathlib.Core.Path.{_≡_};
 ghost use Prim.Native.Nat.{_+_, _*_, _%_, _<_, _≤_};
 ghost use lib.ListN.{length};
 ghost use lib.Seq.{sets};
-ghost use Rattle.code.specs.Code.{generator as generatorOf};
 ghost use Rattle.code.specs.Register.{run};
-ghost use Rattle.code.specs.Search.{remainder};
 ghost use Rattle.code.specs.Repair.{checksOf};
-ghost use Rattle.encoding.specs.InnerRegister.{part, column, unpack, both, Halves, Feeding};
+ghost use Rattle.encoding.specs.InnerRegister.{column, unpack, both, checksAt, remainderAt, sealed, Halves, Feeding};
 use crate::halves;
 
 // Sixteen bytes, the first one at the top of `h`.
@@ -17,28 +15,15 @@ pub(crate) struct Reg {
     pub l: u64,
 }
 
-// The registers of two rows.
-pub(crate) struct Two {
-    pub a: Reg,
-    pub b: Reg,
-}
-
 // The table. The entry of 1 at the lowest place is the generator itself, without its leading coefficient; the others are multiples of it.
-pub(crate) fn table(generator: [u8; 17]) -> [u64; 512]
-    requires { ⌜ generator ≡ generatorOf ⌝ }
+pub(crate) fn table() -> [u64; 512]
     ensures { λ t. ⌜ Halves t ⌝ }
 {
+    let generator = crate::GENERATOR;
     let mut t = halves::HALVES;
     t[2] = word(&generator, 1, 1);
     t[3] = word(&generator, 1, 9);
     t
-}
-
-// The lowest half byte.
-fn half(w: u64) -> usize
-    ensures { λ r. ⌜ r ≡ w % 16 ⌝ }
-{
-    (w % 16) as usize
 }
 
 // The register after the eight bytes of `x`.
@@ -51,7 +36,7 @@ fn turn(r: Reg, x: u64, t: &[u64; 512]) -> Reg
     let mut l: u64 = 0;
     let mut k: usize = 0;
     while k < 16 {
-        let i = 32 * k + 2 * half(w);
+        let i = 32 * k + 2 * (w % 16) as usize;
         h = h ^ t[i];
         l = l ^ t[i + 1];
         w = w / 16;
@@ -93,7 +78,7 @@ fn go_on(r: Reg, d: &[u8], at: usize, k: usize, t: &[u64; 512]) -> Reg
 // The checks of the 239 bytes of `d` from `at` on.
 pub(crate) fn checks(d: &[u8], at: usize, t: &[u64; 512]) -> Reg
     requires { ⌜ (at + 239 ≤ length (now d)) × Halves (now t) ⌝ }
-    ensures { λ r. ⌜ both (r .h) (r .l) ≡ checksOf (part (now (d .entry)) at 239) ⌝ }
+    ensures { λ r. ⌜ both (r .h) (r .l) ≡ checksAt (now (d .entry)) at ⌝ }
 {
     let mut r = begin(d, at, t);
     let mut k: usize = 0;
@@ -104,13 +89,14 @@ pub(crate) fn checks(d: &[u8], at: usize, t: &[u64; 512]) -> Reg
     r
 }
 
-// The checks of two rows that stand one behind the other: of the 239 bytes from `at` on, and of those from `at + 255` on. The two registers take turns, so that
-// neither waits for the other.
-pub(crate) fn checks_two(d: &[u8], at: usize, t: &[u64; 512]) -> Two
-    requires { ⌜ (at + 494 ≤ length (now d)) × Halves (now t) ⌝ }
-    ensures { λ r. ⌜ (both (r .a .h) (r .a .l) ≡ checksOf (part (now (d .entry)) at 239)) × (both (r .b .h) (r .b .l) ≡ checksOf (part (now (d .entry)) (at + 255) 239)) ⌝ }
+// Writes the checks of two rows that stand one behind the other, each behind its 239 bytes: of the row from `at` on, and of the one from `at + 255` on. The two
+// registers take turns, so that neither waits for the other.
+pub(crate) fn seal_two(rows: &mut [u8], at: usize, t: &[u64; 512])
+    requires { ⌜ (at + 510 ≤ length (now rows)) × Halves (now t) ⌝ }
+    ensures { λ r. ⌜ now (rows .exit) ≡ sealed (now (rows .entry)) at ⌝ }
 {
     let from = at + 255;
+    let d: &[u8] = rows;
     let mut a = begin(d, at, t);
     let mut b = begin(d, from, t);
     let mut k: usize = 0;
@@ -119,13 +105,14 @@ pub(crate) fn checks_two(d: &[u8], at: usize, t: &[u64; 512]) -> Two
         b = go_on(b, d, from, k, t);
         k += 1;
     }
-    Two { a, b }
+    put(rows, at + 239, a);
+    put(rows, from + 239, b);
 }
 
 // The remainder of the row of 255 bytes from `at` on.
 pub(crate) fn rest(d: &[u8], at: usize, t: &[u64; 512]) -> Reg
     requires { ⌜ (at + 255 ≤ length (now d)) × Halves (now t) ⌝ }
-    ensures { λ r. ⌜ both (r .h) (r .l) ≡ remainder 239 (part (now (d .entry)) at 255) ⌝ }
+    ensures { λ r. ⌜ both (r .h) (r .l) ≡ remainderAt (now (d .entry)) at ⌝ }
 {
     let q = checks(d, at, t);
     Reg {
@@ -157,11 +144,14 @@ pub(crate) fn put(out: &mut [u8], at: usize, r: Reg)
     put_word(out, at + 8, r.l);
 }
 
-// The sixteen bytes of a register.
-pub(crate) fn spread(r: Reg) -> [u8; 16]
-    ensures { λ a. ⌜ a ≡ both (r .h) (r .l) ⌝ }
+// The checks of a row's 239 information bytes, which are all of `info`.
+pub(crate) fn row_checks(info: &[u8]) -> [u8; 16]
+    requires { ⌜ length (now info) ≡ 239 ⌝ }
+    ensures { λ r. ⌜ r ≡ checksOf (now (info .entry)) ⌝ }
 {
+    let t = table();
+    let q = checks(info, 0, &t);
     let mut a = [0u8; 16];
-    put(&mut a, 0, r);
+    put(&mut a, 0, q);
     a
 }

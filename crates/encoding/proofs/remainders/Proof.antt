@@ -2,16 +2,15 @@
 -- Assumes nothing.
 use mathlib.Core.Path.{_≡_, refl, sym, ap, _∙_}
 use mathlib.Core.List.{List}
+use mathlib.Core.Logic.{⊎-elim}
 use Prim.Native.Nat.{ℕ, _+_, _-_, _*_, _/_, _<_, _≤_}
 use native.Mathlib.Nat.{min-le-left, min-le-right}
 use native.Mathlib.Omega.{arith}
 use lib.ListN.{length, replicate}
 use lib.Seq.{sets}
 use Rattle.ground.proofs.Pieces.{pieces, pieces-one, Laid, laid-start, laid-more, laid-done}
-use Rattle.code.specs.Code.{generator}
-use Rattle.code.specs.Search.{remainder}
 use Rattle.encoding.specs.Encode.{restOf, rowsIn, remaindersOf}
-use Rattle.encoding.specs.InnerRegister.{part}
+use Rattle.encoding.specs.InnerRegister.{remainderAt}
 use Rattle.encoding.proofs.Feeding.{length-rest}
 use Rattle.encoding.proofs.remainders.Statement.{statement}
 use Rattle.encoding.proofs.remainders.Tie as tie
@@ -19,25 +18,24 @@ use Rattle.encoding.proofs.remainders.Tie as tie
 at-zero : (f : ℕ → List ℕ) (i : ℕ) → pieces f 1 (0 + i) ≡ f i
 at-zero f i = let e : 0 + i ≡ i = omega arith in pieces-one f (0 + i) ∙ ap f e
 
-rest-is-of : (b : List ℕ) (i : ℕ) → remainder 239 (part b (i * 255) 255) ≡ restOf b i
-unfolding restOf
+rest-is-of : (b : List ℕ) (i : ℕ) → remainderAt b (i * 255) ≡ restOf b i
+unfolding restOf remainderAt
 rest-is-of b i = refl
 
 abbrev Inv-loop : tie.InvT-loop
-Inv-loop rows t n out₀ i₀ out i = Laid (restOf rows) 16 (rowsIn rows) 0 (replicate 240 0) out i
+Inv-loop rows whole n t out₀ i₀ out i = Laid (restOf rows) 16 (rowsIn rows) 0 (replicate 240 0) out i
 
 abbrev μ-loop : tie.MeasureT-loop
-μ-loop rows t n out₀ i₀ out i = n - i
+μ-loop rows whole n t out₀ i₀ out i = n - i
 
 table-requires : tie.Need-table-requires Inv-loop μ-loop
-unfolding generator
-table-requires c κs = refl
-
-rows-in-requires : tie.Need-rows-in-requires Inv-loop μ-loop
-rows-in-requires c κs = tt
+table-requires c κs = tt
 
 loop-holds : tie.Need-loop-holds Inv-loop μ-loop
 loop-holds c = laid-start _ _ _ _ _
+
+counted : (c : tie.Joined1 Inv-loop μ-loop) → c .if1 .n ≡ rowsIn (c .before .before .args .rows .now)
+counted c = ⊎-elim (λ w. omega arith) (λ w. omega arith) (c .if1 .came)
 
 -- within the loop row i is there
 module _ (c : tie.In-loop Inv-loop μ-loop) where
@@ -45,7 +43,7 @@ module _ (c : tie.In-loop Inv-loop μ-loop) where
   b = c .before .before .before .before .before .args .rows .now
 
   inside : c .before .loop .i < rowsIn b
-  inside = rw (← c .before .before .rows-in .ensures) (c .loop-test .taken)
+  inside = rw (← counted (c .before .before .before)) (c .loop-test .taken)
 
   few : rowsIn b ≤ 15
   few = min-le-left 15 (length b / 255)
@@ -57,7 +55,7 @@ mul-rest : tie.Need-mul-rest Inv-loop μ-loop
 mul-rest c = record { fits = omega (arith, inside c, few c) }
 
 rest-requires : tie.Need-rest-requires Inv-loop μ-loop
-rest-requires c κs = (omega (arith, inside (c .before), there (c .before)), c .before .before .before .before .table .ensures)
+rest-requires c κs = (omega (arith, inside (c .before), there (c .before)), c .before .before .before .table .ensures)
 
 slice-aggregate-put : tie.Need-slice-aggregate-put Inv-loop μ-loop
 slice-aggregate-put c = omega arith
@@ -90,8 +88,8 @@ loop-again c =
 returns : tie.Need-returns Inv-loop μ-loop
 unfolding remaindersOf
 returns c =
-    let b : List ℕ = c .before .before .before .before .before .args .rows .now in
-    laid-done (restOf b) 16 (rowsIn b) 0 _ _ _ (rw (← c .before .before .rows-in .ensures) (c .loop-test .left)) (c .before .loop .inv)
+    let joined = c .before .before .before in
+    laid-done _ _ _ _ _ _ _ (rw (← counted joined) (c .loop-test .left)) (c .before .loop .inv)
 
 pub remainders-spec : {M : Type 1} → statement M
 remainders-spec =
@@ -100,7 +98,6 @@ remainders-spec =
     Inv-loop
     μ-loop
     table-requires
-    rows-in-requires
     loop-holds
     mul-rest
     rest-requires

@@ -3,7 +3,6 @@
 use mathlib.Core.Path.{sym}
 use lib.ListN.{List·getD-eq-default}
 use native.Mathlib.Omega.{arith}
-use borrow.Author.Needs.{needs}
 use Rattle.encoding.proofs.encode.byte.Statement.{statement}
 use Rattle.encoding.proofs.encode.byte.Tie as tie
 
@@ -14,7 +13,7 @@ returns : tie.Need-returns
 returns c = omega arith
 
 returns-2 : tie.Need-returns-2
-returns-2 c = sym (List·getD-eq-default (c .before .args .file .now) 0 (search needs))
+returns-2 c = sym (List·getD-eq-default (c .before .args .file .now) 0 (c .if1 .left))
 
 pub byte-spec : {M : Type 1} → statement M
 byte-spec = tie.close (tie.spec shared-slice-read-result returns returns-2)

@@ -2,7 +2,6 @@
 -- Assumes nothing.
 use Rattle.encoding.proofs.Feeding.{feeding-more}
 use native.Mathlib.Omega.{arith}
-use borrow.Author.Needs.{needs}
 use Rattle.encoding.proofs.register.go_on.Statement.{statement}
 use Rattle.encoding.proofs.register.go_on.Tie as tie
 
@@ -19,10 +18,10 @@ word-requires : tie.Need-word-requires
 word-requires c κs = omega arith
 
 turn-requires : tie.Need-turn-requires
-turn-requires c κs = search needs
+turn-requires c κs = c .before .before .pre .3
 
 returns : tie.Need-returns
-returns c = feeding-more _ _ _ _ _ _ (search needs) (c .before .word .ensures) (c .turn .ensures) (c .before .before .before .pre .2)
+returns c = feeding-more _ _ _ _ _ _ (c .before .before .before .pre .1) (c .before .word .ensures) (c .turn .ensures) (c .before .before .before .pre .2)
 
 pub go-on-spec : {M : Type 1} → statement M
 go-on-spec = tie.close (tie.spec mul-word add-word add-word-2 word-requires turn-requires returns)

@@ -1,7 +1,6 @@
 -- `register::put_word` writes the bytes of a word, the top one first. The invariant: what is left to write makes what the whole makes (`Unpacking`).
 -- Assumes nothing.
 use native.Mathlib.Omega.{arith}
-use borrow.Author.Needs.{needs}
 use Rattle.encoding.proofs.Bytes.{Unpacking, unpacking-start, unpacking-more, unpacking-done}
 use Rattle.encoding.proofs.register.put_word.Statement.{statement}
 use Rattle.encoding.proofs.register.put_word.Tie as tie
@@ -31,13 +30,13 @@ loop-less : tie.Need-loop-less Inv-loop μ-loop
 loop-less c = omega arith
 
 loop-again : tie.Need-loop-again Inv-loop μ-loop
-loop-again c = unpacking-more _ _ _ _ _ _ _ (search needs) (c .byte .ensures) (c .before .before .loop .inv)
+loop-again c = unpacking-more _ _ _ _ _ _ _ (c .before .loop-test .taken) (c .byte .ensures) (c .before .before .loop .inv)
 
 same-length : tie.Need-same-length Inv-loop μ-loop
 same-length c = omega arith
 
 returns : tie.Need-returns Inv-loop μ-loop
-returns c = unpacking-done _ _ _ _ _ _ (search needs) (c .before .loop .inv)
+returns c = unpacking-done _ _ _ _ _ _ (c .loop-test .left) (c .before .loop .inv)
 
 pub put-word-spec : {M : Type 1} → statement M
 put-word-spec =

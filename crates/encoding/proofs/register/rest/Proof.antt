@@ -2,12 +2,11 @@
 -- Assumes nothing.
 use native.Mathlib.Omega.{arith}
 use Rattle.encoding.proofs.Feeding.{rest-is}
-use borrow.Author.Needs.{needs}
 use Rattle.encoding.proofs.register.rest.Statement.{statement}
 use Rattle.encoding.proofs.register.rest.Tie as tie
 
 checks-requires : tie.Need-checks-requires
-checks-requires c κs = search needs
+checks-requires c κs = (omega arith, c .before .pre .1)
 
 add-word : tie.Need-add-word
 add-word c = omega arith

@@ -1,9 +1,8 @@
 -- `register::turn` moves the register up by eight bytes and adds what the bytes that leave it leave behind, one half byte after the other. The invariant: what is added,
 -- and what the rest of the word still leaves, make the whole (`Turning`). Assumes nothing.
-use mathlib.Core.Path.{sym, ap, _∙_}
-use Prim.Native.Nat.{ℕ, _+_, _-_, _*_}
+use mathlib.Core.Path.{refl, sym, _∙_}
+use Prim.Native.Nat.{ℕ, _-_}
 use native.Mathlib.Omega.{arith}
-use borrow.Author.Needs.{needs}
 use lib.Bits.{bitXor, xor-lt}
 use Rattle.code.proofs.Lists.{add-comm}
 use Rattle.encoding.specs.InnerRegister.{both, through}
@@ -22,9 +21,6 @@ loop-holds c = turning-start _ _
 
 mul-i : tie.Need-mul-i Inv-loop μ-loop
 mul-i c = omega arith
-
-half-requires : tie.Need-half-requires Inv-loop μ-loop
-half-requires c κs = tt
 
 mul-i-2 : tie.Need-mul-i-2 Inv-loop μ-loop
 mul-i-2 c = omega arith
@@ -55,15 +51,14 @@ loop-less c = omega arith
 
 loop-again : tie.Need-loop-again Inv-loop μ-loop
 loop-again c =
-    let k : ℕ = c .before .before .before .before .loop .k in
-    turning-more _ _ _ _ _ _ k _ (c .before .before .before .before .before .before .pre) (search needs)
-    (ap (λ (n : ℕ). 32 * k + 2 * n) (c .before .before .half .ensures)) (c .before .before .before .before .loop .inv)
+    let loop = c .before .before .before in
+    turning-more _ _ _ _ _ _ _ _ (loop .before .before .pre) (c .before .before .loop-test .taken) refl (loop .loop .inv)
 
 returns : tie.Need-returns Inv-loop μ-loop
 returns c =
     let s = c .before .before .before .args in
     let w : ℕ = bitXor (s .r .h) (s .x) in
-    turning-done w (s .r .l) _ _ _ _ (search needs) (xor-lt 64 (s .r .h) (s .x) (search needs) (search needs)) (c .before .loop .inv)
+    turning-done w (s .r .l) _ _ _ _ (c .loop-test .left) (xor-lt 64 (s .r .h) (s .x) (omega arith) (omega arith)) (c .before .loop .inv)
     ∙ add-comm (both (s .r .l) 0) (through w) ∙ sym (turned (s .r .h) (s .r .l) (s .x))
 
 pub turn-spec : {M : Type 1} → statement M
@@ -74,7 +69,6 @@ turn-spec =
     μ-loop
     loop-holds
     mul-i
-    half-requires
     mul-i-2
     add-i
     mul-h

@@ -1,10 +1,8 @@
 -- `register::word` puts one byte after the other below those before it. The invariant: the word so far has the bytes so far, and no more (`Packing`).
 -- Assumes nothing.
 use Prim.Native.Nat.{_-_}
-use native.Mathlib.Nat.{mul-le-mul-right}
 use native.Mathlib.Omega.{arith}
-use borrow.Author.Needs.{needs}
-use Rattle.encoding.proofs.Bytes.{Packing, packing-start, packing-room, packing-more, packing-done}
+use Rattle.encoding.proofs.Bytes.{Packing, packing-start, packing-room, packing-near, packing-more, packing-done}
 use Rattle.encoding.proofs.register.word.Statement.{statement}
 use Rattle.encoding.proofs.register.word.Tie as tie
 
@@ -18,23 +16,22 @@ loop-holds : tie.Need-loop-holds Inv-loop μ-loop
 loop-holds c = packing-start _ _ _
 
 mul-w : tie.Need-mul-w Inv-loop μ-loop
-mul-w c = omega (arith, packing-room _ _ _ _ _ (c .before .loop .inv) (search needs))
+mul-w c = omega (arith, packing-room _ _ _ _ _ (c .before .loop .inv) (c .loop-test .taken))
 
 mul-wide : tie.Need-mul-wide Inv-loop μ-loop
-mul-wide c = omega (arith, mul-le-mul-right {m = c .before .loop .n} {n = 7} (c .before .before .before .args .m) (search needs))
+mul-wide c = omega (arith, packing-near _ _ _ _ _ (c .before .loop .inv) (c .loop-test .taken))
 
 add-wide : tie.Need-add-wide Inv-loop μ-loop
-add-wide c = omega (arith, mul-le-mul-right {m = c .before .loop .n} {n = 7} (c .before .before .before .args .m) (search needs))
+add-wide c = omega (arith, packing-near _ _ _ _ _ (c .before .loop .inv) (c .loop-test .taken))
 
 shared-slice-read-wide : tie.Need-shared-slice-read-wide Inv-loop μ-loop
-shared-slice-read-wide c =
-    omega (arith, mul-le-mul-right {m = c .before .before .loop .n} {n = 7} (c .before .before .before .before .args .m) (search needs))
+shared-slice-read-wide c = omega (arith, packing-near _ _ _ _ _ (c .before .before .loop .inv) (c .before .loop-test .taken))
 
 wide-requires : tie.Need-wide-requires Inv-loop μ-loop
 wide-requires c κs = tt
 
 add-w : tie.Need-add-w Inv-loop μ-loop
-add-w c = omega (arith, packing-room _ _ _ _ _ (c .before .before .before .loop .inv) (search needs))
+add-w c = omega (arith, packing-room _ _ _ _ _ (c .before .before .before .loop .inv) (c .before .before .loop-test .taken))
 
 add-n : tie.Need-add-n Inv-loop μ-loop
 add-n c = omega arith
@@ -44,10 +41,10 @@ loop-less c = omega arith
 
 loop-again : tie.Need-loop-again Inv-loop μ-loop
 loop-again c =
-    packing-more _ _ _ _ _ (c .before .before .before .loop .inv) _ (search needs) (c .wide .ensures .1) (c .wide .ensures .0)
+    packing-more _ _ _ _ _ (c .before .before .before .loop .inv) _ (c .before .before .loop-test .taken) (c .wide .ensures .1) (c .wide .ensures .0)
 
 returns : tie.Need-returns Inv-loop μ-loop
-returns c = packing-done _ _ _ _ _ (c .before .loop .inv) (search needs)
+returns c = packing-done _ _ _ _ _ (c .before .loop .inv) (c .loop-test .left)
 
 pub word-spec : {M : Type 1} → statement M
 word-spec =
