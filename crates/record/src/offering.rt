@@ -51,7 +51,8 @@ fn differs(p: Place, fields: Packet) -> bool
     fields.protection == 1 && fields.rows != p.rows
 }
 
-// A payload meets the slot of its number: an empty one takes it, and no other changes. Before that it is told whether the packet's CRC agrees with it.
+// A payload meets the slot of its number: an empty one takes it, and no other changes. `agrees` says whether the packet's CRC is that of its header and this
+// payload; where it is not, the slot is not looked at.
 fn put_in(p: Place, store: &mut [u8], number: u32, payload: &[u8], agrees: bool) -> Offered
     requires { ⌜ (slotAt p number + (p .slot + 2) ≤ length (now store)) × (length (now payload) ≤ p .slot) ⌝ }
     ensures { λ r. ⌜ Comes (offerJudged p (now (store .entry)) (judgeCrc number (now (payload .entry)) agrees)) r (now (store .exit)) ⌝ }
