@@ -1,6 +1,6 @@
 -- Rows written one behind the other: what `encode` keeps.
 -- Assumes nothing.
-use mathlib.Core.Path.{_≡_, refl, sym, ap, ap₂, _∙_, subst}
+use mathlib.Core.Path.{_≡_, refl, sym, ap, ap₂, _∙_}
 use mathlib.Core.List.{List, [], _∷_, _++_, append-assoc}
 use Prim.Native.Nat.{ℕ, suc, _+_, _-_, _*_, _<_, _≤_}
 use native.Mathlib.Nat.{add-mul, one-mul, mul-le-mul, mul-le-mul-right}
@@ -9,7 +9,7 @@ use native.Mathlib.Omega.{arith}
 use lib.ListN.{length, getD, set, take, drop, length-set, length-append}
 use lib.Seq.{set-comm, sets, sets-eq, length-sets, take-at, drop-at, length-take-le}
 use Rattle.ground.specs.Lists.{listed}
-use Rattle.ground.proofs.Listed.{length-listed, listed-append, listed-same, listed-part}
+use Rattle.ground.proofs.Listed.{length-listed, listed-same, listed-part}
 use Rattle.ground.proofs.Writing.{sets-append, Run, run-jump}
 use Rattle.ground.proofs.Pieces.{pieces-append, pieces-one, length-pieces, Laid, laid-more, laid-done}
 use Rattle.code.specs.Repair.{checksOf}

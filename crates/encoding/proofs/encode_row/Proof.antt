@@ -1,6 +1,6 @@
 -- `encode_row` refuses another length than 239, and otherwise hands out the row's checks.
 -- Assumes nothing.
-use mathlib.Core.Path.{_≡_, ap}
+use mathlib.Core.Path.{ap}
 use mathlib.Core.List.{List}
 use Prim.Native.Nat.{ℕ}
 use lib.ListN.{length}

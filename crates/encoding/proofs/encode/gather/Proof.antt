@@ -1,8 +1,8 @@
 -- `encode::gather` writes eight bytes at a time while they lie within the file, and leaves the rest to `trail`. The invariant: what is left to write makes what the whole
 -- makes (`Run`). Assumes nothing.
-use mathlib.Core.Path.{_≡_, sym, _∙_}
+use mathlib.Core.Path.{_∙_}
 use mathlib.Core.Logic.{⊎-elim}
-use Prim.Native.Nat.{ℕ, _+_, _-_, _*_, _<_}
+use Prim.Native.Nat.{_+_, _-_, _*_, _<_}
 use native.Mathlib.Omega.{arith}
 use lib.ListN.{length, getD}
 use Rattle.ground.proofs.Writing.{Run, run-begin}
