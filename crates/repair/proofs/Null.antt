@@ -178,10 +178,10 @@ module _ (s : List ℕ) (n : ℕ) (vectors : List (List ℕ)) (scales : List ℕ
           (record { short = short-more n (getD vectors k []) (was .short); passed = was .passed; scaled = was .scaled })
 
 -- nothing is left for run 8: eight runs annihilate v
-pub annihilated : (s : List ℕ) (l : ℕ) (scales v : List ℕ) (i d : ℕ) → l < 9 → 8 ≤ i → Reduced s l scales v i d → Annihilated s v l
+pub annihilated : (s : List ℕ) (l : ℕ) (scales v : List ℕ) (i d : ℕ) → l < 9 → 8 ≤ i → Reduced s l scales v i d → Annihilated s v
 annihilated s l scales v i d inside h red =
     let r : Reducing s l i v = red .reducing in
-    record { inside = inside; short = r .short; leading = r .leading; passed = λ k b. r .passed k (omega arith) }
+    record { top = l; inside = inside; short = r .short; leading = r .leading; passed = λ k b. r .passed k (omega arith) }
 
 -- ---- x · v: run k of it is run k + 1 of v
 

@@ -27,6 +27,10 @@ pub record Termed (c a : ℕ) (s r : List ℕ) : Type 0 where
   pub sized : length r ≡ 16
   pub entry : (j : ℕ) → j < 16 → getD r j 0 ≡ sum (getD s j 0) (product c (expo (power a) j))
 
+-- r is the sixteen sums s, with what c at the first n places add
+pub record Shared (s at c : List ℕ) (n : ℕ) (r : List ℕ) : Type 0 where
+  pub entry : (j : ℕ) → j < 16 → getD r j 0 ≡ sum (getD s j 0) (shareOf (entries at) (entries c) n j)
+
 -- the first n entries are different places
 pub record Placed (n : ℕ) (at : List ℕ) : Type 0 where
   pub few : n ≤ 16
@@ -75,11 +79,6 @@ pub record Solved (at : List ℕ) (n : ℕ) (s c : List ℕ) : Type 0 where
 pub record Nought (s : List ℕ) (r : Bool) : Type 0 where
   pub yes : r ≡ true → (j : ℕ) → j < 16 → getD s j 0 ≡ 0
   pub no : r ≡ false → ((j : ℕ) → j < 16 → getD s j 0 ≡ 0) → ⊥
-
--- r says whether c at the first n places gives all sixteen syndromes s
-pub record Agreeing (s at c : List ℕ) (n : ℕ) (r : Bool) : Type 0 where
-  pub yes : r ≡ true → (j : ℕ) → j < 16 → shareOf (entries at) (entries c) n j ≡ getD s j 0
-  pub no : r ≡ false → ((j : ℕ) → j < 16 → shareOf (entries at) (entries c) n j ≡ getD s j 0) → ⊥
 
 -- ---- the row
 

@@ -53,11 +53,12 @@ pub record Reduced (s : List ℕ) (l : ℕ) (scales : List ℕ) (v : List ℕ) (
   pub nonzero : i < 8 → d ≢ 0
   pub free : i < 8 → getD scales i 0 ≡ 0
 
--- v has the leading entry 1 at l, and eight runs annihilate it
-pub record Annihilated (s : List ℕ) (v : List ℕ) (l : ℕ) : Type 0 where
-  pub inside : l < 9
-  pub short : Short (suc l) v
-  pub leading : getD v l 0 ≡ 1
+-- v has a leading entry 1, and eight runs annihilate it
+pub record Annihilated (s : List ℕ) (v : List ℕ) : Type 0 where
+  pub top : ℕ
+  pub inside : top < 9
+  pub short : Short (suc top) v
+  pub leading : getD v top 0 ≡ 1
   pub passed : Passed s 8 v
 
 -- r is v + c · q

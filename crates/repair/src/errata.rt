@@ -21,33 +21,34 @@ pub(crate) struct Errata {
 pub(crate) fn find(rest: [u8; 16]) -> Errata
     ensures { λ r. ⌜ Searched rest (r .n) (r .at) (r .values) (r .fits) ⌝ }
 {
+    let none = [0u8; 16];
     if terms::is_nought(rest) {
         return Errata {
             fits: true,
             n: 0,
-            at: [0u8; 16],
-            values: [0u8; 16],
+            at: none,
+            values: none,
         };
     }
-    search(rest)
-}
-
-// The same by way of the syndromes.
-fn search(rest: [u8; 16]) -> Errata
-    ensures { λ r. ⌜ Searched rest (r .n) (r .at) (r .values) (r .fits) ⌝ }
-{
     let powers = field::powers();
     let logs = field::logs();
-    let s = terms::syndromes(rest, &powers, &logs);
-    let null = kernel::null_vector(s, &powers, &logs);
-    let v = null.v;
-    let places = roots::find(v);
+    let p = &powers;
+    let l = &logs;
+    // The syndromes: the remainder's bytes are the coefficients of the powers 15 to 0.
+    let s = terms::add_terms(
+        none,
+        [15u8, 14, 13, 12, 11, 10, 9, 8, 7, 6, 5, 4, 3, 2, 1, 0],
+        rest,
+        16,
+        p,
+        l,
+    );
+    let places = roots::find(kernel::null_vector(s, p, l));
     let n = places.n;
     let at = places.at;
-    let values = solve(s, at, n, &powers, &logs);
-    let fits = terms::agrees(s, at, values, n, &powers, &logs);
+    let values = solve(s, at, n, p, l);
     Errata {
-        fits,
+        fits: terms::is_nought(terms::add_terms(s, at, values, n, p, l)),
         n,
         at,
         values,

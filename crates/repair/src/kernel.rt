@@ -7,12 +7,6 @@ ghost use Rattle.repair.specs.InnerSums.{runOf};
 ghost use Rattle.repair.specs.InnerNull.{Short, Mixed, Shifted, Basis, Reducing, Reduced, Annihilated};
 use crate::factors;
 
-// The vector, and the place of its leading 1.
-pub(crate) struct Null {
-    pub v: [u8; 9],
-    pub top: usize,
-}
-
 // A vector as far as the kept ones reduce it, the run that has none to go on with, and what that run gives.
 struct Left {
     v: [u8; 9],
@@ -98,9 +92,9 @@ fn reduce(
 }
 
 // The vector. Each is reduced by those before it, and kept at the run that it leaves nothing for; the next begins as x times it.
-pub(crate) fn null_vector(s: [u8; 16], powers: &[u8; 512], logs: &[u8; 256]) -> Null
+pub(crate) fn null_vector(s: [u8; 16], powers: &[u8; 512], logs: &[u8; 256]) -> [u8; 9]
     requires { ⌜ Powers (now powers) × Logs (now logs) ⌝ }
-    ensures { λ r. ⌜ Annihilated s (r .v) (r .top) ⌝ }
+    ensures { λ r. ⌜ Annihilated s r ⌝ }
 {
     let mut vectors = [[0u8; 9]; 8];
     let mut scales = [0u8; 8];
@@ -112,7 +106,7 @@ pub(crate) fn null_vector(s: [u8; 16], powers: &[u8; 512], logs: &[u8; 256]) -> 
         let v = left.v;
         let i = left.run;
         if 8 <= i {
-            return Null { v, top: l };
+            return v;
         }
         vectors[i] = v;
         scales[i] = factors::inverse(powers, logs, left.d);
@@ -120,7 +114,7 @@ pub(crate) fn null_vector(s: [u8; 16], powers: &[u8; 512], logs: &[u8; 256]) -> 
         from = before(i);
         l += 1;
     }
-    Null { v: begin, top: 0 }
+    begin
 }
 
 // i - 1, or 0.

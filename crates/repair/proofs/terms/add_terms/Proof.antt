@@ -1,19 +1,20 @@
--- `terms::agrees` takes what each place adds off the syndromes: nothing is left exactly if the values give them.
+-- `terms::add_terms` adds one place a turn: after k turns the sums have what the first k places add.
 -- Assumes nothing.
 use Prim.Native.Nat.{_-_, _≤_}
 use native.Mathlib.Omega.{arith}
-use Rattle.repair.proofs.Shares.{Leaving, leaving-start, leaving-more, leaving-agrees}
-use Rattle.repair.proofs.terms.agrees.Statement.{statement}
-use Rattle.repair.proofs.terms.agrees.Tie as tie
+use Rattle.repair.specs.InnerErrata.{Shared}
+use Rattle.repair.proofs.Shares.{shared-start, shared-more, shared-end}
+use Rattle.repair.proofs.terms.add_terms.Statement.{statement}
+use Rattle.repair.proofs.terms.add_terms.Tie as tie
 
 abbrev Inv-loop : tie.InvT-loop
-Inv-loop n powers logs at values left₀ k₀ left k = (k ≤ n) × Leaving left₀ at values k left
+Inv-loop n powers logs at values out₀ k₀ out k = (k ≤ n) × Shared out₀ at values k out
 
 abbrev μ-loop : tie.MeasureT-loop
-μ-loop n powers logs at values left₀ k₀ left k = n - k
+μ-loop n powers logs at values out₀ k₀ out k = n - k
 
 loop-holds : tie.Need-loop-holds Inv-loop μ-loop
-loop-holds c = (omega arith, leaving-start _ _ _)
+loop-holds c = (omega arith, shared-start _ _ _)
 
 array-read-add-term : tie.Need-array-read-add-term Inv-loop μ-loop
 array-read-add-term c = omega (arith, c .before .before .pre .0 .few)
@@ -36,17 +37,13 @@ loop-less : tie.Need-loop-less Inv-loop μ-loop
 loop-less c = omega arith
 
 loop-again : tie.Need-loop-again Inv-loop μ-loop
-loop-again c = (omega arith, leaving-more (c .before .before .before .loop .inv .1) _ _ (c .before .index .ensures .0) (c .add-term .ensures))
-
-is-nought-requires : tie.Need-is-nought-requires Inv-loop μ-loop
-is-nought-requires c κs = tt
+loop-again c = (omega arith, shared-more (c .before .before .before .loop .inv .1) _ _ (c .before .index .ensures .0) (c .add-term .ensures))
 
 returns : tie.Need-returns Inv-loop μ-loop
-returns c =
-    leaving-agrees (c .before .before .loop .inv .1) _ (omega arith) _ (c .is-nought .ensures)
+returns c = shared-end (c .before .loop .inv .1) (omega arith)
 
-pub agrees-spec : {M : Type 1} → statement M
-agrees-spec =
+pub add-terms-spec : {M : Type 1} → statement M
+add-terms-spec =
     tie.close
     (tie.spec
     Inv-loop
@@ -59,5 +56,4 @@ agrees-spec =
     add-k
     loop-less
     loop-again
-    is-nought-requires
     returns)
