@@ -1,13 +1,21 @@
--- Products and quotients by exponents: α^i · α^e is the entry i + e of the powers' table, and 255 is a whole round.
+-- Products and quotients by exponents: α^i · α^e is the entry i + e of the powers' table, and 255 is a whole round. And what the field's own calls read off the tables.
 -- Assumes nothing.
 use mathlib.Core.Path.{_≡_, sym, ap, ap₂, _∙_}
 use mathlib.Core.List.{List}
 use Prim.Native.Nat.{ℕ, _+_, _-_, _≤_, _<_}
 use native.Mathlib.Omega.{arith}
 use lib.ListN.{getD}
-use Rattle.field.specs.Field.{product, power}
-use Rattle.field.specs.Tables.{Powers}
+use Rattle.field.specs.Field.{product, power, Inverse}
+use Rattle.field.specs.Tables.{Powers, Logs, mulBy, inverseBy}
+use Rattle.field.proofs.ByTables.{mul-by-tables, inverse-by-tables}
 use Rattle.field.proofs.Laws.{zero-product, product-power, power-period}
+
+module _ {p l : List ℕ} (isp : Powers p) (isl : Logs l) where
+  pub times-law : {a b r : ℕ} → r ≡ mulBy p l a b → a < 256 → b < 256 → r ≡ product a b
+  times-law {a} {b} {r} e ha hb = e ∙ mul-by-tables a b isp isl ha hb
+
+  pub inverse-law : {a r : ℕ} → r ≡ inverseBy p l a → a < 256 → Inverse a r
+  inverse-law {a} {r} e h = rw e (inverse-by-tables a isp isl h)
 
 module _ {p : List ℕ} (isp : Powers p) where
   pub entry-raised : (c i e : ℕ) → i < 255 → power i ≡ c → e < 256 → getD p (i + e) 0 ≡ product c (power e)

@@ -5,22 +5,6 @@ ghost use Prim.Native.Nat.{_<_};
 ghost use Rattle.field.specs.Field.{product, power};
 ghost use Rattle.field.specs.Tables.{Powers, Logs};
 
-// a · b
-pub(crate) fn times(powers: &[u8; 512], logs: &[u8; 256], a: u8, b: u8) -> u8
-    requires { ⌜ Powers (now powers) × Logs (now logs) ⌝ }
-    ensures { λ r. ⌜ r ≡ product a b ⌝ }
-{
-    field::mul_by(powers, logs, a, b)
-}
-
-// One over a, which is not 0.
-pub(crate) fn inverse(powers: &[u8; 512], logs: &[u8; 256], a: u8) -> u8
-    requires { ⌜ Powers (now powers) × Logs (now logs) × (a ≢ 0) ⌝ }
-    ensures { λ r. ⌜ product a r ≡ 1 ⌝ }
-{
-    field::inverse_by(powers, logs, a)
-}
-
 // c · α^e
 pub(crate) fn raised(powers: &[u8; 512], logs: &[u8; 256], c: u8, e: usize) -> u8
     requires { ⌜ (e < 256) × Powers (now powers) × Logs (now logs) ⌝ }

@@ -1,5 +1,4 @@
 // Sixteen sums of terms c · α^(a · j), j from 0 to 15: what the byte c at the place with the locator α^a adds to the syndromes of a row (document 01, section 3).
-ghost use mathlib.Core.Path.{_≡_};
 ghost use Prim.Native.Nat.{_<_};
 ghost use Rattle.field.specs.Tables.{Powers, Logs};
 ghost use Rattle.repair.specs.InnerErrata.{Termed, Placed, Shared, Nought};
