@@ -138,16 +138,16 @@ pub(crate) fn solve(
     out
 }
 
-// The row with the values added at the first n places.
-pub(crate) fn mend(row: [u8; 255], at: [u8; 16], values: [u8; 16], n: usize) -> [u8; 255]
-    requires { ⌜ Placed n at ⌝ }
-    ensures { λ r. ⌜ r ≡ mendedBy row (entries at) (entries values) n ⌝ }
+// The row with the values added at the places.
+pub(crate) fn mend(row: [u8; 255], e: Errata) -> [u8; 255]
+    requires { ⌜ Placed (e .n) (e .at) ⌝ }
+    ensures { λ r. ⌜ r ≡ mendedBy row (entries (e .at)) (entries (e .values)) (e .n) ⌝ }
 {
     let mut out = row;
     let mut k: usize = 0;
-    while k < n {
-        let i = 254 - words::index(at[k]);
-        out[i] = out[i] ^ values[k];
+    while k < e.n {
+        let i = 254 - words::index(e.at[k]);
+        out[i] = out[i] ^ e.values[k];
         k += 1;
     }
     out
