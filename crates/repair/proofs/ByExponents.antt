@@ -1,4 +1,4 @@
--- Products and quotients by exponents: α^i · α^e is the entry i + e of the powers' table, and 255 is a whole round. And what the field's own calls read off the tables.
+-- Quotients by exponents, of which 255 are a whole round; and what the field's own calls read off the tables.
 -- Assumes nothing.
 use mathlib.Core.Path.{_≡_, sym, ap, ap₂, _∙_}
 use mathlib.Core.List.{List}
@@ -18,10 +18,6 @@ module _ {p l : List ℕ} (isp : Powers p) (isl : Logs l) where
   inverse-law {a} {r} e h = rw e (inverse-by-tables a isp isl h)
 
 module _ {p : List ℕ} (isp : Powers p) where
-  pub entry-raised : (c i e : ℕ) → i < 255 → power i ≡ c → e < 256 → getD p (i + e) 0 ≡ product c (power e)
-  entry-raised c i e hi q he =
-      isp .entry (i + e) (omega arith) ∙ sym (product-power i e) ∙ ap (λ (x : ℕ). product x (power e)) q
-
   pub entry-over : (a b i j : ℕ) → i < 255 → power i ≡ a → j < 255 → power j ≡ b → product (getD p (i + (255 - j)) 0) b ≡ a
   entry-over a b i j hi qa hj qb =
       let e : i + (255 - j) + j ≡ i + 255 = omega arith in
@@ -30,9 +26,6 @@ module _ {p : List ℕ} (isp : Powers p) where
       ∙ ap power e
       ∙ power-period i
       ∙ qa
-
-pub zero-raised : (c r : ℕ) → c ≡ 0 → 0 ≡ product c r
-zero-raised c r e = sym (ap (λ (x : ℕ). product x r) e ∙ zero-product r)
 
 pub zero-over : (a b : ℕ) → a ≡ 0 → product 0 b ≡ a
 zero-over a b e = zero-product b ∙ sym e

@@ -4,15 +4,15 @@
 use mathlib.Core.Path.{_≡_, refl, sym, ap, ap₂, subst, _∙_}
 use mathlib.Core.Logic.{_≢_, ⊎-elim}
 use mathlib.Core.Bool.{Bool, true, false, cond}
-use mathlib.Core.List.{List, [], _∷_}
+use mathlib.Core.List.{List, [], _∷_, _++_, append-nil}
 use Prim.Native.Nat.{ℕ, zero, suc, _+_, _-_, _≤_, _<_, zero-le, suc-le-suc}
 use native.Mathlib.Nat.{le-refl, le-trans, le-suc, le-of-suc-le-suc, not-suc-le-zero}
 use native.Mathlib.Numerals.{add-one}
 use native.Mathlib.Omega.{arith}
 use borrow.Author.Tests.{eq-eqb, ne-eqb}
 use lib.Dec.{eqb}
-use lib.ListN.{length, getD, set, length-set, getD-replicate, List·getD-eq-default, replicate}
-use lib.Seq.{getD-set-same, getD-set-other}
+use lib.ListN.{length, getD, set, take, drop, length-set, getD-replicate, List·getD-eq-default, replicate}
+use lib.Seq.{sets, sets-eq, getD-set-same, getD-set-other, getD-take, length-take-le}
 use Rattle.ground.specs.Bits.{sum}
 use Rattle.ground.proofs.Sums.{sum-self, sum-zero, zero-sum}
 use Rattle.field.specs.Field.{product, Inverse}
@@ -216,28 +216,17 @@ run-shifted v r s k short sh =
     step : (m : ℕ) → k + suc m ≡ k + 1 + m
     step m = omega arith
 
--- the entries of v from 0 on, one place up, of which m have been moved
-pub record Moving (v out : List ℕ) (m : ℕ) : Type 0 where
-  pub within : m ≤ 8
-  pub sized : length out ≡ 9
-  pub first : getD out 0 0 ≡ 0
-  pub next : (i : ℕ) → i < m → getD out (suc i) 0 ≡ getD v i 0
-
-pub moving-more : {v out : List ℕ} {m : ℕ} → Moving v out m → m < 8 → Moving v (set out (m + 1) (getD v m 0)) (m + 1)
-moving-more {v} {out} {m} was h =
-    let long : length out ≡ 9 = was .sized in
-    let x : ℕ = getD v m 0 in
+-- eight entries copied behind a 0
+pub shifted : (v : List ℕ) {out : List ℕ} → length v ≡ 9 → out ≡ sets (replicate 9 0) 1 (take 8 v) → Shifted v out
+shifted v {out} long e =
+    let w : List ℕ = take 8 v in
+    let n : length w ≡ 8 = length-take-le 8 v (omega arith) in
+    let f : out ≡ 0 ∷ w =
+    e ∙ sets-eq w (replicate 9 0) 1 (omega arith) ∙ ap (λ (k : ℕ). 0 ∷ (w ++ drop (1 + k) (replicate 9 0))) n ∙ ap (λ (l : List ℕ). 0 ∷ l) (append-nil w) in
     record {
-      within = omega arith;
-      sized = length-set out (m + 1) x ∙ long;
-      first = getD-set-other out (m + 1) 0 x 0 (λ e. omega arith) ∙ was .first;
-      next =
-          λ i lt. ⊎-elim
-          (λ (e : i ≡ m).
-          ap (λ (k : ℕ). getD (set out (m + 1) x) k 0) (ap suc e ∙ sym (add-one m))
-          ∙ getD-set-same out (m + 1) x 0 (omega arith) ∙ ap (λ (k : ℕ). getD v k 0) (sym e))
-          (λ (b : i < m). getD-set-other out (m + 1) (suc i) x 0 (λ e. omega arith) ∙ was .next i b)
-          (below-suc (subst (λ (k : ℕ). i < k) (add-one m) lt));
+      sized = ap length f ∙ ap suc n;
+      first = ap (λ (l : List ℕ). getD l 0 0) f;
+      next = λ m h. ap (λ (l : List ℕ). getD l (suc m) 0) f ∙ getD-take 8 v m 0 h;
     }
 
 -- the next vector begins as x times the one that was kept for run i; the runs before run i - 1 annihilate it

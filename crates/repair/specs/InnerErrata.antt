@@ -52,11 +52,11 @@ unfoldable pub shiftsOf : (ℕ → ℕ) → (ℕ → ℕ) → ℕ → ℕ → �
 shiftsOf a s zero j = s j
 shiftsOf a s (suc k) j = sum (shiftsOf a s k (suc j)) (product (power (a k)) (shiftsOf a s k j))
 
--- place k was shifted out of the entries of c behind entry k
-pub record ShiftedOut (a n k : ℕ) (c r : List ℕ) : Type 0 where
+-- the place with the locator x was shifted out of the entries of c behind entry k
+pub record ShiftedOut (x n k : ℕ) (c r : List ℕ) : Type 0 where
   pub sized : length r ≡ 16
   pub kept : (i : ℕ) → i ≤ k → getD r i 0 ≡ getD c i 0
-  pub moved : (i : ℕ) → k ≤ i → suc i < n → getD r (suc i) 0 ≡ sum (getD c (suc i) 0) (product (power a) (getD c i 0))
+  pub moved : (i : ℕ) → k ≤ i → suc i < n → getD r (suc i) 0 ≡ sum (getD c (suc i) 0) (product x (getD c i 0))
 
 -- entry k is the first one left after k places were shifted out
 pub record Sifted (at : List ℕ) (n : ℕ) (s c : List ℕ) : Type 0 where

@@ -55,23 +55,23 @@ pub(crate) fn find(rest: [u8; 16]) -> Errata
     }
 }
 
-// The entries behind entry k, each less α^a times the one before it.
+// The entries behind entry k, each less x times the one before it.
 fn shift_out(
     c: [u8; 16],
-    a: usize,
+    x: u8,
     n: usize,
     k: usize,
     powers: &[u8; 512],
     logs: &[u8; 256],
 ) -> [u8; 16]
-    requires { ⌜ (a < 255) × (k < n) × (n ≤ 16) × Powers (now powers) × Logs (now logs) ⌝ }
-    ensures { λ r. ⌜ ShiftedOut a n k c r ⌝ }
+    requires { ⌜ (k < n) × (n ≤ 16) × Powers (now powers) × Logs (now logs) ⌝ }
+    ensures { λ r. ⌜ ShiftedOut x n k c r ⌝ }
 {
     let mut out = c;
     let mut i = n;
     while k + 1 < i {
         i -= 1;
-        out[i] = out[i] ^ factors::raised(powers, logs, out[i - 1], a);
+        out[i] = out[i] ^ field::mul_by(powers, logs, x, out[i - 1]);
     }
     out
 }
@@ -84,7 +84,7 @@ fn sift(s: [u8; 16], at: [u8; 16], n: usize, powers: &[u8; 512], logs: &[u8; 256
     let mut out = s;
     let mut k: usize = 0;
     while k < n {
-        let next = shift_out(out, words::index(at[k]), n, k, powers, logs);
+        let next = shift_out(out, factors::power(powers, at[k]), n, k, powers, logs);
         out = next;
         k += 1;
     }

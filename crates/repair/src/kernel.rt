@@ -39,11 +39,7 @@ fn shift(v: [u8; 9]) -> [u8; 9]
     ensures { λ r. ⌜ Shifted v r ⌝ }
 {
     let mut out = [0u8; 9];
-    let mut m: usize = 0;
-    while m < 8 {
-        out[m + 1] = v[m];
-        m += 1;
-    }
+    words::copy_in(&mut out, 1, &v[0..8]);
     out
 }
 
