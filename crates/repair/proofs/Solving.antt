@@ -13,7 +13,7 @@ use lib.Seq.{getD-set-same, getD-set-other}
 use Rattle.ground.specs.Bits.{sum}
 use Rattle.ground.proofs.Sums.{sum-assoc, sum-comm, sum-self, sum-zero, zero-sum, sum-cancel}
 use Rattle.field.specs.Field.{product, expo, power}
-use Rattle.field.proofs.Laws.{ring, product-comm, power-injective}
+use Rattle.field.proofs.Laws.{ring, power-injective}
 use Rattle.code.proofs.Lists.{sum-again}
 use Rattle.code.proofs.Weights.{expo-zero, expo-suc, one-product}
 use Rattle.repair.specs.InnerSums.{total}

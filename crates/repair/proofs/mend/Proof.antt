@@ -7,21 +7,20 @@ use lib.ListN.{length}
 use Rattle.code.specs.Mend.{mendRows}
 use Rattle.repair.proofs.AllRows.{mend-short, mend-long, mend-all, ends-few, all-resting}
 use native.Mathlib.Omega.{arith}
-use borrow.Author.Needs.{needs}
 use Rattle.repair.proofs.mend.Statement.{statement}
 use Rattle.repair.proofs.mend.Tie as tie
 
 returns : tie.Need-returns
-returns c = mend-short _ (search needs)
+returns c = mend-short _ (c .if1 .taken)
 
 returns-2 : tie.Need-returns-2
-returns-2 c = mend-long _ (search needs) (search needs)
+returns-2 c = mend-long _ (c .before .if1 .left) (c .if2 .taken)
 
 remainders-requires : tie.Need-remainders-requires
 remainders-requires c κs = tt
 
 mend-from-requires : tie.Need-mend-from-requires
-mend-from-requires c κs = all-resting _ (search needs) (search needs) _ (c .before .before .remainders .ensures)
+mend-from-requires c κs = all-resting _ (c .before .before .before .before .before .if1 .left) (c .before .before .before .before .if2 .left) _ (c .before .before .remainders .ensures)
 
 told-requires : tie.Need-told-requires
 told-requires c κs =
@@ -35,8 +34,8 @@ same-length c = omega arith
 returns-3 : tie.Need-returns-3
 returns-3 c =
     let b : List ℕ = c .before .before .before .before .before .before .before .before .before .before .before .args .rows .now in
-    let m : length b % 255 ≡ 0 = search needs in
-    let l : length b ≤ 3825 = search needs in
+    let m : length b % 255 ≡ 0 = c .before .before .before .before .before .before .before .before .before .if1 .left in
+    let l : length b ≤ 3825 = c .before .before .before .before .before .before .before .before .if2 .left in
     mend-all b m l _ _ _ (c .before .before .before .mend-from .ensures) (c .told .ensures)
 
 pub mend-spec : {M : Type 1} → statement M

@@ -8,13 +8,12 @@ use lib.Seq.{take-all}
 use borrow.Author.Tests.{eq-eqb, ne-eqb}
 use Rattle.repair.specs.Repair.{mendOf, repairRowOf}
 use native.Mathlib.Omega.{arith}
-use borrow.Author.Needs.{needs}
 use Rattle.repair.proofs.repair_row.Statement.{statement}
 use Rattle.repair.proofs.repair_row.Tie as tie
 
 returns : tie.Need-returns
 unfolding repairRowOf
-returns c = rw (ne-eqb (length (c .before .before .args .row .now)) 255 (search needs))
+returns c = rw (ne-eqb (length (c .before .before .args .row .now)) 255 (c .if1 .taken))
 
 row-in-requires : tie.Need-row-in-requires
 row-in-requires c κs = omega arith
@@ -26,7 +25,7 @@ returns-2 : tie.Need-returns-2
 unfolding repairRowOf
 returns-2 c =
     let row : List ℕ = c .before .before .before .before .args .row .now in
-    let e : length row ≡ 255 = search needs in
+    let e : length row ≡ 255 = c .before .before .if1 .left in
     rw (eq-eqb (length row) 255 e) (c .repair .ensures ∙ ap mendOf (c .before .row-in .ensures ∙ take-all 255 row (omega arith)))
 
 pub repair-row-spec : {M : Type 1} → statement M

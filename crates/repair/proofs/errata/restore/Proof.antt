@@ -21,7 +21,7 @@ array-read-power : tie.Need-array-read-power Inv-loop μ-loop
 array-read-power c = omega (arith, c .pre .1 .few)
 
 power-requires : tie.Need-power-requires Inv-loop μ-loop
-power-requires c κs = search needs
+power-requires c κs = c .pre .2
 
 array-read-acc : tie.Need-array-read-acc Inv-loop μ-loop
 array-read-acc c = omega (arith, c .before .pre .1 .few)
@@ -39,7 +39,7 @@ array-read-power-2 : tie.Need-array-read-power-2 Inv-loop μ-loop
 array-read-power-2 c = omega (arith, c .before .before .before .pre .1 .few)
 
 power-requires-2 : tie.Need-power-requires-2 Inv-loop μ-loop
-power-requires-2 c κs = search needs
+power-requires-2 c κs = c .before .before .before .pre .2
 
 over-requires : tie.Need-over-requires Inv-loop μ-loop
 unfolding sum

@@ -23,7 +23,7 @@ returns : tie.Need-returns Inv-loop μ-loop
 returns c = term-nothing _ _ _ (c .if1 .taken) (search needs)
 
 log-requires : tie.Need-log-requires Inv-loop μ-loop
-log-requires c κs = search needs
+log-requires c κs = (c .if1 .left, c .before .pre .2)
 
 loop-holds : tie.Need-loop-holds Inv-loop μ-loop
 loop-holds c =
