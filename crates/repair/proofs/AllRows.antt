@@ -117,16 +117,16 @@ pub not-added : (r : ℕ) (b at c : List ℕ) (n : ℕ) → r < 15 → Finished 
 not-added r b at c n h = record { kept = λ l. refl; added = λ l. absurd (omega arith) }
 
 -- the row at the front, held by value, mended and put back
-pub put-back : (r : ℕ) (b at c : List ℕ) (n : ℕ) (row fixed out : List ℕ) → 15 ≤ r → 255 ≤ length b → row ≡ take 255 b
-    → fixed ≡ mendedBy row (entries at) (entries c) n → out ≡ sets b 0 fixed → Finished r b at c n out
-put-back r b at c n row fixed out l h e f g =
+pub put-back : (r : ℕ) (b at c : List ℕ) (n : ℕ) (fixed out : List ℕ) → 15 ≤ r → 255 ≤ length b → fixed ≡ mendedBy (take 255 b) (entries at) (entries c) n
+    → out ≡ sets b 0 fixed → Finished r b at c n out
+put-back r b at c n fixed out l h f g =
     let k : length (take 255 b) ≡ 255 = length-take-le 255 b h in
     let m : List ℕ = mendedBy (take 255 b) (entries at) (entries c) n in
     let s : length m ≡ 255 = mended-length (take 255 b) k (entries at) (entries c) n in
     record {
       kept = λ x. absurd (omega arith);
       added =
-          λ x. g ∙ ap (sets b 0) (f ∙ ap (λ (l : List ℕ). mendedBy l (entries at) (entries c) n) e)
+          λ x. g ∙ ap (sets b 0) f
           ∙ sets-front b m (omega arith) ∙ ap (λ (i : ℕ). m ++ drop i b) s
           ∙ sym (mended-front (take 255 b) (drop 255 b) (entries at) (entries c) n k)
           ∙ ap (λ (l : List ℕ). mendedBy l (entries at) (entries c) n) (take-append-drop 255 b);
@@ -141,6 +141,10 @@ pub row-known : (b : List ℕ) (i : ℕ) (rests : List ℕ) → Resting b i rest
 row-known b i rests w h =
     let e : (i + 0) * 16 ≡ i * 16 = omega arith in
     ap (λ (k : ℕ). take 16 (drop k rests)) (sym e) ∙ w .left 0 (omega arith)
+
+-- the first row, copied over as many zeros
+pub copied-row : (rows : List ℕ) {out : List ℕ} → 255 ≤ length rows → out ≡ sets (zeros 255) 0 (take 255 rows) → out ≡ take 255 rows
+copied-row rows {out} h e = e ∙ sets-all (zeros 255) (take 255 rows) (length-take-le 255 rows h ∙ sym (length-zeros 255))
 
 -- sixteen bytes of what all rows leave, copied over as many zeros
 pub copied-rest : (rests : List ℕ) (i : ℕ) {out : List ℕ} → length rests ≡ 240 → i < 15 → out ≡ sets (zeros 16) 0 (take (i * 16 + 16 - i * 16) (drop (i * 16) rests))

@@ -2,6 +2,7 @@
 // places are shifted out of the syndromes one after the other, which leaves one equation for the last place, and are then brought back, last first.
 ghost use mathlib.Core.Path.{_≡_};
 ghost use Prim.Native.Nat.{_≤_, _<_};
+ghost use lib.ListN.{length, take};
 ghost use Rattle.field.specs.Tables.{Powers, Logs};
 ghost use Rattle.repair.specs.InnerErrata.{Placed, ShiftedOut, Sifted, Restored, Solved, Searched, mendedBy, entries};
 use crate::factors;
@@ -138,17 +139,18 @@ pub(crate) fn solve(
     out
 }
 
-// The row with the values added at the places.
-pub(crate) fn mend(row: [u8; 255], e: Errata) -> [u8; 255]
-    requires { ⌜ Placed (e .n) (e .at) ⌝ }
-    ensures { λ r. ⌜ r ≡ mendedBy row (entries (e .at)) (entries (e .values)) (e .n) ⌝ }
+// The row at the front, held by value, with the values added at the places.
+pub(crate) fn mend(rows: &[u8], e: Errata) -> [u8; 255]
+    requires { ⌜ Placed (e .n) (e .at) × (255 ≤ length (now rows)) ⌝ }
+    ensures { λ r. ⌜ r ≡ mendedBy (take 255 (now (rows .entry))) (entries (e .at)) (entries (e .values)) (e .n) ⌝ }
 {
-    let mut out = row;
+    let mut row = [0u8; 255];
+    words::copy_in(&mut row, 0, &rows[0..255]);
     let mut k: usize = 0;
     while k < e.n {
         let i = 254 - words::index(e.at[k]);
-        out[i] = out[i] ^ e.values[k];
+        row[i] = row[i] ^ e.values[k];
         k += 1;
     }
-    out
+    row
 }

@@ -62,11 +62,13 @@ pub fn repair(row: [u8; 255]) -> Mended
 pub fn repair_row(row: &[u8]) -> Mended
     ensures { λ r. ⌜ r ≡ repairRowOf (now (row .entry)) ⌝ }
 {
+    let mut held = [0u8; 255];
     if row.len() != 255 {
         return Mended {
             verdict: Verdict::Refused(Refusal::Short),
-            row: [0u8; 255],
+            row: held,
         };
     }
-    repair(rows::row_in(row))
+    words::copy_in(&mut held, 0, row);
+    repair(held)
 }

@@ -20,16 +20,6 @@ fn rest_in(rests: &[u8; 240], i: usize) -> [u8; 16]
     rest
 }
 
-// The row at the front, held by value.
-pub(crate) fn row_in(rows: &[u8]) -> [u8; 255]
-    requires { ⌜ 255 ≤ length (now rows) ⌝ }
-    ensures { λ r. ⌜ r ≡ take 255 (now (rows .entry)) ⌝ }
-{
-    let mut row = [0u8; 255];
-    words::copy_in(&mut row, 0, &rows[0..255]);
-    row
-}
-
 // Where the rows behind were mended, none of them broken, corrects the row at the front. A row with nothing to add is right as it stands.
 fn finish(broken: usize, rows: &mut [u8], e: Errata) -> usize
     requires { ⌜ Placed (e .n) (e .at) × (255 ≤ length (now rows)) ⌝ }
@@ -41,7 +31,7 @@ fn finish(broken: usize, rows: &mut [u8], e: Errata) -> usize
     if e.n == 0 {
         return broken;
     }
-    let row = errata::mend(row_in(rows), e);
+    let row = errata::mend(rows, e);
     words::copy_in(rows, 0, &row);
     broken
 }
