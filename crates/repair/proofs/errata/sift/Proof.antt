@@ -2,7 +2,6 @@
 -- Assumes nothing.
 use Prim.Native.Nat.{_-_}
 use native.Mathlib.Nat.{lt-of-lt-of-le}
-use native.Mathlib.Omega.{arith}
 use Rattle.repair.proofs.Stores.{next-nearer, next-fits}
 use Rattle.repair.proofs.Solving.{Sifting, sifting-start, sifting-more, sifting-end}
 use borrow.Author.Needs.{needs}

@@ -2,12 +2,12 @@
 -- Assumes nothing.
 use mathlib.Core.Path.{ap₂}
 use Prim.Native.Nat.{ℕ, _-_, _≤_, _<_}
-use native.Mathlib.Nat.{le-refl}
+use native.Mathlib.Nat.{le-refl, lt-of-lt-of-le}
 use native.Mathlib.Omega.{arith}
 use Rattle.ground.specs.Bits.{sum}
 use lib.ListN.{getD}
 use Rattle.repair.proofs.ByExponents.{times-law}
-use Rattle.repair.proofs.Stores.{Front, front-start, front-more}
+use Rattle.repair.proofs.Stores.{next-within, next-nearer, Front, front-start, front-more}
 use Rattle.repair.proofs.Null.{Added, mixed-from}
 use borrow.Author.Needs.{needs}
 use Rattle.repair.proofs.kernel.mix.Statement.{statement}
@@ -30,32 +30,33 @@ loop-holds : tie.Need-loop-holds Inv-loop μ-loop
 loop-holds c = (omega arith, front-start _ 9 _ (search needs))
 
 array-read-out : tie.Need-array-read-out Inv-loop μ-loop
-array-read-out c = omega arith
+array-read-out c = lt-of-lt-of-le (c .loop-test .taken) (c .before .before .pre .0)
 
 array-read-mul-by : tie.Need-array-read-mul-by Inv-loop μ-loop
-array-read-mul-by c = omega arith
+array-read-mul-by c = lt-of-lt-of-le (c .loop-test .taken) (c .before .before .pre .0)
 
 mul-by-requires : tie.Need-mul-by-requires Inv-loop μ-loop
 mul-by-requires c κs = tt
 
 array-write-out : tie.Need-array-write-out Inv-loop μ-loop
-array-write-out c = omega arith
+array-write-out c = lt-of-lt-of-le (c .before .loop-test .taken) (c .before .before .before .pre .0)
 
 add-m : tie.Need-add-m Inv-loop μ-loop
 add-m c = omega arith
 
 loop-less : tie.Need-loop-less Inv-loop μ-loop
-loop-less c = omega arith
+loop-less c = next-nearer (c .before .loop-test .taken)
 
 loop-again : tie.Need-loop-again Inv-loop μ-loop
 unfolding sum
 loop-again c =
     let inv = c .before .before .loop .inv in
     let start = c .before .before .before in
-    (omega arith, front-more (inv .1) _ (omega arith) (ap₂ sum (inv .1 .kept _ (le-refl _)) (times-law (start .pre .2) (start .pre .3) (c .mul-by .ensures) (factor start) (entry start _))))
+    let turn = c .before .loop-test .taken in
+    (next-within turn, front-more (inv .1) _ (lt-of-lt-of-le turn (start .pre .0)) (ap₂ sum (inv .1 .kept _ (le-refl _)) (times-law (start .pre .2) (start .pre .3) (c .mul-by .ensures) (factor start) (entry start _))))
 
 returns : tie.Need-returns Inv-loop μ-loop
-returns c = mixed-from (c .before .before .pre .1) (omega arith) (c .before .loop .inv .1)
+returns c = mixed-from (c .before .before .pre .1) (c .loop-test .left) (c .before .loop .inv .1)
 
 pub mix-spec : {M : Type 1} → statement M
 mix-spec =

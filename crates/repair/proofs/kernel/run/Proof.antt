@@ -3,9 +3,11 @@
 use mathlib.Core.Path.{_≡_, ap, ap₂, sym, _∙_}
 use Prim.Native.Nat.{ℕ, _-_, _≤_, _<_}
 use native.Mathlib.Numerals.{add-one}
+use native.Mathlib.Nat.{lt-of-lt-of-le}
 use native.Mathlib.Omega.{arith}
 use Rattle.ground.specs.Bits.{sum}
 use lib.ListN.{getD}
+use Rattle.repair.proofs.Stores.{next-within, next-nearer}
 use Rattle.repair.proofs.ByExponents.{times-law}
 use Rattle.repair.specs.InnerSums.{total, runOf}
 use borrow.Author.Needs.{needs}
@@ -30,7 +32,7 @@ unfolding runOf total
 loop-holds c = omega arith
 
 array-read-mul-by : tie.Need-array-read-mul-by Inv-loop μ-loop
-array-read-mul-by c = omega arith
+array-read-mul-by c = lt-of-lt-of-le (c .loop-test .taken) (c .before .before .pre .0)
 
 add-mul-by : tie.Need-add-mul-by Inv-loop μ-loop
 add-mul-by c = omega arith
@@ -45,7 +47,7 @@ add-m : tie.Need-add-m Inv-loop μ-loop
 add-m c = omega arith
 
 loop-less : tie.Need-loop-less Inv-loop μ-loop
-loop-less c = omega arith
+loop-less c = next-nearer (c .before .loop-test .taken)
 
 loop-again : tie.Need-loop-again Inv-loop μ-loop
 unfolding runOf total sum
@@ -54,7 +56,7 @@ loop-again c =
     let v = start .args .t1 in
     let s = start .args .t3 in
     let j = start .args .j in (
-      omega arith,
+      next-within (c .before .loop-test .taken),
       ap₂ sum (c .before .before .loop .inv .1) (times-law (start .pre .2) (start .pre .3) (c .mul-by .ensures) (coefficient start _) (syndrome start _))
           ∙ ap (runOf v s j) (sym (add-one (c .before .before .loop .m))),
     )

@@ -6,7 +6,7 @@ use native.Mathlib.Nat.{le-refl}
 use native.Mathlib.Omega.{arith}
 use Rattle.ground.specs.Bits.{sum}
 use Rattle.field.specs.Field.{product, expo, power}
-use Rattle.repair.proofs.Stores.{Front, front-start, front-more}
+use Rattle.repair.proofs.Stores.{next-within, next-nearer, next-fits, Front, front-start, front-more}
 use Rattle.repair.proofs.Shares.{WithTerm, term-first, term-moved, term-nothing}
 use borrow.Author.Needs.{needs}
 use Rattle.repair.proofs.terms.add_term.Statement.{statement}
@@ -32,13 +32,13 @@ loop-holds c =
     (omega arith, log .0, front-start _ 16 _ (search needs), log .1 ∙ term-first (start .c) (start .a) (search needs))
 
 array-read-out : tie.Need-array-read-out Inv-loop μ-loop
-array-read-out c = omega arith
+array-read-out c = c .loop-test .taken
 
 element-copy-out-out : tie.Need-element-copy-out-out Inv-loop μ-loop
 element-copy-out-out c = omega arith
 
 array-write-out : tie.Need-array-write-out Inv-loop μ-loop
-array-write-out c = omega arith
+array-write-out c = c .before .loop-test .taken
 
 add-round : tie.Need-add-round Inv-loop μ-loop
 add-round c = omega arith
@@ -47,10 +47,10 @@ round-requires : tie.Need-round-requires Inv-loop μ-loop
 round-requires c κs = omega arith
 
 add-j : tie.Need-add-j Inv-loop μ-loop
-add-j c = omega arith
+add-j c = next-fits (c .before .before .loop-test .taken) (le-refl 16)
 
 loop-less : tie.Need-loop-less Inv-loop μ-loop
-loop-less c = omega arith
+loop-less c = next-nearer (c .before .before .loop-test .taken)
 
 loop-again : tie.Need-loop-again Inv-loop μ-loop
 unfolding sum
@@ -59,9 +59,9 @@ loop-again c =
     let e : ℕ = c .before .before .before .loop .e in
     let start = c .before .before .before .before .before .before in
     let round = c .round .ensures in (
-      omega arith,
+      next-within (c .before .before .loop-test .taken),
       round .0,
-      front-more (inv .2) _ (omega arith) (ap₂ sum (inv .2 .kept _ (le-refl _)) (start .pre .1 .entry e (omega arith) ∙ inv .3)),
+      front-more (inv .2) _ (c .before .before .loop-test .taken) (ap₂ sum (inv .2 .kept _ (le-refl _)) (start .pre .1 .entry e (omega arith) ∙ inv .3)),
       term-moved _ _ _ e _ (inv .3) (round .1),
     )
 
