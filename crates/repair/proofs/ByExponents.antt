@@ -30,5 +30,15 @@ module _ {p : List ℕ} (isp : Powers p) where
 pub zero-over : (a b : ℕ) → a ≡ 0 → product 0 b ≡ a
 zero-over a b e = zero-product b ∙ sym e
 
-pub round-down : (e : ℕ) → 255 ≤ e → power (e - 255) ≡ power e
-round-down e h = let q : e - 255 + 255 ≡ e = omega arith in sym (power-period (e - 255)) ∙ ap power q
+-- r is the exponent below 255 of α^e
+pub record Rounded (e r : ℕ) : Type 0 where
+  pub below : r < 255
+  pub same : power r ≡ power e
+
+pub round-down : {e r : ℕ} → e < 510 → 255 ≤ e → r ≡ e - 255 → Rounded e r
+round-down {e} {r} b h q =
+    let s : e - 255 + 255 ≡ e = omega arith in
+    record { below = omega arith; same = ap power q ∙ sym (power-period (e - 255)) ∙ ap power s }
+
+pub round-stay : {e r : ℕ} → e < 255 → r ≡ e → Rounded e r
+round-stay {e} {r} h q = record { below = omega arith; same = ap power q }

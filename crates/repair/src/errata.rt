@@ -45,12 +45,11 @@ pub(crate) fn find(rest: [u8; 16]) -> Errata
         l,
     );
     let places = roots::find(kernel::null_vector(s, p, l));
-    let n = places.n;
     let at = places.at;
-    let values = solve(s, at, n, p, l);
+    let values = solve(s, at, places.n, p, l);
     Errata {
-        fits: terms::is_nought(terms::add_terms(s, at, values, n, p, l)),
-        n,
+        fits: terms::is_nought(terms::add_terms(s, at, values, places.n, p, l)),
+        n: places.n,
         at,
         values,
     }

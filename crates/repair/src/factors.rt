@@ -24,14 +24,6 @@ pub(crate) fn log(logs: &[u8; 256], x: u8) -> usize
     words::index(logs[x as usize])
 }
 
-// The exponent below 255 of α^e.
-pub(crate) fn round(e: usize) -> usize
-    requires { ⌜ e < 510 ⌝ }
-    ensures { λ r. ⌜ (r < 255) × (power r ≡ power e) ⌝ }
-{
-    if 255 <= e { e - 255 } else { e }
-}
-
 // α^a
 pub(crate) fn power(powers: &[u8; 512], a: u8) -> u8
     requires { ⌜ Powers (now powers) ⌝ }

@@ -17,7 +17,10 @@ fn add_term(s: [u8; 16], c: u8, a: usize, powers: &[u8; 512], logs: &[u8; 256]) 
     let mut j: usize = 0;
     while j < 16 {
         out[j] = out[j] ^ powers[e];
-        e = factors::round(e + a);
+        e = e + a;
+        if 255 <= e {
+            e = e - 255;
+        }
         j += 1;
     }
     out
