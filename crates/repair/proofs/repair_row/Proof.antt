@@ -9,12 +9,13 @@ use borrow.Author.Tests.{eq-eqb, ne-eqb}
 use Rattle.ground.proofs.Writing.{sets-all}
 use Rattle.code.proofs.Lists.{zeros, length-zeros}
 use Rattle.repair.specs.Repair.{mendOf, repairRowOf}
+use borrow.Author.Needs.{needs}
 use Rattle.repair.proofs.repair_row.Statement.{statement}
 use Rattle.repair.proofs.repair_row.Tie as tie
 
 returns : tie.Need-returns
 unfolding repairRowOf
-returns c = rw (ne-eqb (length (c .before .before .args .row .now)) 255 (c .if1 .taken))
+returns c = rw (ne-eqb (length (c .before .before .args .row .now)) 255 (search needs))
 
 slice-aggregate-copy-in : tie.Need-slice-aggregate-copy-in
 slice-aggregate-copy-in c = omega arith
@@ -29,7 +30,7 @@ returns-2 : tie.Need-returns-2
 unfolding repairRowOf
 returns-2 c =
     let row : List ℕ = c .before .before .before .before .before .before .args .row .now in
-    let e : length row ≡ 255 = c .before .before .before .before .if1 .left in
+    let e : length row ≡ 255 = search needs in
     rw (eq-eqb (length row) 255 e)
     (c .repair .ensures ∙ ap mendOf (c .before .before .copy-in .ensures ∙ sets-all (zeros 255) row (e ∙ sym (length-zeros 255))))
 

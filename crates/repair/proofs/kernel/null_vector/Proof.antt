@@ -3,7 +3,7 @@
 -- Assumes nothing.
 use mathlib.Core.Path.{_≡_, _∙_}
 use mathlib.Core.Logic.{⊎-elim}
-use Prim.Native.Nat.{ℕ, _+_, _-_, _*_}
+use Prim.Native.Nat.{ℕ, _+_, _-_, _*_, _<_}
 use native.Mathlib.Omega.{arith}
 use Rattle.repair.proofs.ByExponents.{times-law, inverse-law}
 use Rattle.repair.proofs.Null.{Keeping, keeping-start, keeping-skip, keeping-more, keeping-mixed, keeping-end, few, run-fits}
@@ -25,10 +25,10 @@ add-run c = omega (arith, few (c .before .loop .inv))
 run-requires : tie.Need-run-requires Inv-loop μ-loop
 run-requires c κs =
     let start = c .before .before in
-    (omega (arith, few (c .before .loop .inv)), c .loop-test .taken, start .pre .0, start .pre .1)
+    (omega (arith, few (c .before .loop .inv)), omega arith, start .pre .0, start .pre .1)
 
 array-read-c : tie.Need-array-read-c Inv-loop μ-loop
-array-read-c c = c .before .loop-test .taken
+array-read-c c = omega arith
 
 add-i : tie.Need-add-i Inv-loop μ-loop
 add-i c = omega arith
@@ -37,19 +37,19 @@ loop-less : tie.Need-loop-less Inv-loop μ-loop
 loop-less c = omega arith
 
 loop-again : tie.Need-loop-again Inv-loop μ-loop
-loop-again c = keeping-skip (c .before .before .before .loop .inv) (c .before .before .loop-test .taken) (c .before .run .ensures) (c .if1 .taken)
+loop-again c = keeping-skip (c .before .before .before .loop .inv) (omega arith) (c .before .run .ensures) (c .if1 .taken)
 
 mul-vectors : tie.Need-mul-vectors Inv-loop μ-loop
 mul-vectors c = omega arith
 
 array-set-from-vectors : tie.Need-array-set-from-vectors Inv-loop μ-loop
-array-set-from-vectors c = c .before .before .before .loop-test .taken
+array-set-from-vectors c = omega arith
 
 inverse-by-requires : tie.Need-inverse-by-requires Inv-loop μ-loop
 inverse-by-requires c κs = tt
 
 array-write-scales : tie.Need-array-write-scales Inv-loop μ-loop
-array-write-scales c = c .before .before .before .before .loop-test .taken
+array-write-scales c = omega arith
 
 shift-requires : tie.Need-shift-requires Inv-loop μ-loop
 shift-requires c κs = tt
@@ -80,7 +80,7 @@ loop-again-2 : tie.Need-loop-again-2 Inv-loop μ-loop
 loop-again-2 c =
     let at = c .before .before .before .before .before .before .before in
     let start = at .before in
-    let turn = c .before .before .before .before .before .before .loop-test .taken in
+    let turn : at .loop .i < 8 = omega arith in
     let run = c .before .before .before .before .before .run .ensures in
     keeping-more (at .loop .inv) turn run (c .before .before .inverse-by .result) (c .before .before .before .before .if1 .left) (c .before .before .before .if2 .taken)
     (inverse-law (start .pre .0) (start .pre .1) (c .before .before .inverse-by .ensures) (run-fits (at .loop .inv) turn run))
@@ -90,7 +90,7 @@ mul-q : tie.Need-mul-q Inv-loop μ-loop
 mul-q c = omega arith
 
 array-copy-out-q : tie.Need-array-copy-out-q Inv-loop μ-loop
-array-copy-out-q c = c .before .before .before .loop-test .taken
+array-copy-out-q c = omega arith
 
 mul-by-requires : tie.Need-mul-by-requires Inv-loop μ-loop
 mul-by-requires c κs = tt
@@ -99,7 +99,7 @@ mix-requires : tie.Need-mix-requires Inv-loop μ-loop
 mix-requires c κs =
     let start = c .before .before .before .before .before .before .before in
     let inv = c .before .before .before .before .before .before .loop .inv in
-    (omega (arith, few inv), inv .basis .kept _ (c .before .before .before .before .before .loop-test .taken) (c .before .before .if2 .left) .short, start .pre .0, start .pre .1)
+    (omega (arith, few inv), inv .basis .kept _ (omega arith) (c .before .before .if2 .left) .short, start .pre .0, start .pre .1)
 
 add-i-2 : tie.Need-add-i-2 Inv-loop μ-loop
 add-i-2 c = omega arith
@@ -112,14 +112,14 @@ loop-again-3 c =
     let start = c .before .before .before .before .before .before .before .before in
     let inv = c .before .before .before .before .before .before .before .loop .inv in
     let run = c .before .before .before .before .before .run .ensures in
-    let turn = c .before .before .before .before .before .before .loop-test .taken in
+    let turn : c .before .before .before .before .before .before .before .loop .i < 8 = omega arith in
     let some = c .before .before .before .if2 .left in
     keeping-mixed inv turn run some
     (times-law (start .pre .0) (start .pre .1) (c .before .mul-by .ensures) (run-fits inv turn run) (inv .basis .kept _ turn some .small))
     (c .mix .ensures)
 
 returns : tie.Need-returns Inv-loop μ-loop
-returns c = keeping-end (c .before .loop .inv) (c .loop-test .left)
+returns c = keeping-end (c .before .loop .inv) (omega arith)
 
 pub null-vector-spec : {M : Type 1} → statement M
 null-vector-spec =
