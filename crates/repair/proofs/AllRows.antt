@@ -1,7 +1,7 @@
 -- Rows mended all or none: the row at the front, and those behind it, come to what all come to (`mendRows` of crate code).
 -- Assumes nothing.
 use mathlib.Core.Path.{_≡_, refl, sym, ap, ap₂, subst, _∙_}
-use mathlib.Core.Bool.{Bool, true, false}
+use mathlib.Core.Bool.{Bool, true, false, cond}
 use mathlib.Core.List.{List, [], _∷_, _++_, append-nil}
 use Prim.Native.Nat.{ℕ, zero, suc, _+_, _-_, _*_, _/_, _%_, _≤_, _<_}
 use native.Mathlib.Nat.{min-eq-right, lt-of-lt-of-le, le-of-eq}
@@ -11,7 +11,7 @@ use lib.ListN.{length, getD, take, drop, set, length-append, length-drop, take-a
 use lib.Seq.{sets, set-append-left, length-take-le, take-all, drop-drop}
 use borrow.Rule.Slice.PartMut.{putMid}
 use Rattle.ground.specs.Bits.{sum}
-use Rattle.ground.proofs.Writing.{sets-front}
+use Rattle.ground.proofs.Writing.{sets-front, sets-all}
 use Rattle.refusals.specs.declared.Verdict.{Verdict}
 use Rattle.refusals.specs.declared.Verdict.the-variants.{Accepted, Refused}
 use Rattle.refusals.specs.declared.Refusal.{Refusal}
@@ -21,6 +21,7 @@ use Rattle.code.specs.Search.{Repaired, remainder}
 use Rattle.code.specs.Search.Repaired.{found, none}
 use Rattle.code.specs.Repair.{repairOf}
 use Rattle.code.specs.Mend.{Mended as Whole, whole, broken, behind, mendRows}
+use Rattle.code.proofs.Lists.{zeros, length-zeros}
 use Rattle.code.proofs.Exact.{repair-found, repair-none}
 use Rattle.code.proofs.Mend.{mend-first, none-left, bytes-split}
 use Rattle.encoding.specs.Encode.{remaindersOf}
@@ -28,7 +29,7 @@ use Rattle.encoding.proofs.Feeding.{rest-there, rest-among, length-remainders}
 use Rattle.repair.specs.declared.Mended.{Mended}
 use Rattle.repair.specs.Repair.{mendedAs, mendOf, Mending, mendingAs, mendingOf, Mends}
 use Rattle.repair.specs.InnerErrata.{entries, mendedBy, Searched}
-use Rattle.repair.specs.InnerRows.{Resting, addedIf}
+use Rattle.repair.specs.InnerRows.{Resting, Ends, Finished, toldOf}
 use Rattle.repair.proofs.Mending.{mended-length}
 
 -- ---- the row at the front
@@ -58,9 +59,9 @@ behind-part b = take-all (length b - 255) (drop 255 b) (omega (arith, length-dro
 
 -- ---- rows one by one
 
-pub no-rows : (b : List ℕ) (i : ℕ) → length b ≡ 0 → Mends (mendingAs b (mendRows (length b / 255) i b)) Accepted b
+pub no-rows : (b : List ℕ) (i : ℕ) → length b ≡ 0 → Ends b (mendRows (length b / 255) i b) 15 b
 unfolding mendRows
-no-rows [] i h = record { answers = refl; leaves = refl }
+no-rows [] i h = (refl, refl)
 no-rows (x ∷ b) i h = absurd (omega arith)
 
 module _ (b : List ℕ) (i : ℕ) (some : 255 ≤ length b) where
@@ -78,70 +79,58 @@ module _ (b : List ℕ) (i : ℕ) (some : 255 ≤ length b) where
       ∙ ap (λ (x : Repaired). behind x i (mendRows (length b / 255 - 1) (suc i) others)) e
       ∙ ap₂ (λ (x y : ℕ). behind a i (mendRows x y others)) n k
 
-  pub row-broken : repairOf first ≡ none → Mends (mendingAs b (mendRows (length b / 255) i b)) (Refused (Repair i)) b
-  row-broken e =
-      let f : mendRows (length b / 255) i b ≡ broken i = all none e in
-      record { answers = sym (ap (λ (m : Whole). mendingAs b m .answer) f); leaves = sym (ap (λ (m : Whole). mendingAs b m .bytes) f) }
+  pub row-broken : i < 15 → repairOf first ≡ none → Ends b (mendRows (length b / 255) i b) i b
+  row-broken h e = subst (λ (m : Whole). Ends b m i b) (sym (all none e)) (h, refl, refl)
 
   module _ (at c : List ℕ) (n : ℕ) (e : repairOf first ≡ found (mendedBy first (entries at) (entries c) n)) where
     abbrev fixed : List ℕ
     fixed = mendedBy first (entries at) (entries c) n
 
-    -- the rows behind came to m, were answered v, and left `rest`
-    pub row-done : (v r : Verdict) (part rest mid out : List ℕ) → part ≡ others → Mends (mendingAs part (mendRows (length part / 255) (i + 1) part)) v rest
-        → mid ≡ first ++ rest → Mends (addedIf v mid at c n) r out → Mends (mendingAs b (mendRows (length b / 255) i b)) r out
-    row-done v r part rest mid out s p q d =
-        by (mendRows (length others / 255) (i + 1) others) refl (subst (λ (l : List ℕ). Mends (mendingAs l (mendRows (length l / 255) (i + 1) l)) v rest) s p)
+    -- the rows behind came to m, ended as r, and left `rest`
+    pub row-done : (r : ℕ) (part rest mid out : List ℕ) → part ≡ others → Ends part (mendRows (length part / 255) (i + 1) part) r rest → mid ≡ first ++ rest
+        → {x : ℕ} → (x ≡ r) × Finished r mid at c n out → Ends b (mendRows (length b / 255) i b) x out
+    row-done r part rest mid out s p q {x} f =
+        subst (λ (y : ℕ). Ends b (mendRows (length b / 255) i b) y out) (sym (f .0))
+        (by (mendRows (length others / 255) (i + 1) others) refl (subst (λ (l : List ℕ). Ends l (mendRows (length l / 255) (i + 1) l) r rest) s p))
       where
-        by : (m : Whole) → mendRows (length others / 255) (i + 1) others ≡ m → Mends (mendingAs others m) v rest → Mends (mendingAs b (mendRows (length b / 255) i b)) r out
+        by : (m : Whole) → mendRows (length others / 255) (i + 1) others ≡ m → Ends others m r rest → Ends b (mendRows (length b / 255) i b) r out
         by (whole s) z p =
-            let f : mendRows (length b / 255) i b ≡ whole (fixed ++ s) = all (found fixed) e ∙ ap (behind (found fixed) i) z in
-            let long : length first ≡ 255 = length-take-le 255 b some in
-            record {
-              answers = d .answers ∙ ap (λ (x : Verdict). addedIf x mid at c n .answer) (p .answers) ∙ sym (ap (λ (m : Whole). mendingAs b m .answer) f);
-              leaves =
-                  d .leaves ∙ ap (λ (x : Verdict). addedIf x mid at c n .bytes) (p .answers)
-                  ∙ ap (λ (l : List ℕ). mendedBy l (entries at) (entries c) n) (q ∙ ap (λ (l : List ℕ). first ++ l) (p .leaves))
-                  ∙ mended-front first s (entries at) (entries c) n long
-                  ∙ sym (ap (λ (m : Whole). mendingAs b m .bytes) f);
-            }
+            let g : mendRows (length b / 255) i b ≡ whole (fixed ++ s) = all (found fixed) e ∙ ap (behind (found fixed) i) z in
+            subst (λ (m : Whole). Ends b m r out) (sym g) (
+              p .0,
+              f .1 .added (omega (arith, p .0)) ∙ ap (λ (l : List ℕ). mendedBy l (entries at) (entries c) n) (q ∙ ap (λ (l : List ℕ). first ++ l) (p .1))
+                  ∙ mended-front first s (entries at) (entries c) n (length-take-le 255 b some),
+            )
         by (broken j) z p =
-            let f : mendRows (length b / 255) i b ≡ broken j = all (found fixed) e ∙ ap (behind (found fixed) i) z in
-            record {
-              answers = d .answers ∙ ap (λ (x : Verdict). addedIf x mid at c n .answer) (p .answers) ∙ sym (ap (λ (m : Whole). mendingAs b m .answer) f);
-              leaves =
-                  d .leaves ∙ ap (λ (x : Verdict). addedIf x mid at c n .bytes) (p .answers) ∙ q ∙ ap (λ (l : List ℕ). first ++ l) (p .leaves)
-                  ∙ take-append-drop 255 b
-                  ∙ sym (ap (λ (m : Whole). mendingAs b m .bytes) f);
-            }
+            let g : mendRows (length b / 255) i b ≡ broken j = all (found fixed) e ∙ ap (behind (found fixed) i) z in
+            subst (λ (m : Whole). Ends b m r out) (sym g)
+            (p .0, p .1, f .1 .kept (omega (arith, p .0, p .1)) ∙ q ∙ ap (λ (l : List ℕ). first ++ l) (p .2) ∙ take-append-drop 255 b)
 
--- ---- the values added, where the rows behind were mended
+-- ---- the row at the front mended
 
-pub added : (v : Verdict) (b at c : List ℕ) (n : ℕ) (out : List ℕ) → v ≡ Accepted → out ≡ mendedBy b (entries at) (entries c) n → Mends (addedIf v b at c n) Accepted out
-added v b at c n out e d =
-    record { answers = sym (ap (λ (x : Verdict). addedIf x b at c n .answer) e); leaves = d ∙ sym (ap (λ (x : Verdict). addedIf x b at c n .bytes) e) }
-
-pub added-nothing : (v : Verdict) (b at c : List ℕ) (n : ℕ) → n ≡ 0 → Mends (addedIf v b at c n) v b
+pub nothing-added : (r : ℕ) (b at c : List ℕ) (n : ℕ) → n ≡ 0 → Finished r b at c n b
 unfolding mendedBy
-added-nothing Accepted b at c n e =
-    record { answers = refl; leaves = sym (ap (λ (k : ℕ). mendedBy b (entries at) (entries c) k) e) }
-added-nothing (Refused r) b at c n e = record { answers = refl; leaves = refl }
+nothing-added r b at c n e =
+    record { kept = λ h. refl; added = λ h. sym (ap (λ (k : ℕ). mendedBy b (entries at) (entries c) k) e) }
+
+pub not-added : (r : ℕ) (b at c : List ℕ) (n : ℕ) → r < 15 → Finished r b at c n b
+not-added r b at c n h = record { kept = λ l. refl; added = λ l. absurd (omega arith) }
 
 -- the row at the front, held by value, mended and put back
-pub put-back : (b at c : List ℕ) (n : ℕ) (row fixed out : List ℕ) → 255 ≤ length b → row ≡ take 255 b → fixed ≡ mendedBy row (entries at) (entries c) n
-    → out ≡ sets b 0 fixed → out ≡ mendedBy b (entries at) (entries c) n
-put-back b at c n row fixed out h e f g =
+pub put-back : (r : ℕ) (b at c : List ℕ) (n : ℕ) (fixed out : List ℕ) → 15 ≤ r → 255 ≤ length b → fixed ≡ mendedBy (take 255 b) (entries at) (entries c) n
+    → out ≡ sets b 0 fixed → Finished r b at c n out
+put-back r b at c n fixed out l h f g =
     let k : length (take 255 b) ≡ 255 = length-take-le 255 b h in
     let m : List ℕ = mendedBy (take 255 b) (entries at) (entries c) n in
     let s : length m ≡ 255 = mended-length (take 255 b) k (entries at) (entries c) n in
-    g ∙ ap (sets b 0) (f ∙ ap (λ (l : List ℕ). mendedBy l (entries at) (entries c) n) e)
-    ∙ sets-front b m (omega arith) ∙ ap (λ (i : ℕ). m ++ drop i b) s
-    ∙ sym (mended-front (take 255 b) (drop 255 b) (entries at) (entries c) n k)
-    ∙ ap (λ (l : List ℕ). mendedBy l (entries at) (entries c) n) (take-append-drop 255 b)
-
-pub not-added : (v : Verdict) (b at c : List ℕ) (n : ℕ) (r : Refusal) → v ≡ Refused r → Mends (addedIf v b at c n) (Refused r) b
-not-added v b at c n r e =
-    record { answers = sym (ap (λ (x : Verdict). addedIf x b at c n .answer) e); leaves = sym (ap (λ (x : Verdict). addedIf x b at c n .bytes) e) }
+    record {
+      kept = λ x. absurd (omega arith);
+      added =
+          λ x. g ∙ ap (sets b 0) f
+          ∙ sets-front b m (omega arith) ∙ ap (λ (i : ℕ). m ++ drop i b) s
+          ∙ sym (mended-front (take 255 b) (drop 255 b) (entries at) (entries c) n k)
+          ∙ ap (λ (l : List ℕ). mendedBy l (entries at) (entries c) n) (take-append-drop 255 b);
+    }
 
 -- ---- what is known of the row at the front, and of those behind it
 
@@ -152,6 +141,19 @@ pub row-known : (b : List ℕ) (i : ℕ) (rests : List ℕ) → Resting b i rest
 row-known b i rests w h =
     let e : (i + 0) * 16 ≡ i * 16 = omega arith in
     ap (λ (k : ℕ). take 16 (drop k rests)) (sym e) ∙ w .left 0 (omega arith)
+
+-- the first row, copied over as many zeros
+pub copied-row : (rows : List ℕ) {out : List ℕ} → 255 ≤ length rows → out ≡ sets (zeros 255) 0 (take 255 rows) → out ≡ take 255 rows
+copied-row rows {out} h e = e ∙ sets-all (zeros 255) (take 255 rows) (length-take-le 255 rows h ∙ sym (length-zeros 255))
+
+-- sixteen bytes of what all rows leave, copied over as many zeros
+pub copied-rest : (rests : List ℕ) (i : ℕ) {out : List ℕ} → length rests ≡ 240 → i < 15 → out ≡ sets (zeros 16) 0 (take (i * 16 + 16 - i * 16) (drop (i * 16) rests))
+    → out ≡ take 16 (drop (i * 16) rests)
+copied-rest rests i {out} n h e =
+    let m : i * 16 + 16 - i * 16 ≡ 16 = omega arith in
+    let part : List ℕ = take 16 (drop (i * 16) rests) in
+    let long : length part ≡ 16 = length-take-le 16 (drop (i * 16) rests) (omega (arith, length-drop (i * 16) rests)) in
+    e ∙ ap (λ (k : ℕ). sets (zeros 16) 0 (take k (drop (i * 16) rests))) m ∙ sets-all (zeros 16) part (long ∙ sym (length-zeros 16))
 
 pub rows-behind : (b : List ℕ) (i : ℕ) (rests : List ℕ) → Resting b i rests → 255 ≤ length b → Resting (drop 255 b) (i + 1) rests
 rows-behind b i rests w h =
@@ -184,6 +186,17 @@ module _ (b : List ℕ) (some : 255 ≤ length b) (bytes : Bytes b) (rest : List
 
 -- ---- the call's ends
 
+pub ends-few : (b : List ℕ) (m : Whole) (r : ℕ) (out : List ℕ) → Ends b m r out → r ≤ 15
+ends-few b (whole c) r out p = omega (arith, p .0)
+ends-few b (broken i) r out p = omega (arith, p .0, p .1)
+
+ends-mends : (b : List ℕ) (m : Whole) (r : ℕ) (v : Verdict) (out : List ℕ) → Ends b m r out → v ≡ toldOf r → Mends (mendingAs b m) v out
+unfolding toldOf
+ends-mends b (whole c) r v out p e = record { answers = e ∙ ap toldOf (p .0); leaves = p .1 }
+ends-mends b (broken i) r v out p e =
+    let ne : i ≡ 15 → ⊥ = λ z. omega (arith, p .0) in
+    record { answers = e ∙ ap toldOf (p .1) ∙ ap (λ (t : Bool). cond t Accepted (Refused (Repair i))) (ne-eqb i 15 ne); leaves = p .2 }
+
 pub mend-short : (b : List ℕ) → (length b % 255 ≡ 0 → ⊥) → Mends (mendingOf b) (Refused Short) b
 unfolding mendingOf
 mend-short b h = rw (ne-eqb (length b % 255) 0 h) (record { answers = refl; leaves = refl })
@@ -194,9 +207,10 @@ module _ (b : List ℕ) (m : length b % 255 ≡ 0) where
   mend-long h = rw (eq-eqb (length b % 255) 0 m, lt-leb (length b) 3825 h) (record { answers = refl; leaves = refl })
 
   module _ (h : length b ≤ 3825) where
-    pub mend-all : (r : Verdict) (out : List ℕ) → Mends (mendingAs b (mendRows (length b / 255) 0 b)) r out → Mends (mendingOf b) r out
+    pub mend-all : (r : ℕ) (v : Verdict) (out : List ℕ) → Ends b (mendRows (length b / 255) 0 b) r out → v ≡ toldOf r → Mends (mendingOf b) v out
     unfolding mendingOf
-    mend-all r out p = rw (eq-eqb (length b % 255) 0 m, le-leb (length b) 3825 h) p
+    mend-all r v out p e =
+        rw (eq-eqb (length b % 255) 0 m, le-leb (length b) 3825 h) (ends-mends b (mendRows (length b / 255) 0 b) r v out p e)
 
     pub all-resting : (rests : List ℕ) → rests ≡ remaindersOf b → Resting b 0 rests
     all-resting rests e =

@@ -28,10 +28,10 @@ use Rattle.code.proofs.Division.{remainder-coded}
 use Rattle.code.proofs.Locate.{located}
 use Rattle.repair.specs.InnerSums.{total, runOf}
 use Rattle.repair.specs.InnerNull.{Annihilated}
-use Rattle.repair.specs.InnerErrata.{entries, shareOf, Rooted, Solved, mendedBy, Agreeing, Searched}
+use Rattle.repair.specs.InnerErrata.{entries, shareOf, Rooted, Solved, mendedBy, Searched}
 use Rattle.ground.proofs.Numbers.{same-or-not, below-suc}
 use Rattle.repair.proofs.Totals.{total-ext, total-first}
-use Rattle.repair.proofs.Shares.{expo-swap}
+use Rattle.repair.proofs.Shares.{expo-swap, Agreeing}
 
 -- ---- the row with the values added
 
@@ -169,15 +169,15 @@ run-dot (c ∷ v) s j =
 -- ---- the repair
 
 -- what the search has found out of the remainder of a row
-pub record Tried (rest s v : List ℕ) (top n : ℕ) (at c : List ℕ) : Type 0 where
+pub record Tried (rest s v : List ℕ) (n : ℕ) (at c : List ℕ) : Type 0 where
   pub syndromes : (j : ℕ) → j < 16 → getD s j 0 ≡ value rest (power j)
   pub bytes : (i : ℕ) → getD v i 0 < 256
-  pub null : Annihilated s v top
+  pub null : Annihilated s v
   pub rooted : Rooted v n at
   pub value-bytes : (k : ℕ) → getD c k 0 < 256
   pub solved : Solved at n s c
 
-module _ {rest s v : List ℕ} {top n : ℕ} {at c : List ℕ} (tried : Tried rest s v top n at c) (row : List ℕ) (long : length row ≡ 255) (bytes : Bytes row)
+module _ {rest s v : List ℕ} {n : ℕ} {at c : List ℕ} (tried : Tried rest s v n at c) (row : List ℕ) (long : length row ≡ 255) (bytes : Bytes row)
     (left : rest ≡ remainder 239 row) where
   mended : List ℕ
   mended = mendedBy row (entries at) (entries c) n
@@ -235,7 +235,7 @@ module _ {rest s v : List ℕ} {top n : ℕ} {at c : List ℕ} (tried : Tried re
         (sym (mended-share j) ∙ ap (λ (l : List ℕ). value l (power j)) complete ∙ coded-values t (near .coded) j h))
         ∙ sym (syndrome j h)
 
-pub searched : {rest s v : List ℕ} {top n : ℕ} {at c : List ℕ} → Tried rest s v top n at c → (fits : Bool) → Agreeing s at c n fits → Searched rest n at c fits
+pub searched : {rest s v : List ℕ} {n : ℕ} {at c : List ℕ} → Tried rest s v n at c → (fits : Bool) → Agreeing s at c n fits → Searched rest n at c fits
 searched tried fits agrees =
     record {
       placed = tried .rooted .placed;

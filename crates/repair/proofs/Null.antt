@@ -4,24 +4,51 @@
 use mathlib.Core.Path.{_≡_, refl, sym, ap, ap₂, subst, _∙_}
 use mathlib.Core.Logic.{_≢_, ⊎-elim}
 use mathlib.Core.Bool.{Bool, true, false, cond}
-use mathlib.Core.List.{List, [], _∷_}
+use mathlib.Core.List.{List, [], _∷_, _++_, append-nil}
 use Prim.Native.Nat.{ℕ, zero, suc, _+_, _-_, _≤_, _<_, zero-le, suc-le-suc}
 use native.Mathlib.Nat.{le-refl, le-trans, le-suc, le-of-suc-le-suc, not-suc-le-zero}
 use native.Mathlib.Numerals.{add-one}
 use native.Mathlib.Omega.{arith}
 use borrow.Author.Tests.{eq-eqb, ne-eqb}
 use lib.Dec.{eqb}
-use lib.ListN.{length, getD, set, length-set, getD-replicate, List·getD-eq-default, replicate}
-use lib.Seq.{getD-set-same, getD-set-other}
+use lib.ListN.{length, getD, set, take, drop, length-set, getD-replicate, List·getD-eq-default, replicate}
+use lib.Seq.{sets, sets-eq, getD-set-same, getD-set-other, getD-take, length-take-le}
 use Rattle.ground.specs.Bits.{sum}
 use Rattle.ground.proofs.Sums.{sum-self, sum-zero, zero-sum}
-use Rattle.field.specs.Field.{product}
+use Rattle.field.specs.Field.{product, Inverse}
 use Rattle.field.proofs.Laws.{product-byte, product-comm, product-assoc, product-one, product-zero, zero-product, ring}
 use Rattle.repair.specs.InnerSums.{total, runOf}
-use Rattle.repair.specs.InnerNull.{Short, Passed, Kept, filled, Basis, Reducing, Reduced, Annihilated, Mixed, Shifted}
+use Rattle.repair.specs.InnerNull.{Short, Passed, Annihilated, Mixed, Shifted}
 use Rattle.ground.proofs.Numbers.{lt-or-ge, same-or-not, below-suc}
 use Rattle.repair.proofs.Stores.{Front}
 use Rattle.repair.proofs.Totals.{total-ext, total-more, total-first, total-sum, total-product, total-byte}
+
+-- q is kept for run i: the runs before annihilate it, run i does not, and c is one over what run i gives
+pub record Kept (s : List ℕ) (n i : ℕ) (q : List ℕ) (c : ℕ) : Type 0 where
+  pub short : Short n q
+  pub passed : Passed s i q
+  pub scaled : product (runOf q s i 9) c ≡ 1
+  pub small : c < 256
+
+-- how many entries are not 0
+unfoldable pub filled : List ℕ → ℕ
+filled [] = zero
+filled (x ∷ xs) = cond (eqb x 0) (filled xs) (suc (filled xs))
+
+-- n vectors are kept, each at the run that did not annihilate it; the scale of a run that has none is 0
+pub record Basis (s : List ℕ) (n : ℕ) (vectors : List (List ℕ)) (scales : List ℕ) : Type 0 where
+  pub rows : length vectors ≡ 8
+  pub columns : (i : ℕ) → i < 8 → length (getD vectors i []) ≡ 9
+  pub sized : length scales ≡ 8
+  pub count : filled scales ≡ n
+  pub kept : (i : ℕ) → i < 8 → getD scales i 0 ≢ 0 → Kept s n i (getD vectors i []) (getD scales i 0)
+
+-- v has the leading entry 1 at l, and the runs before run i annihilate it
+pub record Reducing (s : List ℕ) (l i : ℕ) (v : List ℕ) : Type 0 where
+  pub within : i ≤ 8
+  pub short : Short (suc l) v
+  pub leading : getD v l 0 ≡ 1
+  pub passed : Passed s i v
 
 pub run-byte : (v s : List ℕ) (j n : ℕ) → runOf v s j n < 256
 unfolding runOf
@@ -140,12 +167,12 @@ abbrev Anew : List ℕ → ℕ → List (List ℕ) → List ℕ → ℕ → List
 Anew s n vectors scales i v u k = Kept s (n + 1) k (getD (set vectors i v) k []) (getD (set scales i u) k 0)
 
 module _ (s : List ℕ) (n : ℕ) (vectors : List (List ℕ)) (scales : List ℕ) (basis : Basis s n vectors scales) where
-  pub basis-more : (v : List ℕ) (i d u : ℕ) → i < 8 → Reduced s n scales v i d → product d u ≡ 1
+  pub basis-more : (v : List ℕ) (i u : ℕ) → i < 8 → Reducing s n i v → getD scales i 0 ≡ 0 → product (runOf v s i 9) u ≡ 1 → u < 256
       → Basis s (n + 1) (set vectors i v) (set scales i u)
-  basis-more v i d u h red one =
+  basis-more v i u h red free one byte =
       let rows : length vectors ≡ 8 = basis .rows in
       let long : length scales ≡ 8 = basis .sized in
-      let shape : length v ≡ 9 = red .reducing .short .sized in
+      let shape : length v ≡ 9 = red .short .sized in
       record {
         rows = length-set vectors i v ∙ rows;
         columns =
@@ -154,7 +181,7 @@ module _ (s : List ℕ) (n : ℕ) (vectors : List (List ℕ)) (scales : List ℕ
             (λ (ne : k ≡ i → ⊥). ap length (getD-set-other vectors i k v [] ne) ∙ basis .columns k b)
             (same-or-not k i);
         sized = length-set scales i u ∙ long;
-        count = filled-set scales i u (omega arith) (red .free h) (not-one d u one) ∙ ap suc (basis .count) ∙ sym (add-one n);
+        count = filled-set scales i u (omega arith) free (not-one (runOf v s i 9) u one) ∙ ap suc (basis .count) ∙ sym (add-one n);
         kept = λ k b nz. ⊎-elim (here k nz) (other k b nz) (same-or-not k i);
       }
     where
@@ -164,24 +191,14 @@ module _ (s : List ℕ) (n : ℕ) (vectors : List (List ℕ)) (scales : List ℕ
           let long : length scales ≡ 8 = basis .sized in
           subst (Anew s n vectors scales i v u) (sym e)
           (rw (add-one n, getD-set-same vectors i v [] (omega arith), getD-set-same scales i u 0 (omega arith))
-          (record {
-            short = red .reducing .short;
-            passed = red .reducing .passed;
-            scaled = ap (λ (x : ℕ). product x u) (sym (red .given h)) ∙ one;
-          }))
+          (record { short = red .short; passed = red .passed; scaled = one; small = byte }))
 
       other : (k : ℕ) → k < 8 → getD (set scales i u) k 0 ≢ 0 → (k ≡ i → ⊥) → Anew s n vectors scales i v u k
       other k b nz ne =
           let old : getD (set scales i u) k 0 ≡ getD scales k 0 = getD-set-other scales i k u 0 ne in
           let was : Kept s n k (getD vectors k []) (getD scales k 0) = basis .kept k b (λ z. nz (old ∙ z)) in
           rw (add-one n, getD-set-other vectors i k v [] ne, old)
-          (record { short = short-more n (getD vectors k []) (was .short); passed = was .passed; scaled = was .scaled })
-
--- nothing is left for run 8: eight runs annihilate v
-pub annihilated : (s : List ℕ) (l : ℕ) (scales v : List ℕ) (i d : ℕ) → l < 9 → 8 ≤ i → Reduced s l scales v i d → Annihilated s v l
-annihilated s l scales v i d inside h red =
-    let r : Reducing s l i v = red .reducing in
-    record { inside = inside; short = r .short; leading = r .leading; passed = λ k b. r .passed k (omega arith) }
+          (record { short = short-more n (getD vectors k []) (was .short); passed = was .passed; scaled = was .scaled; small = was .small })
 
 -- ---- x · v: run k of it is run k + 1 of v
 
@@ -199,28 +216,17 @@ run-shifted v r s k short sh =
     step : (m : ℕ) → k + suc m ≡ k + 1 + m
     step m = omega arith
 
--- the entries of v from 0 on, one place up, of which m have been moved
-pub record Moving (v out : List ℕ) (m : ℕ) : Type 0 where
-  pub within : m ≤ 8
-  pub sized : length out ≡ 9
-  pub first : getD out 0 0 ≡ 0
-  pub next : (i : ℕ) → i < m → getD out (suc i) 0 ≡ getD v i 0
-
-pub moving-more : {v out : List ℕ} {m : ℕ} → Moving v out m → m < 8 → Moving v (set out (m + 1) (getD v m 0)) (m + 1)
-moving-more {v} {out} {m} was h =
-    let long : length out ≡ 9 = was .sized in
-    let x : ℕ = getD v m 0 in
+-- eight entries copied behind a 0
+pub shifted : (v : List ℕ) {out : List ℕ} → length v ≡ 9 → out ≡ sets (replicate 9 0) 1 (take 8 v) → Shifted v out
+shifted v {out} long e =
+    let w : List ℕ = take 8 v in
+    let n : length w ≡ 8 = length-take-le 8 v (omega arith) in
+    let f : out ≡ 0 ∷ w =
+    e ∙ sets-eq w (replicate 9 0) 1 (omega arith) ∙ ap (λ (k : ℕ). 0 ∷ (w ++ drop (1 + k) (replicate 9 0))) n ∙ ap (λ (l : List ℕ). 0 ∷ l) (append-nil w) in
     record {
-      within = omega arith;
-      sized = length-set out (m + 1) x ∙ long;
-      first = getD-set-other out (m + 1) 0 x 0 (λ e. omega arith) ∙ was .first;
-      next =
-          λ i lt. ⊎-elim
-          (λ (e : i ≡ m).
-          ap (λ (k : ℕ). getD (set out (m + 1) x) k 0) (ap suc e ∙ sym (add-one m))
-          ∙ getD-set-same out (m + 1) x 0 (omega arith) ∙ ap (λ (k : ℕ). getD v k 0) (sym e))
-          (λ (b : i < m). getD-set-other out (m + 1) (suc i) x 0 (λ e. omega arith) ∙ was .next i b)
-          (below-suc (subst (λ (k : ℕ). i < k) (add-one m) lt));
+      sized = ap length f ∙ ap suc n;
+      first = ap (λ (l : List ℕ). getD l 0 0) f;
+      next = λ m h. ap (λ (l : List ℕ). getD l (suc m) 0) f ∙ getD-take 8 v m 0 h;
     }
 
 -- the next vector begins as x times the one that was kept for run i; the runs before run i - 1 annihilate it
@@ -245,35 +251,11 @@ reducing-shifted s l i v r inside red sh =
         (λ (b : 9 ≤ m). List·getD-eq-default r 0 (let n : length r ≡ 9 = sh .sized in omega arith))
         (lt-or-ge m 9)
 
--- ---- the turns of the reduction
+-- ---- the turns of the search: l vectors are kept, and the next one is as far as run i
 
-module _ {s : List ℕ} {l i : ℕ} {v : List ℕ} (small : l < 9) (red : Reducing s l i v) where
-  -- what the run gives, over the entries up to the leading one
-  pub run-leading : (k : ℕ) → runOf v s k (l + 1) ≡ runOf v s k 9
-  run-leading k = ap (runOf v s k) (add-one l) ∙ run-short (suc l) v s k small (red .short)
-
-  pub reduced-stop : {scales : List ℕ} {d : ℕ} → d ≡ runOf v s i (l + 1) → d ≢ 0 → getD scales i 0 ≡ 0 → Reduced s l scales v i d
-  reduced-stop e n z = record { reducing = red; given = λ h. e ∙ run-leading i; nonzero = λ h. n; free = λ h. z }
-
-  pub reduced-end : {scales : List ℕ} {d : ℕ} → 8 ≤ i → Reduced s l scales v i d
-  reduced-end h =
-      record { reducing = red; given = λ b. absurd (omega arith); nonzero = λ b. absurd (omega arith); free = λ b. absurd (omega arith) }
-
-  module _ (inside : i < 8) {d : ℕ} (e : d ≡ runOf v s i (l + 1)) where
-    pub turn-skip : d ≡ 0 → Reducing s l (i + 1) v
-    turn-skip z = reducing-skip s l i v inside red (sym (run-leading i) ∙ sym e ∙ z)
-
-    pub turn-mixed : {q r : List ℕ} {c x : ℕ} → Kept s l i q c → x ≡ product d c → Mixed x v q r → Reducing s l (i + 1) r
-    turn-mixed {q} {r} {c} {x} kept p mixed =
-        reducing-mixed s l i v inside red q r c kept
-        (subst (λ (y : ℕ). Mixed y v q r) (p ∙ ap (λ (y : ℕ). product y c) (e ∙ run-leading i)) mixed)
-
--- ---- the turns of the search: l vectors are kept, and the next one begins at run i
-
-pub record Keeping (s : List ℕ) (vectors : List (List ℕ)) (scales begin : List ℕ) (i l : ℕ) : Type 0 where
-  pub within : l ≤ 9
+pub record Keeping (s : List ℕ) (vectors : List (List ℕ)) (scales v : List ℕ) (i l : ℕ) : Type 0 where
   pub basis : Basis s l vectors scales
-  pub reducing : l < 9 → Reducing s l i begin
+  pub reducing : Reducing s l i v
 
 zeros-at : (n k : ℕ) → _≡_ {A = ℕ} (getD (replicate n 0) k 0) 0
 zeros-at zero k = refl
@@ -288,7 +270,6 @@ pub keeping-start : (s : List ℕ) → Keeping s (replicate 8 (replicate 9 0)) (
 unfolding filled
 keeping-start s =
     record {
-      within = omega arith;
       basis =
           record {
             rows = refl;
@@ -298,7 +279,7 @@ keeping-start s =
             kept = λ i h n. absurd (n (zeros-at 8 i));
           };
       reducing =
-          λ h. record {
+          record {
             within = omega arith;
             short = record { sized = refl; above = unit-above };
             leading = refl;
@@ -306,12 +287,50 @@ keeping-start s =
           };
     }
 
-pub keeping-more : {s : List ℕ} {vectors : List (List ℕ)} {scales begin : List ℕ} {f l : ℕ} → Keeping s vectors scales begin f l → l < 9
-    → {v next : List ℕ} {i d g : ℕ} → Reduced s l scales v i d → i < 8 → (u : ℕ) → product d u ≡ 1 → Shifted v next → g ≡ i - 1
-    → Keeping s (set vectors i v) (set scales i u) next g (l + 1)
-keeping-more {s} {vectors} {scales} {begin} {f} {l} keeping small {v} {next} {i} {d} {g} red inside u one sh e =
-    record {
-      within = omega arith;
-      basis = basis-more s l vectors scales (keeping .basis) v i d u inside red one;
-      reducing = λ h. rw e (reducing-shifted s l i v next (omega arith) (red .reducing) sh);
-    }
+module _ {s : List ℕ} {vectors : List (List ℕ)} {scales v : List ℕ} {i l : ℕ} (keeping : Keeping s vectors scales v i l) where
+  pub few : l ≤ 8
+  few = basis-few s l vectors scales (keeping .basis)
+
+  -- what the run gives, over the entries up to the leading one
+  run-leading : (k : ℕ) → runOf v s k (l + 1) ≡ runOf v s k 9
+  run-leading k =
+      let h : l ≤ 8 = few in
+      ap (runOf v s k) (add-one l) ∙ run-short (suc l) v s k (omega arith) (keeping .reducing .short)
+
+  -- eight runs annihilate v
+  pub keeping-end : 8 ≤ i → Annihilated s v
+  keeping-end h =
+      let r : Reducing s l i v = keeping .reducing in
+      record { top = l; inside = omega (arith, few); short = r .short; leading = r .leading; passed = λ k b. r .passed k (omega arith) }
+
+  module _ (inside : i < 8) {d : ℕ} (e : d ≡ runOf v s i (l + 1)) where
+    whole : d ≡ runOf v s i 9
+    whole = e ∙ run-leading i
+
+    pub run-fits : d < 256
+    run-fits = rw whole (run-byte v s i 9)
+
+    pub keeping-skip : d ≡ 0 → Keeping s vectors scales v (i + 1) l
+    keeping-skip z = record { basis = keeping .basis; reducing = reducing-skip s l i v inside (keeping .reducing) (sym whole ∙ z) }
+
+    pub keeping-mixed : {x : ℕ} {r : List ℕ} → getD scales i 0 ≢ 0 → x ≡ product d (getD scales i 0) → Mixed x v (getD vectors i []) r
+        → Keeping s vectors scales r (i + 1) l
+    keeping-mixed {x} {r} n p mixed =
+        let q : List ℕ = getD vectors i [] in
+        record {
+          basis = keeping .basis;
+          reducing =
+              reducing-mixed s l i v inside (keeping .reducing) q r (getD scales i 0) (keeping .basis .kept i inside n)
+              (subst (λ (y : ℕ). Mixed y v q r) (p ∙ ap (λ (y : ℕ). product y (getD scales i 0)) whole) mixed);
+        }
+
+    -- v is kept; there are no more than eight to keep, so that it was not the ninth
+    pub keeping-more : (u : ℕ) {next : List ℕ} {g : ℕ} → d ≢ 0 → getD scales i 0 ≡ 0 → Inverse d u → Shifted v next → g ≡ i - 1
+        → Keeping s (set vectors i v) (set scales i u) next g (l + 1)
+    keeping-more u {next} {g} n free one sh p =
+        let more : Basis s (l + 1) (set vectors i v) (set scales i u) =
+        basis-more s l vectors scales (keeping .basis) v i u inside (keeping .reducing) free (ap (λ (x : ℕ). product x u) (sym whole) ∙ one .of-other n) (one .byte) in
+        record {
+          basis = more;
+          reducing = rw p (reducing-shifted s l i v next (omega (arith, basis-few s (l + 1) (set vectors i v) (set scales i u) more)) (keeping .reducing) sh);
+        }

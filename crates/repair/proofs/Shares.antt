@@ -1,23 +1,23 @@
 -- The laws of the terms c · α^(a · j), and of their sums over places.
 -- Assumes nothing.
-use mathlib.Core.Path.{_≡_, sym, ap, ap₂, _∙_}
-use mathlib.Core.Bool.{Bool}
-use mathlib.Core.List.{List}
-use Prim.Native.Nat.{ℕ, suc, _+_, _-_, _≤_, _<_}
-use native.Mathlib.Nat.{mul-comm}
+use mathlib.Core.Path.{_≡_, sym, ap, ap₂, subst, _∙_}
+use mathlib.Core.Bool.{Bool, true, false}
+use mathlib.Core.List.{List, [], _∷_}
+use Prim.Native.Nat.{ℕ, zero, suc, _+_, _-_, _<_}
+use native.Mathlib.Nat.{mul-comm, le-of-suc-le-suc, not-suc-le-zero}
 use native.Mathlib.Numerals.{add-one}
 use native.Mathlib.Omega.{arith}
-use lib.ListN.{length, getD, drop, replicate, length-drop, getD-replicate, drop-of-length-le}
-use lib.Seq.{drop-cons}
+use lib.ListN.{length, getD, replicate, getD-replicate}
 use Rattle.ground.specs.Bits.{sum}
-use Rattle.ground.proofs.Sums.{sum-assoc, sum-comm, sum-self, sum-zero, sum-cancel}
+use Rattle.ground.proofs.Sums.{sum-assoc, sum-self, sum-zero, zero-sum, sum-cancel}
 use Rattle.field.specs.Field.{product, expo, power}
 use Rattle.field.proofs.Laws.{product-comm, product-assoc, product-power, zero-product, expo-power}
 use Rattle.code.specs.Value.{value}
 use Rattle.code.proofs.Weights.{expo-zero, expo-suc, one-product}
 use Rattle.code.proofs.Values.{value-nil, value-cons}
 use Rattle.repair.specs.InnerSums.{total}
-use Rattle.repair.specs.InnerErrata.{entries, shareOf, Termed, Nought, Agreeing}
+use Rattle.repair.specs.InnerErrata.{entries, shareOf, Termed, Shared, Placed, Nought}
+use Rattle.repair.proofs.Totals.{total-first}
 
 -- the entry x of sum j, with its term
 abbrev pub WithTerm : ℕ → ℕ → List ℕ → ℕ → ℕ → Type 0
@@ -51,64 +51,57 @@ term-nothing c a s z long =
 pub expo-swap : (a j : ℕ) → expo (power a) j ≡ expo (power j) a
 expo-swap a j = expo-power a j ∙ ap power (mul-comm a j) ∙ sym (expo-power j a)
 
--- the value of the coefficients from i on, with one more before them
-pub value-drop : (w : List ℕ) (i j : ℕ) → i < length w
-    → value (drop i w) (power j) ≡ sum (value (drop (suc i) w) (power j)) (product (getD w i 0) (expo (power (length w - suc i)) j))
-value-drop w i j h =
-    let u : List ℕ = drop (suc i) w in
-    ap (λ (l : List ℕ). value l (power j)) (drop-cons w i 0 h)
-    ∙ value-cons (getD w i 0) u (power j)
-    ∙ ap (λ (x : ℕ). sum (product (getD w i 0) x) (value u (power j)))
-    (ap (expo (power j)) (length-drop (suc i) w) ∙ sym (expo-swap (length w - suc i) j))
-    ∙ sum-comm (product (getD w i 0) (expo (power (length w - suc i)) j)) (value u (power j))
+-- ---- the values of sixteen coefficients, the highest power first
 
--- ---- sums over the coefficients from i on
+-- n - 1, .., 0: the place of each of n coefficients
+unfoldable pub down : ℕ → List ℕ
+down zero = []
+down (suc n) = n ∷ down n
 
-pub record Syndromed (w : List ℕ) (i : ℕ) (s : List ℕ) : Type 0 where
-  pub within : i ≤ 16
-  pub entry : (j : ℕ) → j < 16 → getD s j 0 ≡ value (drop i w) (power j)
+down-at : (n k : ℕ) → k < n → getD (down n) k 0 ≡ n - suc k
+unfolding down
+down-at zero k h = absurd (not-suc-le-zero h)
+down-at (suc n) zero h = omega arith
+down-at (suc n) (suc k) h =
+    let e : n - suc k ≡ suc n - suc (suc k) = omega arith in
+    down-at n k (le-of-suc-le-suc h) ∙ e
 
-pub syndromed-start : (w : List ℕ) → length w ≡ 16 → Syndromed w 16 (replicate 16 0)
-syndromed-start w long =
-    let n : length w ≤ 16 = omega arith in
+pub down-placed : Placed 16 (down 16)
+down-placed =
     record {
-      within = omega arith;
-      entry =
-          λ j h. getD-replicate 16 j 0 0 h ∙ sym (value-nil (power j))
-          ∙ ap (λ (l : List ℕ). value l (power j)) (sym (drop-of-length-le w n));
+      few = omega arith;
+      below = λ k h. omega (arith, down-at 16 k h);
+      apart = λ k l h b e. omega (arith, down-at 16 k (omega arith), down-at 16 l b);
     }
 
-pub syndromed-more : {w : List ℕ} {i : ℕ} {s : List ℕ} → Syndromed w i s → length w ≡ 16 → 0 < i → (r : List ℕ) → Termed (getD w (i - 1) 0) (15 - (i - 1)) s r
-    → Syndromed w (i - 1) r
-syndromed-more {w} {i} {s} was long h r term =
-    let e : suc (i - 1) ≡ i = omega arith in
-    let m : length w - suc (i - 1) ≡ 15 - (i - 1) = omega arith in
-    let le : i ≤ 16 = was .within in
-    record {
-      within = omega arith;
-      entry =
-          λ j b. term .entry j b
-          ∙ ap₂ (λ (x n : ℕ). sum x (product (getD w (i - 1) 0) (expo (power n) j))) (was .entry j b) (sym m)
-          ∙ ap (λ (n : ℕ). sum (value (drop n w) (power j)) (product (getD w (i - 1) 0) (expo (power (length w - suc (i - 1))) j))) (sym e)
-          ∙ sym (value-drop w (i - 1) j (omega arith));
-    }
+value-share : (w : List ℕ) (j : ℕ) → value w (power j) ≡ shareOf (entries (down (length w))) (entries w) (length w) j
+unfolding shareOf total down
+value-share [] j = value-nil (power j)
+value-share (c ∷ u) j =
+    value-cons c u (power j)
+    ∙ ap₂ sum (ap (product c) (sym (expo-swap (length u) j))) (value-share u j)
+    ∙ sym (total-first (length u) (λ k. product (getD (c ∷ u) k 0) (expo (power (getD (down (suc (length u))) k 0)) j)))
 
--- ---- the syndromes that are left when the first k places have taken theirs
+pub syndromed : {rest s : List ℕ} → length rest ≡ 16 → Shared (replicate 16 0) (down 16) rest 16 s → (j : ℕ) → j < 16 → getD s j 0 ≡ value rest (power j)
+syndromed {rest} {s} long shared j h =
+    shared .entry j h
+    ∙ ap (λ (x : ℕ). sum x (shareOf (entries (down 16)) (entries rest) 16 j)) (getD-replicate 16 j 0 0 h)
+    ∙ zero-sum (shareOf (entries (down 16)) (entries rest) 16 j)
+    ∙ sym (value-share rest j ∙ ap (λ (n : ℕ). shareOf (entries (down n)) (entries rest) n j) long)
 
-pub record Leaving (s at c : List ℕ) (k : ℕ) (left : List ℕ) : Type 0 where
-  pub entry : (j : ℕ) → j < 16 → getD left j 0 ≡ sum (getD s j 0) (shareOf (entries at) (entries c) k j)
+-- ---- one place more
 
-pub leaving-start : (s at c : List ℕ) → Leaving s at c 0 s
+pub shared-start : (s at c : List ℕ) → Shared s at c 0 s
 unfolding shareOf total
-leaving-start s at c = record { entry = λ j h. sym (sum-zero (getD s j 0)) }
+shared-start s at c = record { entry = λ j h. sym (sum-zero (getD s j 0)) }
 
 pub share-more : (a c : ℕ → ℕ) (k j : ℕ) → shareOf a c (k + 1) j ≡ sum (shareOf a c k j) (product (c k) (expo (power (a k)) j))
 unfolding shareOf total
 share-more a c k j = ap (λ (n : ℕ). shareOf a c n j) (add-one k)
 
-pub leaving-more : {s at c : List ℕ} {k : ℕ} {left : List ℕ} → Leaving s at c k left → (r : List ℕ) (a : ℕ) → a ≡ getD at k 0 → Termed (getD c k 0) a left r
-    → Leaving s at c (k + 1) r
-leaving-more {s} {at} {c} {k} {left} was r a e term =
+pub shared-more : {s at c : List ℕ} {k : ℕ} {left : List ℕ} → Shared s at c k left → (r : List ℕ) (a : ℕ) → a ≡ getD at k 0 → Termed (getD c k 0) a left r
+    → Shared s at c (k + 1) r
+shared-more {s} {at} {c} {k} {left} was r a e term =
     record {
       entry =
           λ j h.
@@ -119,16 +112,18 @@ leaving-more {s} {at} {c} {k} {left} was r a e term =
           ∙ ap (sum (getD s j 0)) (sym (share-more (entries at) (entries c) k j));
     }
 
+pub shared-end : {s at c : List ℕ} {k n : ℕ} {r : List ℕ} → Shared s at c k r → k ≡ n → Shared s at c n r
+shared-end {s} {at} {c} {k} {n} {r} was e = subst (λ (m : ℕ). Shared s at c m r) e was
+
+-- r says whether c at the first n places gives all sixteen syndromes s
+pub record Agreeing (s at c : List ℕ) (n : ℕ) (r : Bool) : Type 0 where
+  pub yes : r ≡ true → (j : ℕ) → j < 16 → shareOf (entries at) (entries c) n j ≡ getD s j 0
+  pub no : r ≡ false → ((j : ℕ) → j < 16 → shareOf (entries at) (entries c) n j ≡ getD s j 0) → ⊥
+
 -- nothing is left exactly if they give the syndromes
-pub leaving-agrees : {s at c : List ℕ} {k : ℕ} {left : List ℕ} → Leaving s at c k left → (n : ℕ) → k ≡ n → (r : Bool) → Nought left r → Agreeing s at c n r
-leaving-agrees {s} {at} {c} {k} {left} was n e r nought =
+pub shared-agrees : {s at c : List ℕ} {n : ℕ} {left : List ℕ} → Shared s at c n left → (r : Bool) → Nought left r → Agreeing s at c n r
+shared-agrees {s} {at} {c} {n} {left} was r nought =
     record {
-      yes =
-          λ t j h. sym (sum-cancel (getD s j 0) (shareOf (entries at) (entries c) n j) (ap (sum (getD s j 0)) (again j) ∙ sym (was .entry j h) ∙ nought .yes t j h));
-      no =
-          λ t all. nought .no t
-          (λ j h. was .entry j h ∙ ap (sum (getD s j 0)) (sym (again j) ∙ all j h) ∙ sum-self (getD s j 0));
+      yes = λ t j h. sym (sum-cancel (getD s j 0) (shareOf (entries at) (entries c) n j) (sym (was .entry j h) ∙ nought .yes t j h));
+      no = λ t all. nought .no t (λ j h. was .entry j h ∙ ap (sum (getD s j 0)) (all j h) ∙ sum-self (getD s j 0));
     }
-  where
-    again : (j : ℕ) → shareOf (entries at) (entries c) n j ≡ shareOf (entries at) (entries c) k j
-    again j = ap (λ (m : ℕ). shareOf (entries at) (entries c) m j) (sym e)

@@ -13,7 +13,7 @@ use lib.Seq.{getD-set-same, getD-set-other}
 use Rattle.ground.specs.Bits.{sum}
 use Rattle.ground.proofs.Sums.{sum-assoc, sum-comm, sum-self, sum-zero, zero-sum, sum-cancel}
 use Rattle.field.specs.Field.{product, expo, power}
-use Rattle.field.proofs.Laws.{ring, product-comm, power-injective}
+use Rattle.field.proofs.Laws.{ring, power-injective}
 use Rattle.code.proofs.Lists.{sum-again}
 use Rattle.code.proofs.Weights.{expo-zero, expo-suc, one-product}
 use Rattle.repair.specs.InnerSums.{total}
@@ -126,20 +126,20 @@ module _ (a : ℕ → ℕ) (n k : ℕ) (h : k < n) (c r : ℕ → ℕ)
 
 -- ---- the turns of shifting one place out, from the last entry down to entry i
 
-pub record ShiftingOut (a n k : ℕ) (c out : List ℕ) (i : ℕ) : Type 0 where
+pub record ShiftingOut (x n k : ℕ) (c out : List ℕ) (i : ℕ) : Type 0 where
   pub from : k + 1 ≤ i
   pub within : i ≤ n
   pub sized : length out ≡ 16
   pub low : (m : ℕ) → m < i → getD out m 0 ≡ getD c m 0
-  pub high : (m : ℕ) → i ≤ suc m → suc m < n → getD out (suc m) 0 ≡ sum (getD c (suc m) 0) (product (power a) (getD c m 0))
+  pub high : (m : ℕ) → i ≤ suc m → suc m < n → getD out (suc m) 0 ≡ sum (getD c (suc m) 0) (product x (getD c m 0))
 
-pub shifting-start : (a n k : ℕ) (c : List ℕ) → k < n → length c ≡ 16 → ShiftingOut a n k c c n
-shifting-start a n k c h long =
+pub shifting-start : (x n k : ℕ) (c : List ℕ) → k < n → length c ≡ 16 → ShiftingOut x n k c c n
+shifting-start x n k c h long =
     record { from = omega arith; within = le-refl n; sized = long; low = λ m b. refl; high = λ m b l. absurd (omega arith) }
 
-pub shifting-more : {a n k : ℕ} {c out : List ℕ} {i : ℕ} → ShiftingOut a n k c out i → n ≤ 16 → k + 1 < i → (t : ℕ)
-    → t ≡ product (getD out (i - 1 - 1) 0) (power a) → ShiftingOut a n k c (set out (i - 1) (sum (getD out (i - 1) 0) t)) (i - 1)
-shifting-more {a} {n} {k} {c} {out} {i} was small h t e =
+pub shifting-more : {x n k : ℕ} {c out : List ℕ} {i : ℕ} → ShiftingOut x n k c out i → n ≤ 16 → k + 1 < i → (t : ℕ)
+    → t ≡ product x (getD out (i - 1 - 1) 0) → ShiftingOut x n k c (set out (i - 1) (sum (getD out (i - 1) 0) t)) (i - 1)
+shifting-more {x} {n} {k} {c} {out} {i} was small h t e =
     let le : i ≤ n = was .within in
     let long : length out ≡ 16 = was .sized in
     let v : ℕ = sum (getD out (i - 1) 0) t in
@@ -154,12 +154,12 @@ shifting-more {a} {n} {k} {c} {out} {i} was small h t e =
           ap (λ (x : ℕ). getD (set out (i - 1) v) x 0) q
           ∙ getD-set-same out (i - 1) v 0 (omega arith)
           ∙ ap₂ sum (was .low (i - 1) (omega arith) ∙ ap (λ (x : ℕ). getD c x 0) (sym q))
-          (e ∙ ap (λ (x : ℕ). product (getD out x 0) (power a)) d ∙ ap (λ (x : ℕ). product x (power a)) (was .low m (omega arith)) ∙ product-comm (getD c m 0) (power a)))
+          (e ∙ ap (λ (y : ℕ). product x (getD out y 0)) d ∙ ap (product x) (was .low m (omega arith))))
           (λ (q : suc m ≡ i - 1 → ⊥). getD-set-other out (i - 1) (suc m) v 0 q ∙ was .high m (omega arith) l)
           (same-or-not (suc m) (i - 1));
     }
 
-pub shifting-end : {a n k : ℕ} {c out : List ℕ} {i : ℕ} → ShiftingOut a n k c out i → i ≤ k + 1 → ShiftedOut a n k c out
+pub shifting-end : {x n k : ℕ} {c out : List ℕ} {i : ℕ} → ShiftingOut x n k c out i → i ≤ k + 1 → ShiftedOut x n k c out
 shifting-end was h =
     record { sized = was .sized; kept = λ m b. was .low m (omega (arith, was .from)); moved = λ m b l. was .high m (omega arith) l }
 
@@ -181,10 +181,10 @@ sifting-start at n s long =
       left = λ j h. let e : 0 + j ≡ j = omega arith in ap (λ (x : ℕ). getD s x 0) e;
     }
 
-pub sifting-more : {at : List ℕ} {n : ℕ} {s : List ℕ} {k : ℕ} {c : List ℕ} → Sifting at n s k c → k < n → (r : List ℕ) (a : ℕ) → a ≡ getD at k 0
-    → ShiftedOut a n k c r → Sifting at n s (k + 1) r
+pub sifting-more : {at : List ℕ} {n : ℕ} {s : List ℕ} {k : ℕ} {c : List ℕ} → Sifting at n s k c → k < n → (r : List ℕ) (x : ℕ) → x ≡ power (getD at k 0)
+    → ShiftedOut x n k c r → Sifting at n s (k + 1) r
 unfolding shiftsOf
-sifting-more {at} {n} {s} {k} {c} was h r a e out =
+sifting-more {at} {n} {s} {k} {c} was h r x e out =
     record {
       within = omega arith;
       sized = out .sized;
@@ -197,7 +197,7 @@ sifting-more {at} {n} {s} {k} {c} was h r a e out =
           let q : suc (k + j) ≡ k + suc j = omega arith in
           ap (λ (x : ℕ). getD r x 0) p
           ∙ out .moved (k + j) (omega arith) (omega arith)
-          ∙ ap₂ (λ (x y : ℕ). sum x (product (power y) (getD c (k + j) 0))) (ap (λ (x : ℕ). getD c x 0) q ∙ was .left (suc j) (omega arith)) e
+          ∙ ap₂ (λ (x y : ℕ). sum x (product y (getD c (k + j) 0))) (ap (λ (x : ℕ). getD c x 0) q ∙ was .left (suc j) (omega arith)) e
           ∙ ap (λ (x : ℕ). sum (shiftsOf (entries at) (entries s) k (suc j)) (product (power (getD at k 0)) x)) (was .left j (omega arith))
           ∙ ap (λ (x : ℕ). shiftsOf (entries at) (entries s) x j) (sym (add-one k));
     }

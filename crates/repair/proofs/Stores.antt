@@ -1,15 +1,31 @@
--- What a loop knows of a list that it writes from the front, one entry a turn.
+-- What a loop knows of a list that it writes from the front, one entry a turn, and of its counter.
 -- Assumes nothing.
 use mathlib.Core.Path.{_≡_, refl, sym, subst, _∙_}
 use mathlib.Core.Logic.{⊎-elim}
 use mathlib.Core.List.{List}
-use Prim.Native.Nat.{ℕ, _+_, _≤_, _<_}
+use Prim.Native.Nat.{ℕ, _+_, _-_, _≤_, _<_}
 use native.Mathlib.Nat.{not-suc-le-zero}
 use native.Mathlib.Numerals.{add-one}
 use native.Mathlib.Omega.{arith}
+use mir.Syntax.{w64}
+use mir.Val.{Fits}
 use lib.ListN.{length, getD, set, length-set}
 use lib.Seq.{getD-set-same, getD-set-other}
 use Rattle.ground.proofs.Numbers.{below-suc}
+
+-- ---- the counter k, below n
+
+module _ {k n : ℕ} (h : k < n) where
+  pub next-within : k + 1 ≤ n
+  next-within = omega arith
+
+  pub next-nearer : n - (k + 1) < n - k
+  next-nearer = omega arith
+
+  pub next-fits : n ≤ 16 → Fits w64 (k + 1)
+  next-fits few = record { fits = omega arith }
+
+-- ---- the list
 
 -- each of the first k of n entries is as P says, and the others are as they were
 pub record Front (P : ℕ → ℕ → Type 0) (n k : ℕ) (old out : List ℕ) : Type 0 where

@@ -15,11 +15,6 @@ unfolding total
 total-ext zero f g e = refl
 total-ext (suc n) f g e = ap₂ sum (total-ext n f g (λ k h. e k (omega arith))) (e n (le-refl (suc n)))
 
-pub total-zero : (n : ℕ) (f : ℕ → ℕ) → ((k : ℕ) → k < n → f k ≡ 0) → total n f ≡ 0
-unfolding total
-total-zero zero f e = refl
-total-zero (suc n) f e = ap₂ sum (total-zero n f (λ k h. e k (omega arith))) (e n (le-refl (suc n))) ∙ zero-sum 0
-
 -- the rest adds nothing
 pub total-more : (n d : ℕ) (f : ℕ → ℕ) → ((k : ℕ) → n ≤ k → k < n + d → f k ≡ 0) → total (n + d) f ≡ total n f
 unfolding total

@@ -27,6 +27,10 @@ pub record Termed (c a : ℕ) (s r : List ℕ) : Type 0 where
   pub sized : length r ≡ 16
   pub entry : (j : ℕ) → j < 16 → getD r j 0 ≡ sum (getD s j 0) (product c (expo (power a) j))
 
+-- r is the sixteen sums s, with what c at the first n places add
+pub record Shared (s at c : List ℕ) (n : ℕ) (r : List ℕ) : Type 0 where
+  pub entry : (j : ℕ) → j < 16 → getD r j 0 ≡ sum (getD s j 0) (shareOf (entries at) (entries c) n j)
+
 -- the first n entries are different places
 pub record Placed (n : ℕ) (at : List ℕ) : Type 0 where
   pub few : n ≤ 16
@@ -48,11 +52,11 @@ unfoldable pub shiftsOf : (ℕ → ℕ) → (ℕ → ℕ) → ℕ → ℕ → �
 shiftsOf a s zero j = s j
 shiftsOf a s (suc k) j = sum (shiftsOf a s k (suc j)) (product (power (a k)) (shiftsOf a s k j))
 
--- place k was shifted out of the entries of c behind entry k
-pub record ShiftedOut (a n k : ℕ) (c r : List ℕ) : Type 0 where
+-- the place with the locator x was shifted out of the entries of c behind entry k
+pub record ShiftedOut (x n k : ℕ) (c r : List ℕ) : Type 0 where
   pub sized : length r ≡ 16
   pub kept : (i : ℕ) → i ≤ k → getD r i 0 ≡ getD c i 0
-  pub moved : (i : ℕ) → k ≤ i → suc i < n → getD r (suc i) 0 ≡ sum (getD c (suc i) 0) (product (power a) (getD c i 0))
+  pub moved : (i : ℕ) → k ≤ i → suc i < n → getD r (suc i) 0 ≡ sum (getD c (suc i) 0) (product x (getD c i 0))
 
 -- entry k is the first one left after k places were shifted out
 pub record Sifted (at : List ℕ) (n : ℕ) (s c : List ℕ) : Type 0 where
@@ -75,11 +79,6 @@ pub record Solved (at : List ℕ) (n : ℕ) (s c : List ℕ) : Type 0 where
 pub record Nought (s : List ℕ) (r : Bool) : Type 0 where
   pub yes : r ≡ true → (j : ℕ) → j < 16 → getD s j 0 ≡ 0
   pub no : r ≡ false → ((j : ℕ) → j < 16 → getD s j 0 ≡ 0) → ⊥
-
--- r says whether c at the first n places gives all sixteen syndromes s
-pub record Agreeing (s at c : List ℕ) (n : ℕ) (r : Bool) : Type 0 where
-  pub yes : r ≡ true → (j : ℕ) → j < 16 → shareOf (entries at) (entries c) n j ≡ getD s j 0
-  pub no : r ≡ false → ((j : ℕ) → j < 16 → shareOf (entries at) (entries c) n j ≡ getD s j 0) → ⊥
 
 -- ---- the row
 

@@ -1,13 +1,16 @@
 -- Vocabulary of the private functions that mend a payload. Nobody needs to believe it: no contract of a public call cites it.
 -- Assumes nothing.
 use mathlib.Core.Path.{_≡_}
+use mathlib.Core.Bool.{cond}
 use mathlib.Core.List.{List}
 use Prim.Native.Nat.{ℕ, _+_, _*_, _/_, _%_, _≤_, _<_}
+use lib.Dec.{eqb}
 use lib.ListN.{length, take, drop}
 use Rattle.refusals.specs.declared.Verdict.{Verdict}
 use Rattle.refusals.specs.declared.Verdict.the-variants.{Accepted, Refused}
+use Rattle.refusals.specs.declared.Refusal.the-variants.{Repair}
 use Rattle.code.specs.Search.{remainder}
-use Rattle.repair.specs.Repair.{Mending}
+use Rattle.code.specs.Mend.{Mended as Rows, whole, broken}
 use Rattle.repair.specs.InnerErrata.{mendedBy, entries}
 
 -- whole rows, the first being row i of fifteen, and what each of them leaves
@@ -17,7 +20,16 @@ pub record Resting (b : List ℕ) (i : ℕ) (rests : List ℕ) : Type 0 where
   pub sized : length rests ≡ 240
   pub left : (j : ℕ) → j < length b / 255 → take 16 (drop ((i + j) * 16) rests) ≡ remainder 239 (take 255 (drop (j * 255) b))
 
--- the values added at n places of the row at the front, where the rows behind were mended
-abbrev pub addedIf : Verdict → List ℕ → List ℕ → List ℕ → ℕ → Mending
-addedIf Accepted b at c n = record { answer = Accepted; bytes = mendedBy b (entries at) (entries c) n }
-addedIf (Refused r) b at c n = record { answer = Refused r; bytes = b }
+-- what rows b that come to m end as: 15, and the rows mended; or the first that is broken, of fifteen, and b as it came
+abbrev pub Ends : List ℕ → Rows → ℕ → List ℕ → Type 0
+Ends b (whole c) r out = (r ≡ 15) × (out ≡ c)
+Ends b (broken i) r out = (i < 15) × (r ≡ i) × (out ≡ b)
+
+-- the values added at n places of the row at the front, unless row r behind it is broken
+pub record Finished (r : ℕ) (b at c : List ℕ) (n : ℕ) (out : List ℕ) : Type 0 where
+  pub kept : r < 15 → out ≡ b
+  pub added : 15 ≤ r → out ≡ mendedBy b (entries at) (entries c) n
+
+-- the verdict, by the first row that is broken, of fifteen
+unfoldable pub toldOf : ℕ → Verdict
+toldOf r = cond (eqb r 15) Accepted (Refused (Repair r))

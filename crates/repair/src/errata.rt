@@ -2,6 +2,7 @@
 // places are shifted out of the syndromes one after the other, which leaves one equation for the last place, and are then brought back, last first.
 ghost use mathlib.Core.Path.{_≡_};
 ghost use Prim.Native.Nat.{_≤_, _<_};
+ghost use lib.ListN.{length, take};
 ghost use Rattle.field.specs.Tables.{Powers, Logs};
 ghost use Rattle.repair.specs.InnerErrata.{Placed, ShiftedOut, Sifted, Restored, Solved, Searched, mendedBy, entries};
 use crate::factors;
@@ -21,56 +22,56 @@ pub(crate) struct Errata {
 pub(crate) fn find(rest: [u8; 16]) -> Errata
     ensures { λ r. ⌜ Searched rest (r .n) (r .at) (r .values) (r .fits) ⌝ }
 {
+    let none = [0u8; 16];
     if terms::is_nought(rest) {
         return Errata {
             fits: true,
             n: 0,
-            at: [0u8; 16],
-            values: [0u8; 16],
+            at: none,
+            values: none,
         };
     }
-    search(rest)
-}
-
-// The same by way of the syndromes.
-fn search(rest: [u8; 16]) -> Errata
-    ensures { λ r. ⌜ Searched rest (r .n) (r .at) (r .values) (r .fits) ⌝ }
-{
     let powers = field::powers();
     let logs = field::logs();
-    let s = terms::syndromes(rest, &powers, &logs);
-    let null = kernel::null_vector(s, &powers, &logs);
-    let v = null.v;
-    let places = roots::find(v);
-    let n = places.n;
+    let p = &powers;
+    let l = &logs;
+    // The syndromes: the remainder's bytes are the coefficients of the powers 15 to 0.
+    let s = terms::add_terms(
+        none,
+        [15u8, 14, 13, 12, 11, 10, 9, 8, 7, 6, 5, 4, 3, 2, 1, 0],
+        rest,
+        16,
+        p,
+        l,
+    );
+    let places = roots::find(kernel::null_vector(s, p, l));
     let at = places.at;
-    let values = solve(s, at, n, &powers, &logs);
-    let fits = terms::agrees(s, at, values, n, &powers, &logs);
+    let values = solve(s, at, places.n, p, l);
     Errata {
-        fits,
-        n,
+        fits: terms::is_nought(terms::add_terms(s, at, values, places.n, p, l)),
+        n: places.n,
         at,
         values,
     }
 }
 
-// The entries behind entry k, each less α^a times the one before it.
+// The entries behind entry k, each less x times the one before it.
 fn shift_out(
     c: [u8; 16],
-    a: usize,
+    x: u8,
     n: usize,
     k: usize,
     powers: &[u8; 512],
     logs: &[u8; 256],
 ) -> [u8; 16]
-    requires { ⌜ (a < 255) × (k < n) × (n ≤ 16) × Powers (now powers) × Logs (now logs) ⌝ }
-    ensures { λ r. ⌜ ShiftedOut a n k c r ⌝ }
+    requires { ⌜ (k < n) × (n ≤ 16) × Powers (now powers) × Logs (now logs) ⌝ }
+    ensures { λ r. ⌜ ShiftedOut x n k c r ⌝ }
 {
     let mut out = c;
     let mut i = n;
     while k + 1 < i {
         i -= 1;
-        out[i] = out[i] ^ factors::raised(powers, logs, out[i - 1], a);
+        out[i] = out[i] ^ field::mul_by(powers, logs, x, out[i - 1]);
     }
     out
 }
@@ -83,7 +84,7 @@ fn sift(s: [u8; 16], at: [u8; 16], n: usize, powers: &[u8; 512], logs: &[u8; 256
     let mut out = s;
     let mut k: usize = 0;
     while k < n {
-        let next = shift_out(out, words::index(at[k]), n, k, powers, logs);
+        let next = shift_out(out, factors::power(powers, at[k]), n, k, powers, logs);
         out = next;
         k += 1;
     }
@@ -137,17 +138,18 @@ pub(crate) fn solve(
     out
 }
 
-// The row with the values added at the first n places.
-pub(crate) fn mend(row: [u8; 255], at: [u8; 16], values: [u8; 16], n: usize) -> [u8; 255]
-    requires { ⌜ Placed n at ⌝ }
-    ensures { λ r. ⌜ r ≡ mendedBy row (entries at) (entries values) n ⌝ }
+// The row at the front, held by value, with the values added at the places.
+pub(crate) fn mend(rows: &[u8], e: Errata) -> [u8; 255]
+    requires { ⌜ Placed (e .n) (e .at) × (255 ≤ length (now rows)) ⌝ }
+    ensures { λ r. ⌜ r ≡ mendedBy (take 255 (now (rows .entry))) (entries (e .at)) (entries (e .values)) (e .n) ⌝ }
 {
-    let mut out = row;
+    let mut row = [0u8; 255];
+    words::copy_in(&mut row, 0, &rows[0..255]);
     let mut k: usize = 0;
-    while k < n {
-        let i = 254 - words::index(at[k]);
-        out[i] = out[i] ^ values[k];
+    while k < e.n {
+        let i = 254 - words::index(e.at[k]);
+        row[i] = row[i] ^ e.values[k];
         k += 1;
     }
-    out
+    row
 }

@@ -1,36 +1,9 @@
-// Products and quotients in the field of document 01, section 3, read off its tables of powers and logarithms, which `repair` takes once and lends down.
+// Quotients and exponents in the field of document 01, section 3, read off its tables of powers and logarithms, which `repair` takes once and lends down.
 ghost use mathlib.Core.Path.{_≡_};
 ghost use mathlib.Core.Logic.{_≢_};
 ghost use Prim.Native.Nat.{_<_};
 ghost use Rattle.field.specs.Field.{product, power};
 ghost use Rattle.field.specs.Tables.{Powers, Logs};
-
-// a · b
-pub(crate) fn times(powers: &[u8; 512], logs: &[u8; 256], a: u8, b: u8) -> u8
-    requires { ⌜ Powers (now powers) × Logs (now logs) ⌝ }
-    ensures { λ r. ⌜ r ≡ product a b ⌝ }
-{
-    field::mul_by(powers, logs, a, b)
-}
-
-// One over a, which is not 0.
-pub(crate) fn inverse(powers: &[u8; 512], logs: &[u8; 256], a: u8) -> u8
-    requires { ⌜ Powers (now powers) × Logs (now logs) × (a ≢ 0) ⌝ }
-    ensures { λ r. ⌜ product a r ≡ 1 ⌝ }
-{
-    field::inverse_by(powers, logs, a)
-}
-
-// c · α^e
-pub(crate) fn raised(powers: &[u8; 512], logs: &[u8; 256], c: u8, e: usize) -> u8
-    requires { ⌜ (e < 256) × Powers (now powers) × Logs (now logs) ⌝ }
-    ensures { λ r. ⌜ r ≡ product c (power e) ⌝ }
-{
-    if c == 0 {
-        return 0;
-    }
-    powers[log(logs, c) + e]
-}
 
 // a / b, where b is not 0.
 pub(crate) fn over(powers: &[u8; 512], logs: &[u8; 256], a: u8, b: u8) -> u8
@@ -49,14 +22,6 @@ pub(crate) fn log(logs: &[u8; 256], x: u8) -> usize
     ensures { λ r. ⌜ (r < 255) × (power r ≡ x) ⌝ }
 {
     words::index(logs[x as usize])
-}
-
-// The exponent below 255 of α^e.
-pub(crate) fn round(e: usize) -> usize
-    requires { ⌜ e < 510 ⌝ }
-    ensures { λ r. ⌜ (r < 255) × (power r ≡ power e) ⌝ }
-{
-    if 255 <= e { e - 255 } else { e }
 }
 
 // α^a

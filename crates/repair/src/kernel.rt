@@ -1,24 +1,10 @@
 // A vector of nine bytes, not zero, that the eight runs of the sixteen syndromes annihilate: the coefficients, the constant first, of a polynomial that is zero at the
 // locator of each wrong byte where at most eight are wrong (document 01, section 3).
 ghost use mathlib.Core.Path.{_≡_};
-ghost use Prim.Native.Nat.{_-_, _<_, _≤_};
+ghost use Prim.Native.Nat.{_<_, _≤_};
 ghost use Rattle.field.specs.Tables.{Powers, Logs};
 ghost use Rattle.repair.specs.InnerSums.{runOf};
-ghost use Rattle.repair.specs.InnerNull.{Short, Mixed, Shifted, Basis, Reducing, Reduced, Annihilated};
-use crate::factors;
-
-// The vector, and the place of its leading 1.
-pub(crate) struct Null {
-    pub v: [u8; 9],
-    pub top: usize,
-}
-
-// A vector as far as the kept ones reduce it, the run that has none to go on with, and what that run gives.
-struct Left {
-    v: [u8; 9],
-    run: usize,
-    d: u8,
-}
+ghost use Rattle.repair.specs.InnerNull.{Short, Mixed, Shifted, Annihilated};
 
 // The sum of v[m] · s[j + m] over the first n entries.
 fn run(v: [u8; 9], n: usize, s: [u8; 16], j: usize, powers: &[u8; 512], logs: &[u8; 256]) -> u8
@@ -28,7 +14,7 @@ fn run(v: [u8; 9], n: usize, s: [u8; 16], j: usize, powers: &[u8; 512], logs: &[
     let mut acc: u8 = 0;
     let mut m: usize = 0;
     while m < n {
-        acc = acc ^ factors::times(powers, logs, v[m], s[j + m]);
+        acc = acc ^ field::mul_by(powers, logs, v[m], s[j + m]);
         m += 1;
     }
     acc
@@ -42,7 +28,7 @@ fn mix(v: [u8; 9], q: [u8; 9], n: usize, c: u8, powers: &[u8; 512], logs: &[u8; 
     let mut out = v;
     let mut m: usize = 0;
     while m < n {
-        out[m] = out[m] ^ factors::times(powers, logs, c, q[m]);
+        out[m] = out[m] ^ field::mul_by(powers, logs, c, q[m]);
         m += 1;
     }
     out
@@ -53,79 +39,39 @@ fn shift(v: [u8; 9]) -> [u8; 9]
     ensures { λ r. ⌜ Shifted v r ⌝ }
 {
     let mut out = [0u8; 9];
-    let mut m: usize = 0;
-    while m < 8 {
-        out[m + 1] = v[m];
-        m += 1;
-    }
+    words::copy_in(&mut out, 1, &v[0..8]);
     out
 }
 
-// v less what the kept vectors take away, run by run from run `from` on, until a run that has none does not annihilate it.
-fn reduce(
-    v: [u8; 9],
-    from: usize,
-    l: usize,
-    s: [u8; 16],
-    vectors: [[u8; 9]; 8],
-    scales: [u8; 8],
-    powers: &[u8; 512],
-    logs: &[u8; 256],
-) -> Left
-    requires { ⌜ (l < 9) × Reducing s l from v × Basis s l vectors scales × Powers (now powers) × Logs (now logs) ⌝ }
-    ensures { λ r. ⌜ Reduced s l scales (r .v) (r .run) (r .d) ⌝ }
-{
-    let mut out = v;
-    let mut i = from;
-    while i < 8 {
-        let d = run(out, l + 1, s, i, powers, logs);
-        if d != 0 {
-            let c = scales[i];
-            if c == 0 {
-                return Left { v: out, run: i, d };
-            }
-            let q = vectors[i];
-            let w = mix(out, q, l, factors::times(powers, logs, d, c), powers, logs);
-            out = w;
-        }
-        i += 1;
-    }
-    Left {
-        v: out,
-        run: i,
-        d: 0,
-    }
-}
-
-// The vector. Each is reduced by those before it, and kept at the run that it leaves nothing for; the next begins as x times it.
-pub(crate) fn null_vector(s: [u8; 16], powers: &[u8; 512], logs: &[u8; 256]) -> Null
+// The vector. Each is reduced, run by run, by the one that is kept for the run; where none is kept and the run does not annihilate it, it is kept there itself, and the next
+// begins as x times it.
+pub(crate) fn null_vector(s: [u8; 16], powers: &[u8; 512], logs: &[u8; 256]) -> [u8; 9]
     requires { ⌜ Powers (now powers) × Logs (now logs) ⌝ }
-    ensures { λ r. ⌜ Annihilated s (r .v) (r .top) ⌝ }
+    ensures { λ r. ⌜ Annihilated s r ⌝ }
 {
     let mut vectors = [[0u8; 9]; 8];
     let mut scales = [0u8; 8];
-    let mut begin = [1u8, 0, 0, 0, 0, 0, 0, 0, 0];
-    let mut from: usize = 0;
+    let mut v = [1u8, 0, 0, 0, 0, 0, 0, 0, 0];
+    let mut i: usize = 0;
     let mut l: usize = 0;
-    while l < 9 {
-        let left = reduce(begin, from, l, s, vectors, scales, powers, logs);
-        let v = left.v;
-        let i = left.run;
-        if 8 <= i {
-            return Null { v, top: l };
+    while i < 8 {
+        let d = run(v, l + 1, s, i, powers, logs);
+        let c = scales[i];
+        if d == 0 {
+            i += 1;
+        } else if c == 0 {
+            vectors[i] = v;
+            scales[i] = field::inverse_by(powers, logs, d);
+            let next = shift(v);
+            v = next;
+            i = if i == 0 { 0 } else { i - 1 };
+            l += 1;
+        } else {
+            let q = vectors[i];
+            let w = mix(v, q, l, field::mul_by(powers, logs, d, c), powers, logs);
+            v = w;
+            i += 1;
         }
-        vectors[i] = v;
-        scales[i] = factors::inverse(powers, logs, left.d);
-        begin = shift(v);
-        from = before(i);
-        l += 1;
     }
-    Null { v: begin, top: 0 }
-}
-
-// i - 1, or 0.
-fn before(i: usize) -> usize
-    ensures { λ r. ⌜ r ≡ i - 1 ⌝ }
-{
-    if i == 0 { 0 } else { i - 1 }
+    v
 }

@@ -1,5 +1,7 @@
 // Repair of rows of RS(255,239), exact: the one coded row within eight bytes, or that there is none (document 01, section 3, and demand 2).
 ghost use mathlib.Core.Path.{_≡_};
+ghost use Prim.Native.Nat.{_≤_};
+ghost use Rattle.repair.specs.InnerRows.{toldOf};
 ghost use Rattle.repair.specs.Repair.{mendOf, repairRowOf, mendingOf, Mends};
 
 mod errata;
@@ -30,7 +32,18 @@ pub fn mend(rows: &mut [u8]) -> Verdict
         return Verdict::Refused(Refusal::Short);
     }
     let rests = encoding::remainders(rows);
-    rows::mend_from(rows, 0, &rests)
+    told(rows::mend_from(rows, 0, &rests))
+}
+
+// What is told of rows by the first that is broken, of fifteen.
+fn told(broken: usize) -> Verdict
+    requires { ⌜ broken ≤ 15 ⌝ }
+    ensures { λ r. ⌜ r ≡ toldOf broken ⌝ }
+{
+    if broken == 15 {
+        return Verdict::Accepted;
+    }
+    Verdict::Refused(Refusal::Repair(broken as u32))
 }
 
 // The coded row that differs from this row in at most eight bytes; refused where there is none.
@@ -49,11 +62,13 @@ pub fn repair(row: [u8; 255]) -> Mended
 pub fn repair_row(row: &[u8]) -> Mended
     ensures { λ r. ⌜ r ≡ repairRowOf (now (row .entry)) ⌝ }
 {
+    let mut held = [0u8; 255];
     if row.len() != 255 {
         return Mended {
             verdict: Verdict::Refused(Refusal::Short),
-            row: [0u8; 255],
+            row: held,
         };
     }
-    repair(rows::row_in(row))
+    words::copy_in(&mut held, 0, row);
+    repair(held)
 }

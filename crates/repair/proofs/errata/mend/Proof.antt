@@ -1,63 +1,82 @@
--- `errata::mend` adds one value after the other.
+-- `errata::mend` copies the row, and adds one value after the other.
 -- Assumes nothing.
-use mathlib.Core.Path.{_≡_, ap, _∙_}
-use Prim.Native.Nat.{_-_, _≤_}
+use mathlib.Core.Path.{_≡_, ap₂, _∙_}
+use mathlib.Core.List.{List}
+use Prim.Native.Nat.{ℕ, _-_, _≤_}
+use native.Mathlib.Nat.{lt-of-lt-of-le}
 use native.Mathlib.Omega.{arith}
 use Rattle.ground.specs.Bits.{sum}
 use Rattle.repair.specs.InnerErrata.{entries, mendedBy}
+use Rattle.repair.proofs.Stores.{next-within, next-nearer, next-fits}
 use Rattle.repair.proofs.Mending.{mended-start, mended-more}
-use borrow.Author.Needs.{needs}
+use Rattle.repair.proofs.AllRows.{copied-row}
 use Rattle.repair.proofs.errata.mend.Statement.{statement}
 use Rattle.repair.proofs.errata.mend.Tie as tie
 
 abbrev Inv-loop : tie.InvT-loop
-Inv-loop n at values out₀ k₀ out k = (k ≤ n) × (out ≡ mendedBy out₀ (entries at) (entries values) k)
+Inv-loop rows e row₀ k₀ row k = (k ≤ e .n) × (row ≡ mendedBy row₀ (entries (e .at)) (entries (e .values)) k)
 
 abbrev μ-loop : tie.MeasureT-loop
-μ-loop n at values out₀ k₀ out k = n - k
+μ-loop rows e row₀ k₀ row k = e .n - k
+
+slice-aggregate-copy-in : tie.Need-slice-aggregate-copy-in Inv-loop μ-loop
+slice-aggregate-copy-in c = omega arith
+
+sub-copy-in : tie.Need-sub-copy-in Inv-loop μ-loop
+sub-copy-in c = omega arith
+
+part-copy-in-start : tie.Need-part-copy-in-start Inv-loop μ-loop
+part-copy-in-start c = omega arith
+
+part-copy-in-end : tie.Need-part-copy-in-end Inv-loop μ-loop
+part-copy-in-end c = omega arith
+
+copy-in-requires : tie.Need-copy-in-requires Inv-loop μ-loop
+copy-in-requires c κs = tt
 
 loop-holds : tie.Need-loop-holds Inv-loop μ-loop
 loop-holds c = (omega arith, mended-start _ _ _)
 
-array-read-index : tie.Need-array-read-index Inv-loop μ-loop
-array-read-index c = omega (arith, c .before .before .pre .few)
+element-copy-out-index : tie.Need-element-copy-out-index Inv-loop μ-loop
+element-copy-out-index c = lt-of-lt-of-le (c .loop-test .taken) (c .before .before .before .before .before .before .before .pre .0 .few)
 
 index-requires : tie.Need-index-requires Inv-loop μ-loop
-index-requires c κs = search needs
+index-requires c κs = tt
 
 sub-i : tie.Need-sub-i Inv-loop μ-loop
-sub-i c = omega (arith, c .before .before .before .pre .below (c .before .before .loop .k) (omega arith))
+sub-i c = omega (arith, c .before .before .before .before .before .before .before .before .before .pre .0 .below (c .before .before .before .loop .k) (c .before .before .loop-test .taken))
 
-array-read-out : tie.Need-array-read-out Inv-loop μ-loop
-array-read-out c = search needs
+array-read-row : tie.Need-array-read-row Inv-loop μ-loop
+array-read-row c = omega arith
 
-array-read-out-2 : tie.Need-array-read-out-2 Inv-loop μ-loop
-array-read-out-2 c = omega (arith, c .before .before .before .pre .few)
+element-copy-out-row : tie.Need-element-copy-out-row Inv-loop μ-loop
+element-copy-out-row c = lt-of-lt-of-le (c .before .before .loop-test .taken) (c .before .before .before .before .before .before .before .before .before .pre .0 .few)
 
-array-write-out : tie.Need-array-write-out Inv-loop μ-loop
-array-write-out c = search needs
+array-write-row : tie.Need-array-write-row Inv-loop μ-loop
+array-write-row c = omega arith
 
 add-k : tie.Need-add-k Inv-loop μ-loop
-add-k c = search needs
+add-k c = next-fits (c .before .before .before .loop-test .taken) (c .before .before .before .before .before .before .before .before .before .before .pre .0 .few)
 
 loop-less : tie.Need-loop-less Inv-loop μ-loop
-loop-less c = search needs
+loop-less c = next-nearer (c .before .before .before .loop-test .taken)
 
 loop-again : tie.Need-loop-again Inv-loop μ-loop
 unfolding sum
 loop-again c =
-    let at = c .before .before in
-    let start = c .before .before .before in (
-      omega arith,
-      mended-more (start .args .row) (entries (start .args .t2)) (entries (start .args .t3)) (at .loop .k) (c .index .result) (at .loop .out)
-          (at .loop .inv .1) (c .index .ensures .0),
+    let at = c .before .before .before .before in
+    let e = at .before .before .before .before .before .before .args .t2 in (
+      next-within (c .before .before .before .loop-test .taken),
+      mended-more _ (entries (e .at)) (entries (e .values)) (at .loop .k) (c .before .index .result) (at .loop .row) (at .loop .inv .1) (c .before .index .ensures .0),
     )
 
 returns : tie.Need-returns Inv-loop μ-loop
 returns c =
-    let start = c .before .before in
-    let e : c .before .loop .k ≡ start .args .n = omega arith in
-    c .before .loop .inv .1 ∙ ap (mendedBy (start .args .row) (entries (start .args .t2)) (entries (start .args .t3))) e
+    let start = c .before .before .before .before .before .before .before in
+    let e = start .args .t2 in
+    let k : c .before .loop .k ≡ e .n = omega arith in
+    c .before .loop .inv .1
+    ∙ ap₂ (λ (l : List ℕ) (n : ℕ). mendedBy l (entries (e .at)) (entries (e .values)) n) (copied-row (start .args .rows .now) (start .pre .1) (c .before .before .before .copy-in .ensures)) k
 
 pub mend-spec : {M : Type 1} → statement M
 mend-spec =
@@ -65,13 +84,18 @@ mend-spec =
     (tie.spec
     Inv-loop
     μ-loop
+    slice-aggregate-copy-in
+    sub-copy-in
+    part-copy-in-start
+    part-copy-in-end
+    copy-in-requires
     loop-holds
-    array-read-index
+    element-copy-out-index
     index-requires
     sub-i
-    array-read-out
-    array-read-out-2
-    array-write-out
+    array-read-row
+    element-copy-out-row
+    array-write-row
     add-k
     loop-less
     loop-again

@@ -1,20 +1,30 @@
 -- `errata::shift_out` goes down from the last entry, so that the entry before is still the old one: those from entry i on are shifted.
 -- Assumes nothing.
+use Prim.Native.Nat.{ℕ, _-_, _<_}
 use native.Mathlib.Omega.{arith}
+use lib.ListN.{getD}
 use Rattle.ground.specs.Bits.{sum}
+use Rattle.repair.proofs.ByExponents.{times-law}
 use Rattle.repair.proofs.Solving.{ShiftingOut, shifting-start, shifting-more, shifting-end}
 use borrow.Author.Needs.{needs}
 use Rattle.repair.proofs.errata.shift_out.Statement.{statement}
 use Rattle.repair.proofs.errata.shift_out.Tie as tie
 
 abbrev Inv-loop : tie.InvT-loop
-Inv-loop a n k powers logs out₀ i₀ out i = ShiftingOut a n k out₀ out i
+Inv-loop x n k powers logs out₀ i₀ out i = ShiftingOut x n k out₀ out i
 
 abbrev μ-loop : tie.MeasureT-loop
-μ-loop a n k powers logs out₀ i₀ out i = i
+μ-loop x n k powers logs out₀ i₀ out i = i
+
+module _ (c : tie.Start Inv-loop μ-loop) where
+  locator : c .args .x < 256
+  locator = search needs
+
+  entry : (i : ℕ) → getD (c .args .c) i 0 < 256
+  entry i = let fit : mir.Val.Fits mir.Syntax.w8 (getD (c .args .c) i 0) = search needs in fit .fits
 
 loop-holds : tie.Need-loop-holds Inv-loop μ-loop
-loop-holds c = shifting-start _ _ _ _ (c .pre .1) (search needs)
+loop-holds c = shifting-start _ _ _ _ (c .pre .0) (search needs)
 
 add-loop : tie.Need-add-loop Inv-loop μ-loop
 add-loop c = omega arith
@@ -25,14 +35,14 @@ sub-i c = omega arith
 array-read-out : tie.Need-array-read-out Inv-loop μ-loop
 array-read-out c = omega arith
 
-sub-raised : tie.Need-sub-raised Inv-loop μ-loop
-sub-raised c = omega arith
+sub-mul-by : tie.Need-sub-mul-by Inv-loop μ-loop
+sub-mul-by c = omega arith
 
-array-read-raised : tie.Need-array-read-raised Inv-loop μ-loop
-array-read-raised c = omega arith
+array-read-mul-by : tie.Need-array-read-mul-by Inv-loop μ-loop
+array-read-mul-by c = omega arith
 
-raised-requires : tie.Need-raised-requires Inv-loop μ-loop
-raised-requires c κs = search needs
+mul-by-requires : tie.Need-mul-by-requires Inv-loop μ-loop
+mul-by-requires c κs = tt
 
 array-write-out : tie.Need-array-write-out Inv-loop μ-loop
 array-write-out c = omega arith
@@ -42,7 +52,12 @@ loop-less c = omega arith
 
 loop-again : tie.Need-loop-again Inv-loop μ-loop
 unfolding sum
-loop-again c = shifting-more (c .before .before .loop .inv) (c .before .before .before .pre .2) (omega arith) _ (c .raised .ensures)
+loop-again c =
+    let inv = c .before .before .loop .inv in
+    let start = c .before .before .before in
+    let i : ℕ = c .before .before .loop .i in
+    shifting-more inv (start .pre .1) (omega arith) _
+    (times-law (start .pre .2) (start .pre .3) (c .mul-by .ensures) (locator start) (rw (inv .low (i - 1 - 1) (omega arith)) (entry start (i - 1 - 1))))
 
 returns : tie.Need-returns Inv-loop μ-loop
 returns c = shifting-end (c .before .loop .inv) (omega arith)
@@ -57,9 +72,9 @@ shift-out-spec =
     add-loop
     sub-i
     array-read-out
-    sub-raised
-    array-read-raised
-    raised-requires
+    sub-mul-by
+    array-read-mul-by
+    mul-by-requires
     array-write-out
     loop-less
     loop-again

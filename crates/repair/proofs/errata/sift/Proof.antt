@@ -1,7 +1,8 @@
 -- `errata::sift` shifts one place out a turn: entry i is the first left after i places, and from entry k on stand the syndromes after k places.
 -- Assumes nothing.
 use Prim.Native.Nat.{_-_}
-use native.Mathlib.Omega.{arith}
+use native.Mathlib.Nat.{lt-of-lt-of-le}
+use Rattle.repair.proofs.Stores.{next-nearer, next-fits}
 use Rattle.repair.proofs.Solving.{Sifting, sifting-start, sifting-more, sifting-end}
 use borrow.Author.Needs.{needs}
 use Rattle.repair.proofs.errata.sift.Statement.{statement}
@@ -16,28 +17,28 @@ abbrev μ-loop : tie.MeasureT-loop
 loop-holds : tie.Need-loop-holds Inv-loop μ-loop
 loop-holds c = sifting-start _ _ _ (search needs)
 
-array-read-index : tie.Need-array-read-index Inv-loop μ-loop
-array-read-index c = omega (arith, c .before .before .pre .0 .few)
+array-read-power : tie.Need-array-read-power Inv-loop μ-loop
+array-read-power c = lt-of-lt-of-le (c .loop-test .taken) (c .before .before .pre .0 .few)
 
-index-requires : tie.Need-index-requires Inv-loop μ-loop
-index-requires c κs = tt
+power-requires : tie.Need-power-requires Inv-loop μ-loop
+power-requires c κs = c .before .before .pre .1
 
 shift-out-requires : tie.Need-shift-out-requires Inv-loop μ-loop
 shift-out-requires c κs =
     let start = c .before .before .before in
-    (rw (c .index .ensures .0) (start .pre .0 .below _ (omega arith)), omega arith, start .pre .0 .few, start .pre .1, start .pre .2)
+    (c .before .loop-test .taken, start .pre .0 .few, start .pre .1, start .pre .2)
 
 add-k : tie.Need-add-k Inv-loop μ-loop
-add-k c = omega arith
+add-k c = next-fits (c .before .before .loop-test .taken) (c .before .before .before .before .pre .0 .few)
 
 loop-less : tie.Need-loop-less Inv-loop μ-loop
-loop-less c = omega arith
+loop-less c = next-nearer (c .before .before .loop-test .taken)
 
 loop-again : tie.Need-loop-again Inv-loop μ-loop
-loop-again c = sifting-more (c .before .before .before .loop .inv) (omega arith) _ _ (c .before .index .ensures .0) (c .shift-out .ensures)
+loop-again c = sifting-more (c .before .before .before .loop .inv) (c .before .before .loop-test .taken) _ _ (c .before .power .ensures) (c .shift-out .ensures)
 
 returns : tie.Need-returns Inv-loop μ-loop
-returns c = sifting-end (c .before .loop .inv) (omega arith)
+returns c = sifting-end (c .before .loop .inv) (c .loop-test .left)
 
 pub sift-spec : {M : Type 1} → statement M
 sift-spec =
@@ -46,8 +47,8 @@ sift-spec =
     Inv-loop
     μ-loop
     loop-holds
-    array-read-index
-    index-requires
+    array-read-power
+    power-requires
     shift-out-requires
     add-k
     loop-less

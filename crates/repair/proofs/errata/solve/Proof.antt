@@ -17,7 +17,7 @@ abbrev μ-loop : tie.MeasureT-loop
 μ-loop at n powers logs out₀ k₀ out k = k
 
 sift-requires : tie.Need-sift-requires Inv-loop μ-loop
-sift-requires c κs = search needs
+sift-requires c κs = c .pre
 
 loop-holds : tie.Need-loop-holds Inv-loop μ-loop
 loop-holds c = (omega arith, λ s sifted. solving-start sifted)
@@ -26,7 +26,9 @@ sub-k : tie.Need-sub-k Inv-loop μ-loop
 sub-k c = omega arith
 
 restore-requires : tie.Need-restore-requires Inv-loop μ-loop
-restore-requires c κs = search needs
+restore-requires c κs =
+    let start = c .before .before .before in
+    (omega arith, start .pre .0, start .pre .1, start .pre .2)
 
 loop-less : tie.Need-loop-less Inv-loop μ-loop
 loop-less c = omega arith

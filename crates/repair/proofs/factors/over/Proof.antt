@@ -2,7 +2,6 @@
 -- Assumes nothing.
 use Rattle.repair.proofs.ByExponents.{entry-over, zero-over}
 use native.Mathlib.Omega.{arith}
-use borrow.Author.Needs.{needs}
 use Rattle.repair.proofs.factors.over.Statement.{statement}
 use Rattle.repair.proofs.factors.over.Tie as tie
 
@@ -10,10 +9,10 @@ returns : tie.Need-returns
 returns c = zero-over _ _ (c .if1 .taken)
 
 log-requires : tie.Need-log-requires
-log-requires c κs = search needs
+log-requires c κs = (c .if1 .left, c .before .pre .2)
 
 log-requires-2 : tie.Need-log-requires-2
-log-requires-2 c κs = search needs
+log-requires-2 c κs = (c .before .before .pre .0, c .before .before .pre .2)
 
 sub-result : tie.Need-sub-result
 sub-result c = omega arith

@@ -1,56 +1,36 @@
--- `kernel::shift` moves each entry one place up: those up to place m have been moved, and the first stays 0.
+-- `kernel::shift` copies eight entries behind a 0.
 -- Assumes nothing.
-use mathlib.Core.Path.{refl}
-use Prim.Native.Nat.{_-_}
-use native.Mathlib.Nat.{not-suc-le-zero}
 use native.Mathlib.Omega.{arith}
-use Rattle.repair.proofs.Null.{Moving, moving-more}
+use Rattle.repair.proofs.Null.{shifted}
+use borrow.Author.Needs.{needs}
 use Rattle.repair.proofs.kernel.shift.Statement.{statement}
 use Rattle.repair.proofs.kernel.shift.Tie as tie
 
-abbrev Inv-loop : tie.InvT-loop
-Inv-loop v out₀ m₀ out m = Moving v out m
+slice-aggregate-copy-in : tie.Need-slice-aggregate-copy-in
+slice-aggregate-copy-in c = omega arith
 
-abbrev μ-loop : tie.MeasureT-loop
-μ-loop v out₀ m₀ out m = 8 - m
+sub-copy-in : tie.Need-sub-copy-in
+sub-copy-in c = omega arith
 
-loop-holds : tie.Need-loop-holds Inv-loop μ-loop
-loop-holds c = record { within = omega arith; sized = refl; first = refl; next = λ i h. absurd (not-suc-le-zero h) }
+part-copy-in-start : tie.Need-part-copy-in-start
+part-copy-in-start c = omega arith
 
-array-read-out : tie.Need-array-read-out Inv-loop μ-loop
-array-read-out c = omega arith
+part-copy-in-end : tie.Need-part-copy-in-end
+part-copy-in-end c = omega arith
 
-add-out : tie.Need-add-out Inv-loop μ-loop
-add-out c = omega arith
+copy-in-requires : tie.Need-copy-in-requires
+copy-in-requires c κs = tt
 
-array-write-out : tie.Need-array-write-out Inv-loop μ-loop
-array-write-out c = omega arith
-
-add-m : tie.Need-add-m Inv-loop μ-loop
-add-m c = omega arith
-
-loop-less : tie.Need-loop-less Inv-loop μ-loop
-loop-less c = omega arith
-
-loop-again : tie.Need-loop-again Inv-loop μ-loop
-loop-again c = moving-more (c .before .loop .inv) (omega arith)
-
-returns : tie.Need-returns Inv-loop μ-loop
-returns c =
-    let inv = c .before .loop .inv in
-    record { sized = inv .sized; first = inv .first; next = λ m h. inv .next m (omega arith) }
+returns : tie.Need-returns
+returns c = shifted _ (search needs) (c .before .copy-in .ensures)
 
 pub shift-spec : {M : Type 1} → statement M
 shift-spec =
     tie.close
     (tie.spec
-    Inv-loop
-    μ-loop
-    loop-holds
-    array-read-out
-    add-out
-    array-write-out
-    add-m
-    loop-less
-    loop-again
+    slice-aggregate-copy-in
+    sub-copy-in
+    part-copy-in-start
+    part-copy-in-end
+    copy-in-requires
     returns)

@@ -52,7 +52,7 @@ module _ (t : ℕ) (c : mend-from-lts.After-find (rest-in-reads.Asked, rest-in-r
   left = c .before .rest-in .ensures ∙ row-known _ _ _ (known t (c .before .before)) (some t (c .before .before))
 
 mend-from-returns : (t : ℕ) → mend-from-lts.Need-returns (rest-in-reads.Asked, rest-in-reads.Learnt, find-reads.Asked, find-reads.Learnt, mend-from-below t, mend-from.Post, finish-reads.Asked, finish-reads.Learnt) (mend-from-at t) mend-from.Post
-mend-from-returns t c = no-rows _ _ (c .if1 .taken)
+mend-from-returns t c = no-rows (c .before .before .args .rows .now) (c .before .before .args .i) (c .if1 .taken)
 
 mend-from-rest-in-requires : (t : ℕ) → mend-from-lts.Need-rest-in-requires (rest-in-reads.Asked, rest-in-reads.Learnt, find-reads.Asked, find-reads.Learnt, mend-from-below t, mend-from.Post, finish-reads.Asked, finish-reads.Learnt) (mend-from-at t) mend-from.Post
 mend-from-rest-in-requires t c κs = (omega (arith, known t c .few, some t c), known t c .sized)
@@ -60,13 +60,10 @@ mend-from-rest-in-requires t c κs = (omega (arith, known t c .few, some t c), k
 mend-from-find-requires : (t : ℕ) → mend-from-lts.Need-find-requires (rest-in-reads.Asked, rest-in-reads.Learnt, find-reads.Asked, find-reads.Learnt, mend-from-below t, mend-from.Post, finish-reads.Asked, finish-reads.Learnt) (mend-from-at t) mend-from.Post
 mend-from-find-requires t c κs = tt
 
-mend-from-cast-t11 : (t : ℕ) → mend-from-lts.Need-cast-t11 (rest-in-reads.Asked, rest-in-reads.Learnt, find-reads.Asked, find-reads.Learnt, mend-from-below t, mend-from.Post, finish-reads.Asked, finish-reads.Learnt) (mend-from-at t) mend-from.Post
-mend-from-cast-t11 t c = record { fits = omega (arith, known t (c .before .before .before .before) .few) }
-
 mend-from-returns-2 : (t : ℕ) → mend-from-lts.Need-returns-2 (rest-in-reads.Asked, rest-in-reads.Learnt, find-reads.Asked, find-reads.Learnt, mend-from-below t, mend-from.Post, finish-reads.Asked, finish-reads.Learnt) (mend-from-at t) mend-from.Post
 mend-from-returns-2 t c =
     let find = c .before .before in
-    row-broken _ _ (some t (find .before .before))
+    row-broken (rows t find) (find .before .before .before .before .args .i) (some t (find .before .before)) (omega (arith, known t (find .before .before) .few, some t (find .before .before)))
     (row-none _ (some t (find .before .before)) (bytes t find) _ (left t find) _ _ _ _ (find .find .ensures) (not-true _ (c .if2 .taken)))
 
 mend-from-sub-mend-from : (t : ℕ) → mend-from-lts.Need-sub-mend-from (rest-in-reads.Asked, rest-in-reads.Learnt, find-reads.Asked, find-reads.Learnt, mend-from-below t, mend-from.Post, finish-reads.Asked, finish-reads.Learnt) (mend-from-at t) mend-from.Post
@@ -92,24 +89,24 @@ mend-from-mend-from-requires t c κs =
 
 mend-from-finish-requires : (t : ℕ) → mend-from-lts.Need-finish-requires (rest-in-reads.Asked, rest-in-reads.Learnt, find-reads.Asked, find-reads.Learnt, mend-from-below t, mend-from.Post, finish-reads.Asked, finish-reads.Learnt) (mend-from-at t) mend-from.Post
 mend-from-finish-requires t c κs =
-    let find = c .before .before .before .before .before .before .before .before .before in
+    let find = c .before .before .before .before .before .before .before in
     let b : List ℕ = find .before .before .before .before .args .rows .now in
-    (find .find .ensures .placed, omega (arith, back-length b (c .before .before .before .before .before .mend-from .last .0) (some t (find .before .before))))
+    (find .find .ensures .placed, omega (arith, back-length b (c .before .before .before .mend-from .last .0) (some t (find .before .before))))
 
 mend-from-same-length : (t : ℕ) → mend-from-lts.Need-same-length (rest-in-reads.Asked, rest-in-reads.Learnt, find-reads.Asked, find-reads.Learnt, mend-from-below t, mend-from.Post, finish-reads.Asked, finish-reads.Learnt) (mend-from-at t) mend-from.Post
 mend-from-same-length t c = omega arith
 
 mend-from-returns-3 : (t : ℕ) → mend-from-lts.Need-returns-3 (rest-in-reads.Asked, rest-in-reads.Learnt, find-reads.Asked, find-reads.Learnt, mend-from-below t, mend-from.Post, finish-reads.Asked, finish-reads.Learnt) (mend-from-at t) mend-from.Post
 mend-from-returns-3 t c =
-    let find = c .before .before .before .before .before .before .before .before .before .before .before .before in
+    let find = c .before .before .before .before .before .before .before .before .before .before in
     let start = find .before .before .before .before in
     let b : List ℕ = start .args .rows .now in
     let e = find .find .result in
     let h : 255 ≤ length b = some t (find .before .before) in
-    let called = c .before .before .before .before .before .before .before .before .mend-from in
+    let called = c .before .before .before .before .before .before .mend-from in
     row-done b (start .args .i) h (e .at) (e .values) (e .n)
-    (row-found b h (bytes t find) _ (left t find) (e .n) (e .at) (e .values) (e .fits) (find .find .ensures) (not-false (e .fits) (c .before .before .before .before .before .before .before .before .before .before .if2 .left)))
-    (called .result) _ (take (length b - 255) (drop 255 b)) (called .last .0) _ _ (behind-part b) (called .ensures)
+    (row-found b h (bytes t find) _ (left t find) (e .n) (e .at) (e .values) (e .fits) (find .find .ensures) (not-false (e .fits) (c .before .before .before .before .before .before .before .before .if2 .left)))
+    (called .result) (take (length b - 255) (drop 255 b)) (called .last .0) _ _ (behind-part b) (called .ensures)
     (lent-behind b (called .last .0) h) (c .before .before .finish .ensures)
 
 pub +mend-from-spec : {M : Type 1} → statement M
@@ -119,7 +116,6 @@ pub +mend-from-spec : {M : Type 1} → statement M
     (mend-from-returns t)
     (mend-from-rest-in-requires t)
     (mend-from-find-requires t)
-    (mend-from-cast-t11 t)
     (mend-from-returns-2 t)
     (mend-from-sub-mend-from t)
     (mend-from-part-mend-from-start t)

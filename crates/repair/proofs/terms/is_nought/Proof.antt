@@ -19,7 +19,7 @@ loop-holds : tie.Need-loop-holds Inv-loop μ-loop
 loop-holds c = omega arith
 
 array-read-if1 : tie.Need-array-read-if1 Inv-loop μ-loop
-array-read-if1 c = omega arith
+array-read-if1 c = c .loop-test .taken
 
 returns : tie.Need-returns Inv-loop μ-loop
 returns c =
