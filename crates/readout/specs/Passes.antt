@@ -31,7 +31,7 @@ pub record Sees (p : Place) (c : List Content) (t : Seen) : Type 0 where
 -- ---- rows that stand one behind the other
 
 -- the 239 information bytes of the row that stands at at, and of row q of those sent
-abbrev pub infoAt : List ℕ → ℕ → List ℕ
+unfoldable pub infoAt : List ℕ → ℕ → List ℕ
 infoAt s at = listed (λ c. getD s (at + c) 0) 239 0
 
 abbrev pub infoIn : List ℕ → ℕ → List ℕ
