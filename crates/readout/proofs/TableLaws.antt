@@ -7,6 +7,8 @@ use Prim.Native.Nat.{ℕ, zero, suc, _+_, _-_, _*_, _/_, _%_, _^_, _<_, _≤_}
 use native.Mathlib.Nat.{add-mul, suc-mul, mul-assoc, mul-comm, mul-pos, mul-le-mul-right, mod-lt, div-add-mod', div-lt-iff-lt-mul, zero-lt-suc}
 use native.Mathlib.Omega.{arith}
 use borrow.Author.Tests.{lt-leb, eq-eqb, ne-eqb, eqb-true, eqb-false, ltb-true, ltb-false}
+use mir.Syntax.{Width}
+use mir.Val.{Fits}
 use lib.Dec.{eqb, ltb, leb}
 use lib.ListN.{length, getD, set, length-set}
 use Rattle.ground.specs.Lists.{listed}
@@ -17,6 +19,10 @@ use Rattle.layout.proofs.Scatter.{set-yes, set-no, spread-step}
 use Rattle.contents.specs.Contents.{bytesAt}
 use Rattle.readout.specs.Hand.{allZero}
 use Rattle.readout.specs.Passes.{Columns, infoAt}
+
+-- ---- a count below one that fits its width: the next fits too
+pub one-on : (w : Width) (n i : ℕ) → Fits w n → i < n → Fits w (i + 1)
+one-on w n i f l = record { fits = omega (arith, f .fits) }
 
 -- ---- how many tables a file of n bytes needs
 

@@ -2,6 +2,7 @@
 -- measure is how many slots are left.
 use Prim.Native.Nat.{_*_, _-_}
 use native.Mathlib.Omega.{arith}
+use borrow.Author.Count.{falls}
 use Rattle.readout.proofs.WalkLaws.{Turn, turn}
 use Rattle.readout.proofs.PassLaws.{Laying, laying-first, laying-long, laying-next, laying-end, rows-at}
 use Rattle.readout.proofs.hand.write_rows.Statement.{statement}
@@ -56,7 +57,7 @@ add-k : tie.Need-add-k Inv-loop μ-loop
 add-k c = omega arith
 
 loop-less : tie.Need-loop-less Inv-loop μ-loop
-loop-less c = omega arith
+loop-less c = falls _ _ (c .before .before .before .before .before .if1 .taken)
 
 loop-again : tie.Need-loop-again Inv-loop μ-loop
 loop-again c =

@@ -3,7 +3,9 @@
 use mathlib.Core.Path.{sym, _∙_}
 use Prim.Native.Nat.{_-_}
 use native.Mathlib.Omega.{arith}
+use borrow.Author.Count.{falls}
 use borrow.Author.Tests.{not-true, not-false}
+use Rattle.readout.proofs.TableLaws.{one-on}
 use Rattle.readout.proofs.RowLaws.{Clearing, clearing-first, clearing-end, clearing-next, clearing-not}
 use Rattle.readout.proofs.tables.rows_end.Statement.{statement}
 use Rattle.readout.proofs.tables.rows_end.Tie as tie
@@ -44,10 +46,10 @@ returns c =
     clearing-not _ _ _ _ _ _ _ (c .before .before .before .before .loop .inv) (c .before .before .before .loop-test .taken) _ _ (e .0) (e .1) (sym (c .before .is-zero .ensures) ∙ not-true _ (c .if1 .taken))
 
 add-j : tie.Need-add-j Inv-loop μ-loop
-add-j c = omega arith
+add-j c = one-on _ _ _ (c .before .before .before .before .before .before .fits .count) (c .before .before .before .loop-test .taken)
 
 loop-less : tie.Need-loop-less Inv-loop μ-loop
-loop-less c = omega arith
+loop-less c = falls _ _ (c .before .before .before .loop-test .taken)
 
 loop-again : tie.Need-loop-again Inv-loop μ-loop
 loop-again c =

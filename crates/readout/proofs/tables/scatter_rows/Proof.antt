@@ -2,6 +2,8 @@
 -- first q were written, the first q + j are written now. The measure is how many rows are left.
 use Prim.Native.Nat.{_-_}
 use native.Mathlib.Omega.{arith}
+use borrow.Author.Count.{falls}
+use Rattle.readout.proofs.TableLaws.{one-on}
 use Rattle.readout.proofs.RowLaws.{Scattering, scattering-first, scattering-next, scattering-end}
 use Rattle.readout.proofs.tables.scatter_rows.Statement.{statement}
 use Rattle.readout.proofs.tables.scatter_rows.Tie as tie
@@ -35,10 +37,10 @@ scatter-row-requires c κs =
     (omega (arith, f .pre .0 .inside), f .pre .0 .few, w .within, λ i h. omega (arith, w .inside i h, l .inv .long, f .pre .1))
 
 add-j : tie.Need-add-j Inv-loop μ-loop
-add-j c = omega arith
+add-j c = one-on _ _ _ (c .before .before .before .before .before .before .before .before .before .fits .count) (c .before .before .before .before .before .loop-test .taken)
 
 loop-less : tie.Need-loop-less Inv-loop μ-loop
-loop-less c = omega arith
+loop-less c = falls _ _ (c .before .before .before .before .before .loop-test .taken)
 
 loop-again : tie.Need-loop-again Inv-loop μ-loop
 loop-again c =
