@@ -25,7 +25,7 @@ use Rattle.places.proofs.Facts.{named-facts}
 use Rattle.contents.specs.Contents.{Slot as Content, contents, anyWrong, lowestEmpty, joined}
 use Rattle.readout.specs.declared.Standing.{Standing}
 use Rattle.readout.specs.Hand.{standingIn, statusFound, statusOf, Handing, refusing, handed, allZero, handRows, handJoined, handContents, handFound, handOutOf}
-use Rattle.readout.specs.Passes.{infoIn, Padding, Usable}
+use Rattle.readout.specs.Passes.{infoAt, infoIn, Padding, Usable}
 use Rattle.readout.proofs.PaddingLaws.{padding-told}
 
 -- an answer and an output are those of h
@@ -119,6 +119,7 @@ module _ (m : ℕ) (sent : List ℕ) (n : ℕ) (out : List ℕ) (rows : ℕ) (k 
         rows-output l = comes (refusing Output out) (rows-right ∙ handed-short (undone m sent n 0) out (omega (arith, size)))
 
         pub rows-file : n ≤ length out → (z : List ℕ) → z ≡ scattered m n (infoIn sent) (length sent / 255) out → Comes (handRows m sent n out) Accepted z
+        unfolding infoAt
         rows-file l z f =
             comes-from (rows-right ∙ handed-whole (undone m sent n 0) out (omega (arith, size))) (
               refl,

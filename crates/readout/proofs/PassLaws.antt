@@ -70,6 +70,7 @@ module _ (p : Place) (s : List ℕ) (f : Rowed p s) (at k q l : ℕ) (w : Walk p
       ap (λ (x : ℕ). getD (sentIn p s) x 0) e ∙ t .reads (j * 255 + c) (omega (arith, whole)) ∙ ap (λ (x : ℕ). getD s x 0) d
 
   info-at : (j : ℕ) → j < l / 255 → infoIn (sentIn p s) (q + j) ≡ infoAt s (at + 2 + j * 255)
+  unfolding infoAt
   info-at j h =
       listed-ext (λ c. getD (sentIn p s) ((q + j) * 255 + c) 0) (λ c. getD s (at + 2 + j * 255 + c) 0) 239 0 (λ c a b. byte-at j c h (omega arith))
 

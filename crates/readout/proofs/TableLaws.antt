@@ -3,10 +3,12 @@
 use mathlib.Core.Path.{_≡_, refl, sym, ap, _∙_}
 use mathlib.Core.Bool.{Bool, true, false, true≢false, _&&_}
 use mathlib.Core.List.{List, [], _∷_}
-use Prim.Native.Nat.{ℕ, zero, suc, _+_, _-_, _*_, _/_, _%_, _<_, _≤_}
+use Prim.Native.Nat.{ℕ, zero, suc, _+_, _-_, _*_, _/_, _%_, _^_, _<_, _≤_}
 use native.Mathlib.Nat.{add-mul, suc-mul, mul-assoc, mul-comm, mul-pos, mul-le-mul-right, mod-lt, div-add-mod', div-lt-iff-lt-mul, zero-lt-suc}
 use native.Mathlib.Omega.{arith}
 use borrow.Author.Tests.{lt-leb, eq-eqb, ne-eqb, eqb-true, eqb-false, ltb-true, ltb-false}
+use mir.Syntax.{Width}
+use mir.Val.{Fits}
 use lib.Dec.{eqb, ltb, leb}
 use lib.ListN.{length, getD, set, length-set}
 use Rattle.ground.specs.Lists.{listed}
@@ -17,6 +19,10 @@ use Rattle.layout.proofs.Scatter.{set-yes, set-no, spread-step}
 use Rattle.contents.specs.Contents.{bytesAt}
 use Rattle.readout.specs.Hand.{allZero}
 use Rattle.readout.specs.Passes.{Columns, infoAt}
+
+-- ---- a count below one that fits its width: the next fits too
+pub one-on : (w : Width) (n i : ℕ) → Fits w n → i < n → Fits w (i + 1)
+one-on w n i f l = record { fits = omega (arith, f .fits) }
 
 -- ---- how many tables a file of n bytes needs
 
@@ -52,6 +58,10 @@ pub start-most : (m q : ℕ) → q / m * (239 * m) ≤ q * 239
 start-most m q =
     let e : q / m * (239 * m) ≡ q / m * m * 239 = ap (λ (x : ℕ). q / m * x) (mul-comm 239 m) ∙ sym (mul-assoc (q / m) m 239) in
     omega (arith, div-add-mod' q m)
+
+-- all its bytes stand below this
+pub start-below : (m q : ℕ) → 0 < m → m ≤ 255 → q * 255 < 2 ^ 63 → q / m * (239 * m) + q % m + 238 * m < 2 ^ 64
+start-below m q h l b = omega (arith, start-most m q, mod-lt q h)
 
 -- ---- which bytes of a row stand in the file
 
@@ -203,6 +213,7 @@ module _ (s : List ℕ) (at k m p : ℕ) (before : List ℕ) where
     }
 
     pub writing-end : k ≤ c → (n : ℕ) → Columns m n p k → out ≡ spread m n (infoAt s at) p before
+    unfolding infoAt
     writing-end h n e =
         spreading-end m n (λ x. getD s (at + x) 0) 239 p before out to c (v .rest n e) (λ i l.
         omega (arith, e .outside (c + i) (omega (arith, v .within)) l, v .place, add-mul c i m))

@@ -1,44 +1,37 @@
 -- The vocabulary of the private functions behind Status and Hand out. Nobody needs to believe it: the public contracts do not cite it.
 -- Assumes nothing.
 use mathlib.Core.Path.{_≡_}
-use mathlib.Core.Bool.{Bool, true, false, cond}
+use mathlib.Core.Bool.{Bool, true, false}
 use mathlib.Core.List.{List}
-use Prim.Native.Nat.{ℕ, zero, suc, _+_, _*_, _<_, _≤_}
+use Prim.Native.Nat.{ℕ, _+_, _*_, _<_, _≤_}
 use lib.ListN.{length, getD}
 use Rattle.ground.specs.Lists.{listed}
 use Rattle.layout.specs.Spread.{rowStart, scattered}
 use Rattle.places.specs.declared.Place.{Place}
 use Rattle.places.specs.Places.{endOf}
-use Rattle.places.specs.declared.Found.{Found}
 use Rattle.places.specs.declared.Found.the-variants.{At, Nothing}
 use Rattle.contents.specs.Contents.{Slot as Content, anyWrong, filled, lowestEmpty, joined, contents}
-use Rattle.readout.specs.declared.survey.Tally.{Tally}
 use Rattle.readout.specs.declared.survey.Seen.{Seen}
-use Rattle.readout.specs.declared.survey.Seen.the-variants.{Wrong, Sound}
 
 -- ---- a pass over the lengths
 
--- what was found before, or slot k where its length n is 0
-abbrev pub firstOf : Found → ℕ → ℕ → Found
-firstOf (At i) k n = At i
-firstOf Nothing k zero = At k
-firstOf Nothing k (suc n) = Nothing
+-- what was seen of the slots, none of which is wrong: the number before the lowest empty one is that of all where none is empty
+pub record Tallied (p : Place) (c : List Content) (t : Seen) : Type 0 where
+  pub right : anyWrong c ≡ false
+  pub filled : t .filled ≡ filled c
+  pub none : t .empty ≡ p .count → lowestEmpty c 0 ≡ Nothing
+  pub some : (t .empty ≡ p .count → ⊥) → lowestEmpty c 0 ≡ At (t .empty)
+  pub bytes : t .bytes ≡ length (joined c)
 
-abbrev pub oneMore : ℕ → ℕ → ℕ
-oneMore f zero = f
-oneMore f (suc n) = f + 1
-
--- a tally with slot k, of length n
-unfoldable pub counted : Tally → ℕ → ℕ → Tally
-counted t k n = record { filled = oneMore (t .filled) n; empty = firstOf (t .empty) k n; bytes = t .bytes + n }
-
-unfoldable pub seenIn : List Content → Seen
-seenIn c = cond (anyWrong c) Wrong (Sound (record { filled = filled c; empty = lowestEmpty c 0; bytes = length (joined c) }))
+-- whether one is
+pub record Sees (p : Place) (c : List Content) (t : Seen) : Type 0 where
+  pub wrong : t .sound ≡ false → anyWrong c ≡ true
+  pub sound : t .sound ≡ true → Tallied p c t
 
 -- ---- rows that stand one behind the other
 
 -- the 239 information bytes of the row that stands at at, and of row q of those sent
-abbrev pub infoAt : List ℕ → ℕ → List ℕ
+unfoldable pub infoAt : List ℕ → ℕ → List ℕ
 infoAt s at = listed (λ c. getD s (at + c) 0) 239 0
 
 abbrev pub infoIn : List ℕ → ℕ → List ℕ

@@ -5,7 +5,7 @@ ghost use Prim.Native.Nat.{_/_, _≤_};
 ghost use lib.ListN.{length, drop};
 ghost use Rattle.layout.specs.Spread.{scattered};
 ghost use Rattle.contents.specs.Contents.{contents};
-ghost use Rattle.readout.specs.Hand.{handRows, handJoined, handContents, handOutOf};
+ghost use Rattle.readout.specs.Hand.{handRows, handContents, handOutOf};
 ghost use Rattle.readout.specs.Passes.{Usable, Filled, Rowed, sentIn, infoIn, Padding};
 use crate::survey;
 use crate::tables;
@@ -76,22 +76,6 @@ fn padding_ends(p: Place, store: &[u8], n: usize) -> bool
     true
 }
 
-// Without protection the joined payloads, of `bytes` bytes, are the file.
-fn hand_plain(p: Place, store: &[u8], bytes: usize, n: usize, out: &mut [u8]) -> Verdict
-    requires { ⌜ Filled p (now store) × (bytes ≡ length (sentIn p (now store))) × (p .protection ≡ 0) ⌝ }
-    ensures { λ r. ⌜ (r ≡ handJoined p (sentIn p (now (store .entry))) n (now (out .entry)) .answer)
-        × (now (out .exit) ≡ handJoined p (sentIn p (now (store .entry))) n (now (out .entry)) .output) ⌝ }
-{
-    if n != bytes {
-        return Verdict::Refused(Refusal::Size);
-    }
-    if out.len() < bytes {
-        return Verdict::Refused(Refusal::Output);
-    }
-    write_plain(p, store, out);
-    Verdict::Accepted
-}
-
 // With protection the tables are undone.
 fn hand_rows(p: Place, store: &[u8], bytes: usize, n: usize, out: &mut [u8]) -> Verdict
     requires { ⌜ Rowed p (now store) × (bytes ≡ length (sentIn p (now store))) ⌝ }
@@ -116,33 +100,31 @@ fn hand_rows(p: Place, store: &[u8], bytes: usize, n: usize, out: &mut [u8]) -> 
     Verdict::Accepted
 }
 
-// Where every slot is filled.
-fn hand_filled(p: Place, store: &[u8], bytes: usize, n: usize, out: &mut [u8]) -> Verdict
-    requires { ⌜ Usable p (now store) × Filled p (now store) × (bytes ≡ length (sentIn p (now store))) ⌝ }
-    ensures { λ r. ⌜ (r ≡ handJoined p (sentIn p (now (store .entry))) n (now (out .entry)) .answer)
-        × (now (out .exit) ≡ handJoined p (sentIn p (now (store .entry))) n (now (out .entry)) .output) ⌝ }
-{
-    if p.protection == 0 {
-        return hand_plain(p, store, bytes, n, out);
-    }
-    hand_rows(p, store, bytes, n, out)
-}
-
-// The first `n` bytes of the file that a place holds.
+// The first `n` bytes of the file that a place holds. Without protection the joined payloads are the file.
 fn hand_place(p: Place, store: &[u8], n: usize, out: &mut [u8]) -> Verdict
     requires { ⌜ Usable p (now store) ⌝ }
     ensures { λ r. ⌜ (r ≡ handContents p (contents p (now (store .entry))) n (now (out .entry)) .answer)
         × (now (out .exit) ≡ handContents p (contents p (now (store .entry))) n (now (out .entry)) .output) ⌝ }
 {
     let seen = survey::survey(p, store);
-    let survey::Seen::Sound(t) = seen else {
+    if !seen.sound {
         return Verdict::Refused(Refusal::Slot);
-    };
-    let empty = t.empty;
-    match empty {
-        Found::At(i) => Verdict::Refused(Refusal::Missing(i as u32)),
-        Found::Nothing => hand_filled(p, store, t.bytes, n, out),
     }
+    if seen.empty != p.count {
+        return Verdict::Refused(Refusal::Missing(seen.empty));
+    }
+    let bytes = seen.bytes;
+    if p.protection != 0 {
+        return hand_rows(p, store, bytes, n, out);
+    }
+    if n != bytes {
+        return Verdict::Refused(Refusal::Size);
+    }
+    if out.len() < bytes {
+        return Verdict::Refused(Refusal::Output);
+    }
+    write_plain(p, store, out);
+    Verdict::Accepted
 }
 
 // Writes the file of `length` bytes that a resource's place holds to the start of the output, whose other bytes stay. Refused: 9, 10, 15, 21, 22, 23, 24, 26;

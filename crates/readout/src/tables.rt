@@ -19,26 +19,28 @@ pub(crate) fn needs_tables(n: usize, m: usize, count: usize) -> bool
     n <= room && room - n < size
 }
 
-// Where row `q` begins in the file, the rows of all tables counted through.
-fn row_start(m: usize, q: usize) -> usize
-    requires { ⌜ (0 < m) × (m ≤ 255) × (q * 255 < 2 ^ 63) ⌝ }
-    ensures { λ r. ⌜ (r ≡ rowStart m q) × (r < 2 ^ 63 + 255) ⌝ }
-{
-    q / m * (239 * m) + q % m
+// Where a row begins in the file, and how many of its information bytes stand there.
+struct Span {
+    start: usize,
+    count: usize,
 }
 
-// How many information bytes of a row that begins at `p` stand in a file of `n` bytes.
-fn columns(m: usize, p: usize, n: usize) -> usize
-    requires { ⌜ (0 < m) × (m ≤ 255) × (p < 2 ^ 63 + 255) ⌝ }
-    ensures { λ r. ⌜ Columns m n p r ⌝ }
+// Row `q` in a file of `n` bytes, the rows of all tables counted through.
+fn row_span(m: usize, q: usize, n: usize) -> Span
+    requires { ⌜ (0 < m) × (m ≤ 255) × (q * 255 < 2 ^ 63) ⌝ }
+    ensures { λ r. ⌜ (r .start ≡ rowStart m q) × Columns m n (r .start) (r .count) ⌝ }
 {
-    if p + 238 * m < n {
-        return 239;
+    let start = q / m * (239 * m) + q % m;
+    if start + 238 * m < n {
+        return Span { start, count: 239 };
     }
-    if n <= p {
-        return 0;
+    if n <= start {
+        return Span { start, count: 0 };
     }
-    (n - p - 1) / m + 1
+    Span {
+        start,
+        count: (n - start - 1) / m + 1,
+    }
 }
 
 // Writes the first `k` information bytes of the row at `at` to `p`, `p + m` and so on.
@@ -70,8 +72,9 @@ pub(crate) fn scatter_rows(
 {
     let mut j: usize = 0;
     while j < count {
-        let p = row_start(m, q + j);
-        let k = columns(m, p, n);
+        let row = row_span(m, q + j, n);
+        let k = row.count;
+        let p = row.start;
         scatter_row(store, at + j * 255, k, m, p, out);
         j += 1;
     }
@@ -99,8 +102,7 @@ pub(crate) fn rows_end(store: &[u8], at: usize, count: usize, m: usize, q: usize
 {
     let mut j: usize = 0;
     while j < count {
-        let p = row_start(m, q + j);
-        let k = columns(m, p, n);
+        let k = row_span(m, q + j, n).count;
         let a = at + j * 255;
         if !is_zero(store, a + k, a + 239) {
             return false;

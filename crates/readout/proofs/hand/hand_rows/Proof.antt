@@ -2,7 +2,6 @@
 use mathlib.Core.Path.{sym, ap, _∙_}
 use Prim.Native.Nat.{ℕ, _/_}
 use native.Mathlib.Omega.{arith}
-use borrow.Author.Needs.{needs}
 use borrow.Author.Tests.{not-true, not-false}
 use Rattle.readout.proofs.TableLaws.{start-most}
 use Rattle.readout.proofs.HandCases.{rows-shape, rows-size, rows-padding, rows-output, rows-file}
@@ -13,25 +12,25 @@ cast-m : tie.Need-cast-m
 cast-m c = omega arith
 
 rem-if1 : tie.Need-rem-if1
-rem-if1 c = omega arith
+rem-if1 c = c .before .before .before .pre .0 .least
 
 returns : tie.Need-returns
 returns c = rows-shape _ _ _ _ _ (ap (λ (x : ℕ). x / 255) (c .before .before .before .before .pre .1)) (c .if1 .taken)
 
 div-needs-tables : tie.Need-div-needs-tables
-div-needs-tables c = omega arith
+div-needs-tables c = c .before .before .before .before .pre .0 .least
 
 needs-tables-requires : tie.Need-needs-tables-requires
 needs-tables-requires c κs =
     let a = c .before .before .before .before .args in
-    (search needs, search needs, omega (arith, start-most (a .p .rows) (a .bytes / 255)))
+    (c .before .before .before .before .pre .0 .least, omega arith, omega (arith, start-most (a .p .rows) (a .bytes / 255)))
 
 returns-2 : tie.Need-returns-2
 returns-2 c =
     rows-size _ _ _ _ _ (ap (λ (x : ℕ). x / 255) (c .before .before .before .before .before .before .pre .1)) (c .before .before .if1 .left) (sym (c .before .needs-tables .ensures) ∙ not-true _ (c .if2 .taken))
 
 padding-ends-requires : tie.Need-padding-ends-requires
-padding-ends-requires c κs = search needs
+padding-ends-requires c κs = c .before .before .before .before .before .before .pre .0
 
 returns-3 : tie.Need-returns-3
 returns-3 c =
@@ -45,7 +44,7 @@ returns-4 c =
     (c .if4 .taken)
 
 write-rows-requires : tie.Need-write-rows-requires
-write-rows-requires c κs = search needs
+write-rows-requires c κs = (c .before .before .before .before .before .before .before .before .before .before .pre .0, c .before .if4 .left)
 
 same-length : tie.Need-same-length
 same-length c = omega arith

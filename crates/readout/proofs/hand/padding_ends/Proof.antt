@@ -2,7 +2,7 @@
 -- hold q rows, and these hold 0 there. The measure is how many slots are left.
 use Prim.Native.Nat.{_*_, _-_}
 use native.Mathlib.Omega.{arith}
-use borrow.Author.Needs.{needs}
+use borrow.Author.Count.{falls}
 use borrow.Author.Tests.{not-true, not-false}
 use Rattle.readout.proofs.WalkLaws.{Turn, turn}
 use Rattle.readout.proofs.PassLaws.{Looking, looking-first, looking-next, looking-not, looking-end, rows-at}
@@ -46,7 +46,7 @@ rows-end-requires : tie.Need-rows-end-requires Inv-loop μ-loop
 rows-end-requires c κs =
     let f = c .before .before .before .before .before .before .before .before in
     let l = c .before .before .before .loop in
-    rows-at (f .args .p) (f .args .store .now) (f .pre) (l .at) (l .k) (l .q) (c .slot-length .result) (l .inv .walk) (slot c) (search needs)
+    rows-at (f .args .p) (f .args .store .now) (f .pre) (l .at) (l .k) (l .q) (c .slot-length .result) (l .inv .walk) (slot c) (omega arith)
 
 returns : tie.Need-returns Inv-loop μ-loop
 returns c = looking-not _ _ _ _ _ _ (c .before .before .before .before .before .loop .inv) (c .before .before .before .before .before .before .before .before .before .before .pre) _ (slot (c .before .before)) _ (not-true _ (c .if2 .taken)) (c .before .rows-end .ensures)
@@ -61,7 +61,7 @@ add-k : tie.Need-add-k Inv-loop μ-loop
 add-k c = omega arith
 
 loop-less : tie.Need-loop-less Inv-loop μ-loop
-loop-less c = omega arith
+loop-less c = falls _ _ (c .before .before .before .if1 .taken)
 
 loop-again : tie.Need-loop-again Inv-loop μ-loop
 loop-again c = looking-next _ _ _ _ _ _ (c .before .before .before .before .before .loop .inv) (c .before .before .before .before .before .before .before .before .before .before .pre) _ (slot (c .before .before)) _ (not-false _ (c .if2 .left)) (c .before .rows-end .ensures)

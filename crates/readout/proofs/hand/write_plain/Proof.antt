@@ -1,6 +1,7 @@
 -- One slot a turn. Invariant, `Joining`: the walk stands at slot k, and the o bytes of the payloads before it are written. The measure is how many slots are left.
 use Prim.Native.Nat.{_-_}
 use native.Mathlib.Omega.{arith}
+use borrow.Author.Count.{falls}
 use Rattle.readout.proofs.WalkLaws.{Turn, turn}
 use Rattle.readout.proofs.PassLaws.{Joining, joining-first, joining-next, joining-end}
 use Rattle.readout.proofs.hand.write_plain.Statement.{statement}
@@ -61,7 +62,7 @@ add-k : tie.Need-add-k Inv-loop μ-loop
 add-k c = omega arith
 
 loop-less : tie.Need-loop-less Inv-loop μ-loop
-loop-less c = omega arith
+loop-less c = falls _ _ (c .before .before .before .before .before .before .if1 .taken)
 
 loop-again : tie.Need-loop-again Inv-loop μ-loop
 loop-again c = joining-next _ _ _ _ _ _ _ (c .before .before .before .before .before .before .before .before .loop .inv) _ (slot (c .before .before .before .before .before)) _ (c .before .before .copy-in .ensures)

@@ -2,7 +2,7 @@
 -- measure is how many slots are left.
 use Prim.Native.Nat.{_*_, _-_}
 use native.Mathlib.Omega.{arith}
-use borrow.Author.Needs.{needs}
+use borrow.Author.Count.{falls}
 use Rattle.readout.proofs.WalkLaws.{Turn, turn}
 use Rattle.readout.proofs.PassLaws.{Laying, laying-first, laying-long, laying-next, laying-end, rows-at}
 use Rattle.readout.proofs.hand.write_rows.Statement.{statement}
@@ -45,7 +45,7 @@ scatter-rows-requires : tie.Need-scatter-rows-requires Inv-loop μ-loop
 scatter-rows-requires c κs =
     let f = c .before .before .before .before .before .before .before .before .before .before in
     let l = c .before .before .before .before .loop in
-    (rows-at (f .args .p) (f .args .store .now) (f .pre .0) (l .at) (l .k) (l .q) (c .before .slot-length .result) (l .inv .walk) (slot (c .before)) (search needs), omega (arith, laying-long (f .args .p) (f .args .store .now) (f .args .n) (f .args .out .now) (l .out) (l .at) (l .q) (l .k) (l .inv), f .pre .1))
+    (rows-at (f .args .p) (f .args .store .now) (f .pre .0) (l .at) (l .k) (l .q) (c .before .slot-length .result) (l .inv .walk) (slot (c .before)) (omega arith), omega (arith, laying-long (f .args .p) (f .args .store .now) (f .args .n) (f .args .out .now) (l .out) (l .at) (l .q) (l .k) (l .inv), f .pre .1))
 
 add-q : tie.Need-add-q Inv-loop μ-loop
 add-q c = omega (arith, slot (c .before .before .before .before) .ends, slot (c .before .before .before .before) .room, c .before .before .before .before .before .before .before .loop .inv .walk .short)
@@ -57,7 +57,7 @@ add-k : tie.Need-add-k Inv-loop μ-loop
 add-k c = omega arith
 
 loop-less : tie.Need-loop-less Inv-loop μ-loop
-loop-less c = omega arith
+loop-less c = falls _ _ (c .before .before .before .before .before .if1 .taken)
 
 loop-again : tie.Need-loop-again Inv-loop μ-loop
 loop-again c =

@@ -1,20 +1,31 @@
--- One slot a turn, to the first whose length is wrong. Invariant, `Surveying`: the walk stands at slot k, the tally is of the slots before it, and what is
--- left, from this tally on, says what the contents say. The measure is how many slots are left.
+-- One slot a turn, to the first whose length is wrong. Invariant, `Surveying`: the walk stands at slot k, and what was seen of the slots before it and what is
+-- left say what the contents say. The measure is how many slots are left.
 use mathlib.Core.Path.{sym, _∙_}
-use Prim.Native.Nat.{_-_}
+use mathlib.Core.Logic.{⊎-elim, inl, inr}
+use Prim.Native.Nat.{_+_, _-_, _≤_}
 use native.Mathlib.Omega.{arith}
-use borrow.Author.Needs.{needs}
+use borrow.Author.Count.{falls}
 use borrow.Author.Tests.{not-true, not-false}
+use lib.ListN.{length}
 use Rattle.readout.proofs.WalkLaws.{stands-room}
-use Rattle.readout.proofs.SurveyLaws.{Surveying, surveying-first, surveying-end, surveying-wrong, surveying-room, surveying-next}
+use Rattle.readout.proofs.SurveyLaws.{Surveying, surveying-first, surveying-few, surveying-end, surveying-wrong, surveying-room, surveying-next}
 use Rattle.readout.proofs.survey.survey.Statement.{statement}
 use Rattle.readout.proofs.survey.survey.Tie as tie
 
 abbrev Inv-loop : tie.InvT-loop
-Inv-loop p store width at₀ t₀ k₀ at t k = Surveying p store at t k
+Inv-loop p store width at₀ filled₀ empty₀ bytes₀ k₀ at filled empty bytes k = Surveying p store at filled empty bytes k
 
 abbrev μ-loop : tie.MeasureT-loop
-μ-loop p store width at₀ t₀ k₀ at t k = p .count - k
+μ-loop p store width at₀ filled₀ empty₀ bytes₀ k₀ at filled empty bytes k = p .count - k
+
+-- the slot lies in the store
+room : (c : tie.Joined4 Inv-loop μ-loop)
+    → c .before .before .before .before .before .before .before .loop .at + (c .before .before .before .before .before .before .before .before .before .before .before .args .p .slot + 2)
+    ≤ length (c .before .before .before .before .before .before .before .before .before .before .before .args .store .now)
+room c =
+    stands-room _ _ _ (c .before .before .before .before .before .before .before .loop .inv .stands) (c .before .before .before .before .before .if1 .taken)
+    (c .before .before .before .before .before .before .before .before .before .before .before .args .store .now)
+    (c .before .before .before .before .before .before .before .before .before .before .before .pre)
 
 cast-width : tie.Need-cast-width Inv-loop μ-loop
 cast-width c = omega arith
@@ -36,37 +47,41 @@ length-fits-requires c κs = tt
 
 returns : tie.Need-returns Inv-loop μ-loop
 returns c =
-    surveying-wrong _ _ _ _ _ (c .before .before .before .before .before .loop .inv) (c .before .before .before .if1 .taken) _ (c .before .before .slot-length .ensures)
+    surveying-wrong _ _ _ _ _ _ _ (c .before .before .before .before .before .loop .inv) (c .before .before .before .if1 .taken) _ (c .before .before .slot-length .ensures)
     (sym (c .before .length-fits .ensures) ∙ not-true _ (c .if2 .taken))
 
-count-slot-requires : tie.Need-count-slot-requires Inv-loop μ-loop
-count-slot-requires c κs =
-    let l = c .before .before .before .before .before .loop in
-    let f = c .before .before .before .before .before .before .before .before .before in
-    let n = surveying-room (f .args .p) (f .args .store .now) (l .at) (l .t) (l .k) (l .inv) (c .before .before .before .if1 .taken) _
-    (c .before .before .slot-length .ensures) (sym (c .before .length-fits .ensures) ∙ not-false _ (c .if2 .left)) in
-    let r = stands-room (f .args .p) (l .at) (l .k) (l .inv .stands) (c .before .before .before .if1 .taken) (f .args .store .now) (f .pre) in
-    (search needs, omega (arith, n, r, l .inv .short))
-
-add-at : tie.Need-add-at Inv-loop μ-loop
-add-at c =
-    let l = c .before .before .before .before .before .before .loop in
-    let f = c .before .before .before .before .before .before .before .before .before .before in
-    omega (arith, stands-room (f .args .p) (l .at) (l .k) (l .inv .stands) (c .before .before .before .before .if1 .taken) (f .args .store .now) (f .pre))
+add-filled : tie.Need-add-filled Inv-loop μ-loop
+add-filled c = let l = c .before .before .before .before .before .before .loop in omega (arith, surveying-few _ _ _ _ _ _ _ (l .inv))
 
 add-k : tie.Need-add-k Inv-loop μ-loop
 add-k c = omega arith
 
+add-bytes : tie.Need-add-bytes Inv-loop μ-loop
+add-bytes c =
+    let l = c .before .before .before .before .before .before .before .loop in
+    omega (
+      arith,
+      room c,
+      surveying-room _ _ _ _ _ _ _ (l .inv) (c .before .before .before .before .before .if1 .taken) _
+          (c .before .before .before .before .slot-length .ensures) (sym (c .before .before .before .length-fits .ensures) ∙ not-false _ (c .before .before .if2 .left)),
+      l .inv .short,
+    )
+
+add-at : tie.Need-add-at Inv-loop μ-loop
+add-at c = omega (arith, room c)
+
 loop-less : tie.Need-loop-less Inv-loop μ-loop
-loop-less c = omega arith
+loop-less c = falls _ _ (c .before .before .before .before .before .if1 .taken)
 
 loop-again : tie.Need-loop-again Inv-loop μ-loop
 loop-again c =
-    surveying-next _ _ _ _ _ (c .before .before .before .before .before .before .loop .inv) (c .before .before .before .before .if1 .taken) _
-    (c .before .before .before .slot-length .ensures) (sym (c .before .before .length-fits .ensures) ∙ not-false _ (c .before .if2 .left)) _ (c .count-slot .ensures)
+    surveying-next _ _ _ _ _ _ _ (c .before .before .before .before .before .before .before .loop .inv) (c .before .before .before .before .before .if1 .taken) _
+    (c .before .before .before .before .slot-length .ensures) (sym (c .before .before .before .length-fits .ensures) ∙ not-false _ (c .before .before .if2 .left)) _ _
+    (⊎-elim (λ w. inl (w .0 .taken, w .1)) (λ w. inr (w .0 .left, w .1)) (c .before .if3 .came))
+    (⊎-elim (λ w. inl (w .0 .taken, w .1)) (λ w. inr (w .0 .left, w .1)) (c .if4 .came))
 
 returns-2 : tie.Need-returns-2 Inv-loop μ-loop
-returns-2 c = surveying-end _ _ _ _ _ (c .before .before .loop .inv) (c .if1 .left)
+returns-2 c = surveying-end _ _ _ _ _ _ _ (c .before .before .loop .inv) (c .if1 .left)
 
 pub survey-spec : {M : Type 1} → statement M
 survey-spec =
@@ -81,9 +96,10 @@ survey-spec =
     slot-length-requires
     length-fits-requires
     returns
-    count-slot-requires
-    add-at
+    add-filled
     add-k
+    add-bytes
+    add-at
     loop-less
     loop-again
     returns-2)

@@ -1,7 +1,8 @@
 -- The bytes are looked at one after the other, to the first that is not 0. Invariant, `Zeroing`: those that are left say what all say. The measure is how many are left.
 use Prim.Native.Nat.{_-_}
 use native.Mathlib.Omega.{arith}
-use Rattle.readout.proofs.TableLaws.{Zeroing, zeroing-first, zeroing-end, zeroing-next, zeroing-not}
+use borrow.Author.Count.{falls}
+use Rattle.readout.proofs.TableLaws.{one-on, Zeroing, zeroing-first, zeroing-end, zeroing-next, zeroing-not}
 use Rattle.readout.proofs.tables.is_zero.Statement.{statement}
 use Rattle.readout.proofs.tables.is_zero.Tie as tie
 
@@ -21,10 +22,10 @@ returns : tie.Need-returns Inv-loop μ-loop
 returns c = zeroing-not _ _ _ _ (c .before .before .before .loop .inv) (c .before .before .loop-test .taken) (c .if1 .taken)
 
 add-i : tie.Need-add-i Inv-loop μ-loop
-add-i c = omega arith
+add-i c = one-on _ _ _ (c .before .before .before .before .fits .to) (c .before .before .loop-test .taken)
 
 loop-less : tie.Need-loop-less Inv-loop μ-loop
-loop-less c = omega arith
+loop-less c = falls _ _ (c .before .before .loop-test .taken)
 
 loop-again : tie.Need-loop-again Inv-loop μ-loop
 loop-again c = zeroing-next _ _ _ _ (c .before .before .before .loop .inv) (c .before .before .loop-test .taken) (c .if1 .left)

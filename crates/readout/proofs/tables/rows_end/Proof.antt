@@ -3,7 +3,9 @@
 use mathlib.Core.Path.{sym, _∙_}
 use Prim.Native.Nat.{_-_}
 use native.Mathlib.Omega.{arith}
+use borrow.Author.Count.{falls}
 use borrow.Author.Tests.{not-true, not-false}
+use Rattle.readout.proofs.TableLaws.{one-on}
 use Rattle.readout.proofs.RowLaws.{Clearing, clearing-first, clearing-end, clearing-next, clearing-not}
 use Rattle.readout.proofs.tables.rows_end.Statement.{statement}
 use Rattle.readout.proofs.tables.rows_end.Tie as tie
@@ -17,45 +19,42 @@ abbrev μ-loop : tie.MeasureT-loop
 loop-holds : tie.Need-loop-holds Inv-loop μ-loop
 loop-holds c = clearing-first _ _ _ _ _ _
 
-add-row-start : tie.Need-add-row-start Inv-loop μ-loop
-add-row-start c = omega (arith, c .before .before .before .pre .below)
+add-row-span : tie.Need-add-row-span Inv-loop μ-loop
+add-row-span c = omega (arith, c .before .before .before .pre .below)
 
-row-start-requires : tie.Need-row-start-requires Inv-loop μ-loop
-row-start-requires c κs = let r = c .before .before .before .pre in (r .some, r .few, omega (arith, r .below))
-
-columns-requires : tie.Need-columns-requires Inv-loop μ-loop
-columns-requires c κs = let r = c .before .before .before .before .pre in (r .some, r .few, c .row-start .ensures .1)
+row-span-requires : tie.Need-row-span-requires Inv-loop μ-loop
+row-span-requires c κs = let r = c .before .before .before .pre in (r .some, r .few, omega (arith, r .below))
 
 mul-a : tie.Need-mul-a Inv-loop μ-loop
-mul-a c = omega (arith, c .before .before .before .before .before .pre .inside)
+mul-a c = omega (arith, c .before .before .before .before .pre .inside)
 
 add-a : tie.Need-add-a Inv-loop μ-loop
-add-a c = omega (arith, c .before .before .before .before .before .pre .inside)
+add-a c = omega (arith, c .before .before .before .before .pre .inside)
 
 add-is-zero : tie.Need-add-is-zero Inv-loop μ-loop
-add-is-zero c = omega (arith, c .before .before .before .before .before .pre .inside, c .columns .ensures .within)
+add-is-zero c = omega (arith, c .before .before .before .before .pre .inside, c .row-span .ensures .1 .within)
 
 add-is-zero-2 : tie.Need-add-is-zero-2 Inv-loop μ-loop
-add-is-zero-2 c = omega (arith, c .before .before .before .before .before .pre .inside)
+add-is-zero-2 c = omega (arith, c .before .before .before .before .pre .inside)
 
 is-zero-requires : tie.Need-is-zero-requires Inv-loop μ-loop
-is-zero-requires c κs = (omega (arith, c .columns .ensures .within), omega (arith, c .before .before .before .before .before .pre .inside))
+is-zero-requires c κs = (omega (arith, c .row-span .ensures .1 .within), omega (arith, c .before .before .before .before .pre .inside))
 
 returns : tie.Need-returns Inv-loop μ-loop
 returns c =
-    clearing-not _ _ _ _ _ _ _ (c .before .before .before .before .before .loop .inv) (c .before .before .before .before .loop-test .taken) _ _
-    (c .before .before .before .row-start .ensures .0) (c .before .before .columns .ensures) (sym (c .before .is-zero .ensures) ∙ not-true _ (c .if1 .taken))
+    let e = c .before .before .row-span .ensures in
+    clearing-not _ _ _ _ _ _ _ (c .before .before .before .before .loop .inv) (c .before .before .before .loop-test .taken) _ _ (e .0) (e .1) (sym (c .before .is-zero .ensures) ∙ not-true _ (c .if1 .taken))
 
 add-j : tie.Need-add-j Inv-loop μ-loop
-add-j c = omega arith
+add-j c = one-on _ _ _ (c .before .before .before .before .before .before .fits .count) (c .before .before .before .loop-test .taken)
 
 loop-less : tie.Need-loop-less Inv-loop μ-loop
-loop-less c = omega arith
+loop-less c = falls _ _ (c .before .before .before .loop-test .taken)
 
 loop-again : tie.Need-loop-again Inv-loop μ-loop
 loop-again c =
-    clearing-next _ _ _ _ _ _ _ (c .before .before .before .before .before .loop .inv) (c .before .before .before .before .loop-test .taken) _ _
-    (c .before .before .before .row-start .ensures .0) (c .before .before .columns .ensures) (sym (c .before .is-zero .ensures) ∙ not-false _ (c .if1 .left))
+    let e = c .before .before .row-span .ensures in
+    clearing-next _ _ _ _ _ _ _ (c .before .before .before .before .loop .inv) (c .before .before .before .loop-test .taken) _ _ (e .0) (e .1) (sym (c .before .is-zero .ensures) ∙ not-false _ (c .if1 .left))
 
 returns-2 : tie.Need-returns-2 Inv-loop μ-loop
 returns-2 c = clearing-end _ _ _ _ _ _ _ (c .before .loop .inv) (c .loop-test .left)
@@ -67,9 +66,8 @@ rows-end-spec =
     Inv-loop
     μ-loop
     loop-holds
-    add-row-start
-    row-start-requires
-    columns-requires
+    add-row-span
+    row-span-requires
     mul-a
     add-a
     add-is-zero

@@ -2,7 +2,8 @@
 -- left make what the whole row makes. The measure is how many of the k are left.
 use Prim.Native.Nat.{_-_}
 use native.Mathlib.Omega.{arith}
-use Rattle.readout.proofs.TableLaws.{RowWriting, writing-first, writing-room, writing-next, writing-end}
+use borrow.Author.Count.{falls}
+use Rattle.readout.proofs.TableLaws.{one-on, RowWriting, writing-first, writing-room, writing-next, writing-end}
 use Rattle.readout.proofs.tables.scatter_row.Statement.{statement}
 use Rattle.readout.proofs.tables.scatter_row.Tie as tie
 
@@ -31,10 +32,10 @@ add-to c =
     omega (arith, writing-room (f .args .store .now) (f .args .at) (f .args .k) (f .args .m) (f .args .p) (f .args .out .now) (l .out) (l .to) (l .c) (l .inv) (c .before .loop-test .taken) (f .pre .3), l .inv .long)
 
 add-c : tie.Need-add-c Inv-loop μ-loop
-add-c c = omega arith
+add-c c = one-on _ _ _ (c .before .before .before .fits .k) (c .before .loop-test .taken)
 
 loop-less : tie.Need-loop-less Inv-loop μ-loop
-loop-less c = omega arith
+loop-less c = falls _ _ (c .before .loop-test .taken)
 
 loop-again : tie.Need-loop-again Inv-loop μ-loop
 loop-again c = writing-next _ _ _ _ _ _ _ _ _ (c .before .before .loop .inv) (c .before .loop-test .taken)
