@@ -23,14 +23,14 @@ pub record Tallied (p : Place) (c : List Content) (t : Seen) : Type 0 where
   pub some : (t .empty ≡ p .count → ⊥) → lowestEmpty c 0 ≡ At (t .empty)
   pub bytes : t .bytes ≡ length (joined c)
 
--- whether one is
+-- what was seen of any slots
 pub record Sees (p : Place) (c : List Content) (t : Seen) : Type 0 where
   pub wrong : t .sound ≡ false → anyWrong c ≡ true
   pub sound : t .sound ≡ true → Tallied p c t
 
 -- ---- rows that stand one behind the other
 
--- the 239 information bytes of the row that stands at at, and of row q of those sent
+-- the 239 information bytes of the row that stands at at, and of row q of those sent; no abbreviation, since a check would write out 239 bytes at each comparison
 unfoldable pub infoAt : List ℕ → ℕ → List ℕ
 infoAt s at = listed (λ c. getD s (at + c) 0) 239 0
 
