@@ -35,7 +35,7 @@ pub extern "C" fn bh_encode_row(info: &[u8], checks: &mut [u8]) -> u64
 pub extern "C" fn bh_repair_row(row: &[u8], fixed: &mut [u8]) -> u64
     ensures { λ r. ⌜ Says (repairSays (now (row .entry)) (now (fixed .entry))) r (now (fixed .exit)) ⌝ }
 {
-    let mended = repair::repair_row(row);
+    let mended = single::repair_row(row);
     let verdict = mended.verdict;
     answers::put_if(verdict, &mended.row, fixed)
 }

@@ -14,7 +14,7 @@ use Rattle.refusals.specs.declared.Verdict.{Verdict}
 use Rattle.refusals.specs.declared.Verdict.the-variants.{Accepted, Refused}
 use Rattle.refusals.specs.Told.{Told, refusedAs, verdictTold}
 use Rattle.encoding.specs.Encode.{encodeOf}
-use Rattle.repair.specs.Repair.{repairRowOf}
+use Rattle.single.specs.Single.{repairRowOf}
 use Rattle.settings.specs.declared.Settings.{Settings}
 use Rattle.packet.specs.Packet.{readOf}
 use Rattle.packet.specs.Told.{readingTold}

@@ -15,9 +15,9 @@ use Rattle.refusals.specs.declared.Verdict.{Verdict}
 use Rattle.refusals.specs.declared.Verdict.the-variants.{Accepted, Refused}
 use Rattle.refusals.specs.Refusals.{numberOf}
 use Rattle.encoding.specs.declared.Encoded.{Encoded}
-use Rattle.repair.specs.declared.Mended.{Mended}
+use Rattle.single.specs.declared.Mended.{Mended}
 use Rattle.encoding.specs.Encode.{encodeOf}
-use Rattle.repair.specs.Repair.{repairRowOf}
+use Rattle.single.specs.Single.{repairRowOf}
 use Rattle.packet.specs.declared.Packet.{Packet}
 use Rattle.packet.specs.declared.Reading.{Reading}
 use Rattle.packet.specs.declared.Reading.the-variants.{Sent}

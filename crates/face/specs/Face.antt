@@ -10,7 +10,7 @@ use Rattle.refusals.specs.declared.Refusal.{Refusal}
 use Rattle.refusals.specs.declared.Refusal.the-variants.{Output}
 use Rattle.refusals.specs.Told.{Told, acceptedWith, refusedAs, verdictTold}
 use Rattle.encoding.specs.Encode.{encodeOf}
-use Rattle.repair.specs.Repair.{repairRowOf}
+use Rattle.single.specs.Single.{repairRowOf}
 use Rattle.packet.specs.declared.Reading.{Reading}
 use Rattle.settings.specs.declared.Settings.{Settings}
 use Rattle.packet.specs.Packet.{readOf}

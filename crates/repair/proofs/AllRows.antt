@@ -26,8 +26,7 @@ use Rattle.code.proofs.Exact.{repair-found, repair-none}
 use Rattle.code.proofs.Mend.{mend-first, none-left, bytes-split}
 use Rattle.encoding.specs.Encode.{remaindersOf}
 use Rattle.encoding.proofs.Feeding.{rest-there, rest-among, length-remainders}
-use Rattle.repair.specs.declared.Mended.{Mended}
-use Rattle.repair.specs.Repair.{mendedAs, mendOf, Mending, mendingAs, mendingOf, Mends}
+use Rattle.repair.specs.Repair.{Mending, mendingAs, mendingOf, Mends}
 use Rattle.repair.specs.InnerErrata.{entries, mendedBy, Searched}
 use Rattle.repair.specs.InnerRows.{Resting, Ends, Finished, toldOf}
 use Rattle.repair.proofs.Mending.{mended-length}
@@ -224,33 +223,6 @@ module _ (b : List ℕ) (m : length b % 255 ≡ 0) where
               ap₂ (λ (x : List ℕ) (y : ℕ). take 16 (drop (y * 16) x)) e z
               ∙ rest-among b j (lt-of-lt-of-le l (le-of-eq (sym (min-eq-right n)))) ∙ rest-there b j (omega arith);
         }
-
--- one row, by value
-pub mend-one : (row : List ℕ) (r : Verdict) (out : List ℕ) → length row ≡ 255 → Mends (mendingOf row) r out → _≡_ {A = Mended} (record { verdict = r; row = out }) (mendOf row)
-unfolding mendingOf mendOf mendRows
-mend-one row r out n p =
-    by (repairOf row) refl
-    (subst (λ (m : Mending). Mends m r out)
-    (rw (eq-eqb (length row % 255) 0 (ap (λ (k : ℕ). k % 255) n), le-leb (length row) 3825 (omega arith)) (ap (mendingAs row) (one ∙ ap (λ (l : List ℕ). behind (repairOf l) 0 (whole [])) all-of)))
-    p)
-  where
-    all-of : take 255 row ≡ row
-    all-of = take-all 255 row (omega arith)
-
-    one : mendRows (length row / 255) 0 row ≡ mendRows 1 0 row
-    one = ap (λ (k : ℕ). mendRows (k / 255) 0 row) n
-
-    by : (a : Repaired) → repairOf row ≡ a → Mends (mendingAs row (behind (repairOf row) 0 (whole []))) r out → _≡_ {A = Mended} (record { verdict = r; row = out }) (mendedAs row (repairOf row))
-    by (found s) e p =
-        let f : mendingAs row (behind (repairOf row) 0 (whole [])) ≡ record { answer = Accepted; bytes = s ++ [] } = ap (λ (a : Repaired). mendingAs row (behind a 0 (whole []))) e in
-        let v : r ≡ Accepted = p .answers ∙ ap (λ (m : Mending). m .answer) f in
-        let o : out ≡ s = p .leaves ∙ ap (λ (m : Mending). m .bytes) f ∙ append-nil s in
-        (λ i. record { verdict = v i; row = o i }) ∙ ap (mendedAs row) (sym e)
-    by none e p =
-        let f : mendingAs row (behind (repairOf row) 0 (whole [])) ≡ record { answer = Refused (Repair 0); bytes = row } = ap (λ (a : Repaired). mendingAs row (behind a 0 (whole []))) e in
-        let v : r ≡ Refused (Repair 0) = p .answers ∙ ap (λ (m : Mending). m .answer) f in
-        let o : out ≡ row = p .leaves ∙ ap (λ (m : Mending). m .bytes) f in
-        (λ i. record { verdict = v i; row = o i }) ∙ ap (mendedAs row) (sym e)
 
 -- ---- what an answer of `mend` tells of whole rows
 

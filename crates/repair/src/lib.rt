@@ -2,7 +2,7 @@
 ghost use mathlib.Core.Path.{_≡_};
 ghost use Prim.Native.Nat.{_≤_};
 ghost use Rattle.repair.specs.InnerRows.{toldOf};
-ghost use Rattle.repair.specs.Repair.{mendOf, repairRowOf, mendingOf, Mends};
+ghost use Rattle.repair.specs.Repair.{mendingOf, Mends};
 
 mod errata;
 mod factors;
@@ -13,12 +13,6 @@ mod terms;
 use packet::Packet;
 use refusals::Refusal;
 use refusals::Verdict;
-
-// The corrected row; beside a refusal the row as it came, or zeros where no row came.
-pub struct Mended {
-    pub verdict: Verdict,
-    pub row: [u8; 255],
-}
 
 // Repairs each of up to fifteen rows that stand one behind the other, where they stand: 13, with the first row that has no coded row within eight bytes, and 1 where
 // they are not whole rows or more than fifteen. Refused, nothing is changed.
@@ -44,31 +38,4 @@ fn told(broken: usize) -> Verdict
         return Verdict::Accepted;
     }
     Verdict::Refused(Refusal::Repair(broken as u32))
-}
-
-// The coded row that differs from this row in at most eight bytes; refused where there is none.
-pub fn repair(row: [u8; 255]) -> Mended
-    ensures { λ r. ⌜ r ≡ mendOf row ⌝ }
-{
-    let mut fixed = row;
-    let verdict = mend(&mut fixed);
-    Mended {
-        verdict,
-        row: fixed,
-    }
-}
-
-// The same, of a row that lies in a slice; another length than 255 is refused.
-pub fn repair_row(row: &[u8]) -> Mended
-    ensures { λ r. ⌜ r ≡ repairRowOf (now (row .entry)) ⌝ }
-{
-    let mut held = [0u8; 255];
-    if row.len() != 255 {
-        return Mended {
-            verdict: Verdict::Refused(Refusal::Short),
-            row: held,
-        };
-    }
-    words::copy_in(&mut held, 0, row);
-    repair(held)
 }

@@ -7,6 +7,7 @@ pub mod Crc
 pub mod Roots
 pub mod Encoding
 pub mod Repair
+pub mod Single
 pub mod Packet
 pub mod Settings
 pub mod Pack

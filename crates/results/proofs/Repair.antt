@@ -8,9 +8,3 @@ use Rattle.repair.proofs as repair
 
 pub mend-one : OneResult repair.mend.ended repair.mend.Reads.Learnt
 mend-one κs a r s d e p q = (equation (p .answers) (q .answers), after 0 (lent (equation (p .leaves) (q .leaves)) refl))
-
-pub repair-one : OneResult repair.repair.ended repair.repair.Reads.Learnt
-repair-one κs a r s d e p q = (equation p q, refl)
-
-pub repair-row-one : OneResult repair.repair_row.ended repair.repair_row.Reads.Learnt
-repair-row-one κs a r s d e p q = (equation p q, refl)

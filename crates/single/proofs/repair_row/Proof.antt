@@ -8,10 +8,10 @@ use lib.ListN.{length}
 use borrow.Author.Tests.{eq-eqb, ne-eqb}
 use Rattle.ground.proofs.Writing.{sets-all}
 use Rattle.code.proofs.Lists.{zeros, length-zeros}
-use Rattle.repair.specs.Repair.{mendOf, repairRowOf}
+use Rattle.single.specs.Single.{mendOf, repairRowOf}
 use borrow.Author.Needs.{needs}
-use Rattle.repair.proofs.repair_row.Statement.{statement}
-use Rattle.repair.proofs.repair_row.Tie as tie
+use Rattle.single.proofs.repair_row.Statement.{statement}
+use Rattle.single.proofs.repair_row.Tie as tie
 
 returns : tie.Need-returns
 unfolding repairRowOf

@@ -1,10 +1,10 @@
 -- `repair` mends the row where it is held.
 -- Assumes nothing.
-use Rattle.repair.proofs.AllRows.{mend-one}
+use Rattle.single.proofs.Laws.{mend-one}
 use native.Mathlib.Omega.{arith}
 use borrow.Author.Needs.{needs}
-use Rattle.repair.proofs.repair.Statement.{statement}
-use Rattle.repair.proofs.repair.Tie as tie
+use Rattle.single.proofs.repair.Statement.{statement}
+use Rattle.single.proofs.repair.Tie as tie
 
 slice-aggregate-mend : tie.Need-slice-aggregate-mend
 slice-aggregate-mend c = omega arith
