@@ -19,7 +19,7 @@ CFLAGS = -std=gnu11 -O2 -Wall -Wextra -Wconversion -Iinclude
 sources = crates.txt $(shell find crates -path '*/must-fail' -prune -o -type f -print)
 command = $(wildcard command/*.c) command/command.h include/brithelva.h
 
-.PHONY: all test quick left-out style reference cases demo library command checked kill steps limits largest example bench fuzz install uninstall clean
+.PHONY: all test quick left-out style reference reference-itself reference-cases cases demo library command checked kill steps limits largest example bench fuzz install uninstall clean
 
 all: build/run
 
@@ -42,9 +42,9 @@ demo: build/run
 	@tests/demo build/run
 
 # ---- tests. `test` is the gate: what shows a fault in seconds, then every proof and every wrong edit from nothing (`rt ci`), then what runs on the
-# proved library. tests/gate runs these parts one by one; its last line counts what passed.
+# proved library. tests/gate runs these parts one by one, and beside each other what a + joins; its last line counts what passed.
 before = style reference
-in_c = library command kill steps limits largest example fuzz
+in_c = library command kill steps limits example fuzz+largest
 ifeq ($(machine),x86_64)
 in_c += checked
 endif
@@ -55,7 +55,7 @@ test:
 
 # all that is no proof, in a few minutes once the library is there
 quick: $(before)
-	@$(MAKE) --no-print-directory $$($(c_parts))
+	@$(MAKE) --no-print-directory $$($(c_parts) | tr + ' ')
 
 left-out:
 	@echo 'no C compiler for x86-64 can be had here: the tests in C are left out'
@@ -68,7 +68,10 @@ style:
 
 # the second program: its own tests, and its output beside that of the program `cases`
 reference:
+	@$(MAKE) --no-print-directory -j2 reference-itself reference-cases
+reference-itself:
 	@reference/test.py
+reference-cases:
 	@reference/compare
 
 # the proved program `cases` on random files of cases, which the second program answers; its own file of cases is run by every `rt check`
