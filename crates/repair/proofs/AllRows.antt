@@ -22,14 +22,17 @@ use Rattle.code.specs.Search.Repaired.{found, none}
 use Rattle.code.specs.Repair.{repairOf}
 use Rattle.code.specs.Mend.{Mended as Whole, whole, broken, behind, mendRows}
 use Rattle.code.proofs.Lists.{zeros, length-zeros}
-use Rattle.code.proofs.Exact.{repair-found, repair-none}
+use Rattle.code.proofs.Division.{length-remainder, remainder-bytes}
 use Rattle.code.proofs.Mend.{mend-first, none-left, bytes-split}
+use Rattle.errata.specs.declared.Errata.{Errata}
+use Rattle.errata.specs.Errata.{errataOf}
+use Rattle.errata.specs.InnerErrata.{entries, mendedBy, Ordered}
+use Rattle.errata.proofs.Mending.{mended-length}
+use Rattle.errata.proofs.Moved.{errata-ordered, errata-found, errata-none}
 use Rattle.encoding.specs.Encode.{remaindersOf}
 use Rattle.encoding.proofs.Feeding.{rest-there, rest-among, length-remainders}
 use Rattle.repair.specs.Repair.{Mending, mendingAs, mendingOf, Mends}
-use Rattle.repair.specs.InnerErrata.{entries, mendedBy, Searched}
 use Rattle.repair.specs.InnerRows.{Resting, Ends, Finished, toldOf}
-use Rattle.repair.proofs.Mending.{mended-length}
 
 -- ---- the row at the front
 
@@ -141,6 +144,9 @@ row-known b i rests w h =
     let e : (i + 0) * 16 ≡ i * 16 = omega arith in
     ap (λ (k : ℕ). take 16 (drop k rests)) (sym e) ∙ w .left 0 (omega arith)
 
+pub ordered-few : {n : ℕ} {at : List ℕ} → Ordered n at → n ≤ 16
+ordered-few o = omega (arith, o .few)
+
 -- the first row, copied over as many zeros
 pub copied-row : (rows : List ℕ) {out : List ℕ} → 255 ≤ length rows → out ≡ sets (zeros 255) 0 (take 255 rows) → out ≡ take 255 rows
 copied-row rows {out} h e = e ∙ sets-all (zeros 255) (take 255 rows) (length-take-le 255 rows h ∙ sym (length-zeros 255))
@@ -176,12 +182,21 @@ module _ (b : List ℕ) (some : 255 ≤ length b) (bytes : Bytes b) (rest : List
   row-bytes : Bytes (take 255 b)
   row-bytes = bytes-split 255 b bytes .0
 
-  module _ (n : ℕ) (at c : List ℕ) (fits : Bool) (w : Searched rest n at c fits) where
-    pub row-found : fits ≡ true → repairOf (take 255 b) ≡ found (mendedBy (take 255 b) (entries at) (entries c) n)
-    row-found e = repair-found (take 255 b) _ long row-bytes (w .sound e (take 255 b) long row-bytes left)
+  rest-long : length rest ≡ 16
+  rest-long = ap length left ∙ length-remainder 239 (take 255 b) long
 
-    pub row-none : fits ≡ false → repairOf (take 255 b) ≡ none
-    row-none e = repair-none (take 255 b) long row-bytes (w .complete e (take 255 b) long row-bytes left)
+  rest-bytes : Bytes rest
+  rest-bytes = subst Bytes (sym left) (remainder-bytes 239 (take 255 b) row-bytes)
+
+  module _ (e : Errata) (told : e ≡ errataOf rest) where
+    pub row-ordered : Ordered (e .n) (e .at)
+    row-ordered = errata-ordered rest rest-long rest-bytes e told
+
+    pub row-found : e .fits ≡ true → repairOf (take 255 b) ≡ found (mendedBy (take 255 b) (entries (e .at)) (entries (e .values)) (e .n))
+    row-found = errata-found rest rest-long rest-bytes (take 255 b) long row-bytes left e told
+
+    pub row-none : e .fits ≡ false → repairOf (take 255 b) ≡ none
+    row-none = errata-none rest rest-long rest-bytes (take 255 b) long row-bytes left e told
 
 -- ---- the call's ends
 

@@ -1,9 +1,1 @@
-pub mod Stores
-pub mod ByExponents
-pub mod Totals
-pub mod Null
-pub mod Shares
-pub mod Locators
-pub mod Solving
-pub mod Mending
 pub mod AllRows

@@ -11,7 +11,7 @@ use Rattle.refusals.specs.declared.Verdict.the-variants.{Accepted, Refused}
 use Rattle.refusals.specs.declared.Refusal.the-variants.{Repair}
 use Rattle.code.specs.Search.{remainder}
 use Rattle.code.specs.Mend.{Mended as Rows, whole, broken}
-use Rattle.repair.specs.InnerErrata.{mendedBy, entries}
+use Rattle.errata.specs.InnerErrata.{mendedBy, entries}
 
 -- whole rows, the first being row i of fifteen, and what each of them leaves
 pub record Resting (b : List ℕ) (i : ℕ) (rests : List ℕ) : Type 0 where

@@ -4,9 +4,8 @@ ghost use Prim.Native.Nat.{_*_, _/_, _≤_, _<_};
 ghost use lib.ListN.{length, take, drop};
 ghost use Rattle.code.specs.Mend.{mendRows};
 ghost use Rattle.repair.specs.InnerRows.{Resting, Finished, Ends};
-ghost use Rattle.repair.specs.InnerErrata.{Placed};
-use crate::errata;
-use crate::errata::Errata;
+ghost use Rattle.errata.specs.InnerErrata.{Ordered, mendedBy, entries};
+use errata::Errata;
 
 // What row i leaves.
 fn rest_in(rests: &[u8; 240], i: usize) -> [u8; 16]
@@ -20,9 +19,25 @@ fn rest_in(rests: &[u8; 240], i: usize) -> [u8; 16]
     rest
 }
 
+// The row at the front, held by value, with the values added at the places.
+fn corrected(rows: &[u8], e: Errata) -> [u8; 255]
+    requires { ⌜ Ordered (e .n) (e .at) × (255 ≤ length (now rows)) ⌝ }
+    ensures { λ r. ⌜ r ≡ mendedBy (take 255 (now (rows .entry))) (entries (e .at)) (entries (e .values)) (e .n) ⌝ }
+{
+    let mut row = [0u8; 255];
+    words::copy_in(&mut row, 0, &rows[0..255]);
+    let mut k: usize = 0;
+    while k < e.n {
+        let i = 254 - words::index(e.at[k]);
+        row[i] = row[i] ^ e.values[k];
+        k += 1;
+    }
+    row
+}
+
 // Where the rows behind were mended, none of them broken, corrects the row at the front. A row with nothing to add is right as it stands.
 fn finish(broken: usize, rows: &mut [u8], e: Errata) -> usize
-    requires { ⌜ Placed (e .n) (e .at) × (255 ≤ length (now rows)) ⌝ }
+    requires { ⌜ Ordered (e .n) (e .at) × (255 ≤ length (now rows)) ⌝ }
     ensures { λ r. ⌜ (r ≡ broken) × Finished broken (now (rows .entry)) (e .at) (e .values) (e .n) (now (rows .exit)) ⌝ }
 {
     if broken < 15 {
@@ -31,7 +46,7 @@ fn finish(broken: usize, rows: &mut [u8], e: Errata) -> usize
     if e.n == 0 {
         return broken;
     }
-    let row = errata::mend(rows, e);
+    let row = corrected(rows, e);
     words::copy_in(rows, 0, &row);
     broken
 }

@@ -12,11 +12,11 @@ use Rattle.code.specs.Code.{Bytes}
 use Rattle.code.specs.Search.{remainder}
 use Rattle.code.proofs.Lists.{bytes-of}
 use Rattle.repair.specs.InnerRows.{Resting}
-use Rattle.repair.proofs.AllRows.{no-rows, some-rows, row-broken, row-done, row-known, rows-behind, row-found, row-none, behind-part, lent-behind, back-length}
+use Rattle.repair.proofs.AllRows.{no-rows, some-rows, row-broken, row-done, row-known, rows-behind, row-ordered, row-found, row-none, behind-part, lent-behind, back-length}
 use Rattle.repair.proofs.rows.mend_from.Reads as mend-from
 use Rattle.repair.proofs.rows.mend_from.Kinds as mend-from-kinds
 use Rattle.repair.proofs.rows.+mend_from.Lts-mend_from as mend-from-lts
-use Rattle.repair.proofs.errata.find.Reads as find-reads
+use Rattle.errata.proofs.find.Reads as find-reads
 use Rattle.repair.proofs.rows.finish.Reads as finish-reads
 use Rattle.repair.proofs.rows.rest_in.Reads as rest-in-reads
 use Rattle.repair.proofs.rows.+mend_from.{statement}
@@ -64,7 +64,7 @@ mend-from-returns-2 : (t : ℕ) → mend-from-lts.Need-returns-2 (rest-in-reads.
 mend-from-returns-2 t c =
     let find = c .before .before in
     row-broken (rows t find) (find .before .before .before .before .args .i) (some t (find .before .before)) (omega (arith, known t (find .before .before) .few, some t (find .before .before)))
-    (row-none _ (some t (find .before .before)) (bytes t find) _ (left t find) _ _ _ _ (find .find .ensures) (not-true _ (c .if2 .taken)))
+    (row-none _ (some t (find .before .before)) (bytes t find) _ (left t find) _ (find .find .ensures) (not-true _ (c .if2 .taken)))
 
 mend-from-sub-mend-from : (t : ℕ) → mend-from-lts.Need-sub-mend-from (rest-in-reads.Asked, rest-in-reads.Learnt, find-reads.Asked, find-reads.Learnt, mend-from-below t, mend-from.Post, finish-reads.Asked, finish-reads.Learnt) (mend-from-at t) mend-from.Post
 mend-from-sub-mend-from t c = some t (c .before .before .before .before)
@@ -91,7 +91,7 @@ mend-from-finish-requires : (t : ℕ) → mend-from-lts.Need-finish-requires (re
 mend-from-finish-requires t c κs =
     let find = c .before .before .before .before .before .before .before in
     let b : List ℕ = find .before .before .before .before .args .rows .now in
-    (find .find .ensures .placed, omega (arith, back-length b (c .before .before .before .mend-from .last .0) (some t (find .before .before))))
+    (row-ordered b (some t (find .before .before)) (bytes t find) _ (left t find) _ (find .find .ensures), omega (arith, back-length b (c .before .before .before .mend-from .last .0) (some t (find .before .before))))
 
 mend-from-same-length : (t : ℕ) → mend-from-lts.Need-same-length (rest-in-reads.Asked, rest-in-reads.Learnt, find-reads.Asked, find-reads.Learnt, mend-from-below t, mend-from.Post, finish-reads.Asked, finish-reads.Learnt) (mend-from-at t) mend-from.Post
 mend-from-same-length t c = omega arith
@@ -105,7 +105,7 @@ mend-from-returns-3 t c =
     let h : 255 ≤ length b = some t (find .before .before) in
     let called = c .before .before .before .before .before .before .mend-from in
     row-done b (start .args .i) h (e .at) (e .values) (e .n)
-    (row-found b h (bytes t find) _ (left t find) (e .n) (e .at) (e .values) (e .fits) (find .find .ensures) (not-false (e .fits) (c .before .before .before .before .before .before .before .before .if2 .left)))
+    (row-found b h (bytes t find) _ (left t find) e (find .find .ensures) (not-false (e .fits) (c .before .before .before .before .before .before .before .before .if2 .left)))
     (called .result) (take (length b - 255) (drop 255 b)) (called .last .0) _ _ (behind-part b) (called .ensures)
     (lent-behind b (called .last .0) h) (c .before .before .finish .ensures)
 

@@ -12,8 +12,8 @@ returns c = (refl, not-added _ _ _ _ _ (c .if1 .taken))
 returns-2 : tie.Need-returns-2
 returns-2 c = (refl, nothing-added _ _ _ _ _ (c .if2 .taken))
 
-mend-requires : tie.Need-mend-requires
-mend-requires c κs = c .before .before .before .before .before .pre
+corrected-requires : tie.Need-corrected-requires
+corrected-requires c κs = c .before .before .before .before .before .pre
 
 slice-aggregate-copy-in : tie.Need-slice-aggregate-copy-in
 slice-aggregate-copy-in c = omega arith
@@ -26,12 +26,12 @@ same-length c = omega arith
 
 returns-3 : tie.Need-returns-3
 returns-3 c =
-    let mend = c .before .before .before .before .before in
-    let start = mend .before .before .before .before .before .before in
+    let corrected = c .before .before .before .before .before in
+    let start = corrected .before .before .before .before .before .before in
     let e = start .args .e in (
       refl,
-      put-back (start .args .broken) (start .args .rows .now) (e .at) (e .values) (e .n) (mend .mend .result) (c .before .before .copy-in .last .0)
-          (mend .before .before .before .before .if1 .left) (start .pre .1) (mend .mend .ensures) (c .before .before .copy-in .ensures),
+      put-back (start .args .broken) (start .args .rows .now) (e .at) (e .values) (e .n) (corrected .corrected .result) (c .before .before .copy-in .last .0)
+          (corrected .before .before .before .before .if1 .left) (start .pre .1) (corrected .corrected .ensures) (c .before .before .copy-in .ensures),
     )
 
 pub finish-spec : {M : Type 1} → statement M
@@ -40,7 +40,7 @@ finish-spec =
     (tie.spec
     returns
     returns-2
-    mend-requires
+    corrected-requires
     slice-aggregate-copy-in
     copy-in-requires
     same-length

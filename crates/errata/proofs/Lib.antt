@@ -1,0 +1,14 @@
+pub mod Stores
+pub mod ByExponents
+pub mod Totals
+pub mod Null
+pub mod Shares
+pub mod Locators
+pub mod Solving
+pub mod Mending
+pub mod Keeping
+pub mod Rising
+pub mod Listing
+pub mod Leaving
+pub mod Counting
+pub mod Moved

@@ -1,0 +1,192 @@
+-- What is to be added depends on nothing of a row but what it leaves: of two rows that leave the same, one becomes a coded row within eight bytes exactly as the other does.
+-- Assumes nothing.
+use mathlib.Core.Path.{_≡_, refl, sym, ap, ap₂, subst, _∙_}
+use mathlib.Core.Logic.{_≢_, ⊎-elim}
+use mathlib.Core.Bool.{Bool, true, false, not}
+use mathlib.Core.List.{List}
+use Prim.Native.Nat.{ℕ, _-_, _≤_, _<_}
+use native.Mathlib.Nat.{not-suc-le-zero}
+use native.Mathlib.Omega.{arith}
+use borrow.Author.Tests.{eqb-true}
+use lib.Dec.{eqb}
+use lib.ListN.{length, getD, length-map}
+use lib.Seq.{ext-getD}
+use Rattle.ground.specs.Bits.{sum}
+use Rattle.ground.proofs.Listed.{getD-listed-0}
+use Rattle.ground.proofs.Sums.{sum-comm, sum-left-comm, sum-self, sum-zero}
+use Rattle.field.specs.Field.{power}
+use Rattle.code.specs.Code.{Bytes, add, distance}
+use Rattle.code.specs.Search.{Repaired, remainder}
+use Rattle.code.specs.Search.Repaired.{found, none}
+use Rattle.code.specs.Repair.{repairOf, Near}
+use Rattle.code.specs.Value.{value}
+use Rattle.code.proofs.Lists.{add-bytes, length-add, add-comm, add-assoc, add-twice, add-at, sum-again}
+use Rattle.code.proofs.Distance.{nonzeros, nonzeros-add, distance-sym}
+use Rattle.code.proofs.Values.{value-add, value-remainder, coded-values, values-coded}
+use Rattle.code.proofs.Exact.{repair-near, repair-found, repair-none, none-near}
+use Rattle.errata.specs.declared.Errata.{Errata}
+use Rattle.errata.specs.Errata.{byteAt, differing, differences, padded, errataFor, leaving, errataOf}
+use Rattle.errata.specs.InnerErrata.{entries, mendedBy, Ordered}
+use Rattle.errata.proofs.Mending.{mended-length, mended-off}
+use Rattle.errata.proofs.Rising.{Rises, passing-rises, somewhere}
+use Rattle.errata.proofs.Listing.{mended-on, getD-map}
+use Rattle.errata.proofs.Counting.{differing-distance}
+use Rattle.errata.proofs.Leaving.{leaving-length, leaving-bytes, leaving-rest}
+
+-- ---- a coded row moved to another row
+
+module _ (r row t : List ℕ) (lr : length r ≡ 255) (lrow : length row ≡ 255) (br : Bytes r) (brow : Bytes row) (same : remainder 239 r ≡ remainder 239 row) (near : Near r t) where
+  between : length (add r row) ≡ 255
+  between = length-add r row (omega arith) ∙ lrow
+
+  lt : length t ≡ 255
+  lt = near .coded .sized
+
+  moved-length : length (add t (add r row)) ≡ 255
+  moved-length = length-add t (add r row) (omega (arith, between, lt)) ∙ between
+
+  moved-values : (j : ℕ) → j < 16 → value (add t (add r row)) (power j) ≡ 0
+  moved-values j h =
+      let v : ℕ = value (remainder 239 r) (power j) in
+      value-add t (add r row) (power j) (lt ∙ sym between)
+      ∙ ap₂ sum (coded-values t (near .coded) j h)
+      (value-add r row (power j) (lr ∙ sym lrow)
+      ∙ ap₂ sum (value-remainder r lr j h) (value-remainder row lrow j h ∙ ap (λ (l : List ℕ). value l (power j)) (sym same))
+      ∙ sum-self v)
+      ∙ sum-zero 0
+
+  -- they differ as the others do
+  moved-add : add row (add t (add r row)) ≡ add t r
+  moved-add =
+      ap (add row) (sym (add-assoc t r row) ∙ add-comm (add t r) row)
+      ∙ add-twice row (add t r) (omega (arith, lrow, length-add t r (omega (arith, lt, lr)), lr))
+
+  moved-distance : distance row (add t (add r row)) ≡ distance r t
+  moved-distance =
+      sym (nonzeros-add row (add t (add r row)) (lrow ∙ sym moved-length)) ∙ ap nonzeros moved-add ∙ nonzeros-add t r (lt ∙ sym lr) ∙ distance-sym t r
+
+  near-moved : Near row (add t (add r row))
+  near-moved =
+      record {
+        coded = values-coded (add t (add r row)) moved-length (add-bytes t (add r row) (near .coded .bytes) (add-bytes r row br brow)) moved-values;
+        close = omega (arith, moved-distance, near .close);
+      }
+
+-- ---- what turns r into s, added to another row
+
+module _ (r s : List ℕ) (lr : length r ≡ 255) (ls : length s ≡ 255) (close : distance r s ≤ 8) where
+  abbrev n : ℕ
+  n = length (differing r s)
+
+  abbrev at : ℕ → ℕ
+  at k = entries (padded (differing r s)) k
+
+  abbrev amount : ℕ → ℕ
+  amount k = entries (padded (differences r s)) k
+
+  abbrev differ : ℕ → Bool
+  differ a = not (eqb (byteAt r a) (byteAt s a))
+
+  few : n ≤ 8
+  few = omega (arith, differing-distance r s lr ls)
+
+  listing : Rises differ n (λ k. getD (differing r s) k 0)
+  unfolding differing
+  listing = passing-rises differ
+
+  at-is : (k : ℕ) → k < n → at k ≡ getD (differing r s) k 0
+  at-is k h = getD-listed-0 (λ k. getD (differing r s) k 0) 16 k 0 (omega (arith, few))
+
+  amount-is : (k : ℕ) → k < n → amount k ≡ sum (byteAt r (at k)) (byteAt s (at k))
+  unfolding differences
+  amount-is k h =
+      getD-listed-0 (λ k. getD (differences r s) k 0) 16 k 0 (omega (arith, few))
+      ∙ getD-map (λ (a : ℕ). sum (byteAt r a) (byteAt s a)) (differing r s) k h
+      ∙ ap (λ (a : ℕ). sum (byteAt r a) (byteAt s a)) (sym (at-is k h))
+
+  ordered : Ordered n (padded (differing r s))
+  ordered =
+      record {
+        few = few;
+        below = λ k h. omega (arith, at-is k h, listing .below k h);
+        rising = λ j k b h. omega (arith, at-is j (omega arith), at-is k h, listing .rising j k b h);
+      }
+
+  -- elsewhere they agree
+  agree : (a : ℕ) → a < 255 → ((k : ℕ) → k < n → at k ≢ a) → byteAt r a ≡ byteAt s a
+  agree a b off = by (eqb (byteAt r a) (byteAt s a)) refl
+    where
+      by : (t : Bool) → eqb (byteAt r a) (byteAt s a) ≡ t → byteAt r a ≡ byteAt s a
+      by true e = eqb-true (byteAt r a) (byteAt s a) e
+      by false e = let k = listing .all a b (ap not e) in absurd (off (k .0) (k .1) (at-is (k .0) (k .1) ∙ k .2))
+
+  module _ (row : List ℕ) (lrow : length row ≡ 255) where
+    ring : (x y z : ℕ) → sum x (sum y z) ≡ sum z (sum y x)
+    ring x y z = simp (sum-comm, sum-left-comm)
+
+    there : (a : ℕ) → a < 255 → byteAt (mendedBy row at amount n) a ≡ sum (byteAt s a) (sum (byteAt r a) (byteAt row a))
+    there a b =
+        ⊎-elim
+        (λ (f : (k : ℕ) × (k < n) × (at k ≡ a)).
+        let k : ℕ = f .0 in
+        subst (λ (x : ℕ). byteAt (mendedBy row at amount n) x ≡ sum (byteAt s x) (sum (byteAt r x) (byteAt row x))) (f .2)
+        (mended-on row lrow at amount n (ordered .below) (ordered .rising) k (f .1)
+        ∙ ap (sum (byteAt row (at k))) (amount-is k (f .1)) ∙ ring (byteAt row (at k)) (byteAt r (at k)) (byteAt s (at k))))
+        (λ (o : (k : ℕ) → k < n → at k ≢ a).
+        mended-off row lrow at amount n (254 - a) (λ k h z. o k h (omega (arith, ordered .below k h)))
+        ∙ sym (ap (λ (x : ℕ). sum x (sum (byteAt r a) (byteAt row a))) (sym (agree a b o)) ∙ sum-again (byteAt r a) (byteAt row a)))
+        (somewhere at a n)
+
+    mended-moved : mendedBy row at amount n ≡ add s (add r row)
+    mended-moved =
+        let long : length (mendedBy row at amount n) ≡ 255 = mended-length row lrow at amount n in
+        let mid : length (add r row) ≡ 255 = length-add r row (omega arith) ∙ lrow in
+        ext-getD 0 (mendedBy row at amount n) (add s (add r row)) (long ∙ sym (length-add s (add r row) (omega arith) ∙ mid))
+        (λ i h.
+        let e : 254 - (254 - i) ≡ i = omega arith in
+        subst (λ (x : ℕ). getD (mendedBy row at amount n) x 0 ≡ getD (add s (add r row)) x 0) e
+        (there (254 - i) (omega arith)
+        ∙ sym (add-at s (add r row) (ls ∙ sym mid) (254 - (254 - i)) ∙ ap (sum (byteAt s (254 - i))) (add-at r row (lr ∙ sym lrow) (254 - (254 - i))))))
+
+-- ---- any row that leaves `rest`
+
+module _ (rest : List ℕ) (long : length rest ≡ 16) (bytes : Bytes rest) where
+  pub errata-ordered : (e : Errata) → e ≡ errataOf rest → Ordered (e .n) (e .at)
+  unfolding errataOf errataFor
+  errata-ordered e q = subst (λ (e : Errata). Ordered (e .n) (e .at)) (sym q) (by (repairOf (leaving rest)) refl)
+    where
+      by : (a : Repaired) → repairOf (leaving rest) ≡ a → Ordered (errataFor (leaving rest) a .n) (errataFor (leaving rest) a .at)
+      by (found s) f =
+          let near : Near (leaving rest) s = repair-near (leaving rest) s f in
+          ordered (leaving rest) s (leaving-length rest long) (near .coded .sized) (near .close)
+      by none f = record { few = omega arith; below = λ k h. absurd (not-suc-le-zero h); rising = λ j k b h. absurd (not-suc-le-zero h) }
+
+  module _ (row : List ℕ) (lrow : length row ≡ 255) (brow : Bytes row) (left : rest ≡ remainder 239 row) where
+    same : remainder 239 (leaving rest) ≡ remainder 239 row
+    same = sym (leaving-rest rest long) ∙ left
+
+    pub errata-found : (e : Errata) → e ≡ errataOf rest → e .fits ≡ true → repairOf row ≡ found (mendedBy row (entries (e .at)) (entries (e .values)) (e .n))
+    unfolding errataOf errataFor
+    errata-found e q =
+        subst (λ (e : Errata). e .fits ≡ true → repairOf row ≡ found (mendedBy row (entries (e .at)) (entries (e .values)) (e .n))) (sym q) (by (repairOf (leaving rest)) refl)
+      where
+        by : (a : Repaired) → repairOf (leaving rest) ≡ a → errataFor (leaving rest) a .fits ≡ true
+            → repairOf row ≡ found (mendedBy row (entries (errataFor (leaving rest) a .at)) (entries (errataFor (leaving rest) a .values)) (errataFor (leaving rest) a .n))
+        by (found s) f t =
+            let r : List ℕ = leaving rest in
+            let lr : length r ≡ 255 = leaving-length rest long in
+            let near : Near r s = repair-near r s f in
+            repair-found row (add s (add r row)) lrow brow (near-moved r row s lr lrow (leaving-bytes rest long bytes) brow same near)
+            ∙ ap found (sym (mended-moved r s lr (near .coded .sized) (near .close) row lrow))
+        by none f t = let z : _≡_ {A = ℕ} 0 1 = cc in absurd (omega arith)
+
+    pub errata-none : (e : Errata) → e ≡ errataOf rest → e .fits ≡ false → repairOf row ≡ none
+    unfolding errataOf errataFor
+    errata-none e q = subst (λ (e : Errata). e .fits ≡ false → repairOf row ≡ none) (sym q) (by (repairOf (leaving rest)) refl)
+      where
+        by : (a : Repaired) → repairOf (leaving rest) ≡ a → errataFor (leaving rest) a .fits ≡ false → repairOf row ≡ none
+        by (found s) f t = let z : _≡_ {A = ℕ} 0 1 = cc in absurd (omega arith)
+        by none f t =
+            repair-none row lrow brow
+            (λ t near. none-near (leaving rest) (leaving-length rest long) (leaving-bytes rest long bytes) f (add t (add row (leaving rest)))
+            (near-moved row (leaving rest) t lrow (leaving-length rest long) brow (leaving-bytes rest long bytes) (sym same) near))

@@ -1,0 +1,131 @@
+-- `errata::find`: a row that leaves nothing is coded as it is. Of another the locator's roots are the places, the values are solved for there, and where they give all
+-- sixteen syndromes the mended row is coded.
+-- Assumes nothing.
+use mathlib.Core.Path.{_≡_, subst}
+use mathlib.Core.Bool.{Bool, true, false}
+use mathlib.Core.List.{List}
+use Prim.Native.Nat.{ℕ, _<_}
+use native.Mathlib.Nat.{le-refl}
+use lib.ListN.{length, getD, replicate}
+use borrow.Author.Tests.{not-true, not-false}
+use Rattle.code.specs.Code.{Bytes}
+use Rattle.code.proofs.Lists.{bytes-of}
+use Rattle.errata.specs.InnerErrata.{Rooted, Nought, Searched}
+use Rattle.errata.proofs.Shares.{down, down-placed, syndromed, shared-agrees}
+use Rattle.errata.proofs.Locators.{rooted}
+use Rattle.errata.proofs.Mending.{nothing-left, searched}
+use Rattle.errata.proofs.Keeping.{keeping-start, keeping-end}
+use Rattle.errata.proofs.Leaving.{found-told, none-told}
+use borrow.Author.Needs.{needs}
+use Rattle.errata.proofs.find.Statement.{statement}
+use Rattle.errata.proofs.find.Tie as tie
+
+sixteen : (c : tie.Start) → length (c .args .rest) ≡ 16
+sixteen c = search needs
+
+rest-bytes : (c : tie.Start) → Bytes (c .args .rest)
+rest-bytes c = bytes-of (c .args .rest) (λ i. let fit : mir.Val.Fits mir.Syntax.w8 (getD (c .args .rest) i 0) = search needs in fit .fits)
+
+is-nought-requires : tie.Need-is-nought-requires
+is-nought-requires c κs = tt
+
+returns : tie.Need-returns
+returns c =
+    let rest : List ℕ = c .before .before .args .rest in
+    found-told rest (sixteen (c .before .before)) (rest-bytes (c .before .before))
+    (nothing-left _ (replicate 16 0) (replicate 16 0) (sixteen (c .before .before)) (c .before .is-nought .ensures .yes (c .if1 .taken))) _
+    (keeping-end (keeping-start (replicate 16 0) (replicate 16 0) 0) (le-refl 0))
+
+powers-requires : tie.Need-powers-requires
+powers-requires c κs = tt
+
+logs-requires : tie.Need-logs-requires
+logs-requires c κs = tt
+
+add-terms-requires : tie.Need-add-terms-requires
+unfolding down
+add-terms-requires c κs = (down-placed, c .before .before .before .powers .ensures, c .before .before .logs .ensures)
+
+null-vector-requires : tie.Need-null-vector-requires
+null-vector-requires c κs = (c .before .before .before .before .powers .ensures, c .before .before .before .logs .ensures)
+
+find-requires : tie.Need-find-requires
+find-requires c κs = tt
+
+-- the places are those of the roots, which the null vector bounds
+module _ (c : tie.After-find) where
+  bytes : (i : ℕ) → getD (c .before .null-vector .result) i 0 < 256
+  bytes i = let fit : mir.Val.Fits mir.Syntax.w8 (getD (c .before .null-vector .result) i 0) = search (needs, c .before .null-vector .ok) in fit .fits
+
+  places : Rooted (c .before .null-vector .result) (c .find .result .n) (c .find .result .at)
+  places =
+      let null = c .before .null-vector in
+      rooted (null .result) (null .ensures .top) (null .ensures .short .sized) bytes (null .ensures .leading) (c .find .result) (c .find .ensures)
+
+solve-requires : tie.Need-solve-requires
+solve-requires c κs =
+    let logs = c .before .before .before .before .before .before in
+    (places (c .before) .placed, logs .before .powers .ensures, logs .logs .ensures)
+
+add-terms-requires-2 : tie.Need-add-terms-requires-2
+add-terms-requires-2 c κs =
+    let logs = c .before .before .before .before .before .before .before in
+    (places (c .before .before) .placed, logs .before .powers .ensures, logs .logs .ensures)
+
+is-nought-requires-2 : tie.Need-is-nought-requires-2
+is-nought-requires-2 c κs = tt
+
+-- what was tried, and whether it fits
+module _ (c : tie.After-is-nought2) where
+  found : (fits : Bool) → c .is-nought2 .result ≡ fits → Searched (c .before .before .before .before .before .before .before .before .before .before .before .before .before .args .rest) (c .before .before .before .before .find .result .n)
+      (c .before .before .before .before .find .result .at) (c .before .before .solve .result) fits
+  unfolding down
+  found fits e =
+      let solve = c .before .before in
+      let found = solve .before .before in
+      let terms = found .before .before in
+      let start = terms .before .before .before .before .before .before .before in
+      let values : List ℕ = solve .solve .result in
+      let value-fit : (i : ℕ) → mir.Val.Fits mir.Syntax.w8 (getD values i 0) = λ i. search needs in
+      let places : Rooted (found .before .null-vector .result) (found .find .result .n) (found .find .result .at) = places found in
+      searched
+      (record {
+        syndromes = syndromed (sixteen start) (terms .add-terms .ensures);
+        bytes = bytes found;
+        null = found .before .null-vector .ensures;
+        rooted = places;
+        value-bytes = λ i. value-fit i .fits;
+        solved = solve .solve .ensures;
+      }) fits (shared-agrees (c .before .add-terms2 .ensures) fits (subst (Nought (c .before .add-terms2 .result)) e (c .is-nought2 .ensures)))
+
+returns-2 : tie.Need-returns-2
+returns-2 c =
+    let start = c .before .before .before .before .before .before .before .before .before .before .before .before .before .before in
+    none-told (start .args .rest) (sixteen start) (rest-bytes start) (found (c .before) false (not-true _ (c .if2 .taken)))
+
+keep-requires : tie.Need-keep-requires
+keep-requires c κs = places (c .before .before .before .before .before) .ordered
+
+returns-3 : tie.Need-returns-3
+returns-3 c =
+    let nought = c .before .before in
+    let start = nought .before .before .before .before .before .before .before .before .before .before .before .before .before in
+    found-told (start .args .rest) (sixteen start) (rest-bytes start) (found nought true (not-false _ (c .before .if2 .left))) (c .keep .result) (c .keep .ensures)
+
+pub find-spec : {M : Type 1} → statement M
+find-spec =
+    tie.close
+    (tie.spec
+    is-nought-requires
+    returns
+    powers-requires
+    logs-requires
+    add-terms-requires
+    null-vector-requires
+    find-requires
+    solve-requires
+    add-terms-requires-2
+    is-nought-requires-2
+    returns-2
+    keep-requires
+    returns-3)

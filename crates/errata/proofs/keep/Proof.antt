@@ -1,0 +1,54 @@
+-- `keep` takes one place after the other.
+-- Assumes nothing.
+use Prim.Native.Nat.{_-_}
+use native.Mathlib.Nat.{lt-of-lt-of-le}
+use native.Mathlib.Omega.{arith}
+use Rattle.errata.proofs.Stores.{next-nearer}
+use Rattle.errata.proofs.Keeping.{Keeping, keeping-start, keeping-more, keeping-end}
+use Rattle.errata.proofs.keep.Statement.{statement}
+use Rattle.errata.proofs.keep.Tie as tie
+
+abbrev Inv-loop : tie.InvT-loop
+Inv-loop n at values out₀ k₀ out k = Keeping at values n k out
+
+abbrev μ-loop : tie.MeasureT-loop
+μ-loop n at values out₀ k₀ out k = n - k
+
+loop-holds : tie.Need-loop-holds Inv-loop μ-loop
+loop-holds c = keeping-start _ _ _
+
+array-read-put : tie.Need-array-read-put Inv-loop μ-loop
+array-read-put c = omega (arith, c .before .before .pre .few)
+
+array-read-put-2 : tie.Need-array-read-put-2 Inv-loop μ-loop
+array-read-put-2 c = omega (arith, c .before .before .pre .few)
+
+put-requires : tie.Need-put-requires Inv-loop μ-loop
+put-requires c κs = omega (arith, c .before .before .pre .few, c .before .loop .inv .few)
+
+add-k : tie.Need-add-k Inv-loop μ-loop
+add-k c = record { fits = omega (arith, c .before .before .before .pre .few) }
+
+loop-less : tie.Need-loop-less Inv-loop μ-loop
+loop-less c = next-nearer (c .before .loop-test .taken)
+
+loop-again : tie.Need-loop-again Inv-loop μ-loop
+loop-again c = keeping-more (c .before .before .loop .inv) (c .before .before .before .pre) (c .before .loop-test .taken) (c .put .ensures)
+
+returns : tie.Need-returns Inv-loop μ-loop
+returns c = keeping-end (c .before .loop .inv) (c .loop-test .left)
+
+pub keep-spec : {M : Type 1} → statement M
+keep-spec =
+    tie.close
+    (tie.spec
+    Inv-loop
+    μ-loop
+    loop-holds
+    array-read-put
+    array-read-put-2
+    put-requires
+    add-k
+    loop-less
+    loop-again
+    returns)

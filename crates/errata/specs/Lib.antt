@@ -1,0 +1,4 @@
+pub mod Errata
+pub mod InnerSums
+pub mod InnerNull
+pub mod InnerErrata

@@ -1,0 +1,96 @@
+// What is to be added to a row so that it becomes the coded row within eight bytes, by what the row leaves when the generator divides it (document 01, section 3,
+// and demand 2). A place is told by its exponent a: byte 254 - a of a row has the locator α^a.
+ghost use mathlib.Core.Path.{_≡_};
+ghost use Prim.Native.Nat.{_<_};
+ghost use Rattle.errata.specs.Errata.{errataOf};
+ghost use Rattle.errata.specs.InnerErrata.{Ordered, Put, Kept};
+
+mod factors;
+mod kernel;
+mod terms;
+mod values;
+
+// Whether there is a coded row within eight bytes; then the n places at which to add something, in increasing order, and what, which is never 0. Zeros behind
+// them, and in all of it where there is no such row.
+pub struct Errata {
+    pub fits: bool,
+    pub n: usize,
+    pub at: [u8; 16],
+    pub values: [u8; 16],
+}
+
+// What is to be added to any row that leaves `rest`. To one that leaves nothing, which is coded, nothing is.
+pub fn find(rest: [u8; 16]) -> Errata
+    ensures { λ r. ⌜ r ≡ errataOf rest ⌝ }
+{
+    let none = [0u8; 16];
+    if terms::is_nought(rest) {
+        return Errata {
+            fits: true,
+            n: 0,
+            at: none,
+            values: none,
+        };
+    }
+    let powers = field::powers();
+    let logs = field::logs();
+    let p = &powers;
+    let l = &logs;
+    // The syndromes: the remainder's bytes are the coefficients of the powers 15 to 0.
+    let s = terms::add_terms(
+        none,
+        [15u8, 14, 13, 12, 11, 10, 9, 8, 7, 6, 5, 4, 3, 2, 1, 0],
+        rest,
+        16,
+        p,
+        l,
+    );
+    let places = roots::find(kernel::null_vector(s, p, l));
+    let at = places.at;
+    let values = values::solve(s, at, places.n, p, l);
+    if !terms::is_nought(terms::add_terms(s, at, values, places.n, p, l)) {
+        return Errata {
+            fits: false,
+            n: 0,
+            at: none,
+            values: none,
+        };
+    }
+    keep(at, values, places.n)
+}
+
+// Those of the n places at which there is something to add.
+fn keep(at: [u8; 16], values: [u8; 16], n: usize) -> Errata
+    requires { ⌜ Ordered n at ⌝ }
+    ensures { λ r. ⌜ Kept at values n r ⌝ }
+{
+    let mut out = Errata {
+        fits: true,
+        n: 0,
+        at: [0u8; 16],
+        values: [0u8; 16],
+    };
+    let mut k: usize = 0;
+    while k < n {
+        let next = put(out, at[k], values[k]);
+        out = next;
+        k += 1;
+    }
+    out
+}
+
+// One place more, unless nothing is to be added there.
+fn put(e: Errata, a: u8, c: u8) -> Errata
+    requires { ⌜ e .n < 16 ⌝ }
+    ensures { λ r. ⌜ Put e a c r ⌝ }
+{
+    if c == 0 {
+        return e;
+    }
+    let i = e.n;
+    let mut out = e;
+    out.at[i] = a;
+    out.values[i] = c;
+    out.n = i + 1;
+    out
+}
