@@ -26,7 +26,8 @@ use Rattle.packet.proofs.Laws.{header-length, header-bytes, marked-header, fiel
 use Rattle.settings.proofs.Laws.{SettingsFacts, settings-facts}
 use Rattle.layout.specs.Layout.{tablesOf, rowOf, codedFile, undone}
 use Rattle.layout.proofs.Coded.{length-coded, coded-bytes, coded-row, row-coded, undone-file}
-use Rattle.pack.specs.Pack.{codedLength, countOf, sentOf, payloadOf, fourBytes, sealed, fieldsFor, headerFor, packetOf}
+use Rattle.pack.specs.Pack.{codedLength, countOf, sentOf, payloadOf, fieldsFor, headerFor, packetOf}
+use Rattle.sealing.specs.Sealing.{fourBytes, sealed}
 
 -- ---- settings that fit
 

@@ -12,7 +12,9 @@ use lib.Seq.{sets, length-sets, take-at}
 use Rattle.ground.proofs.Writing.{sets-append, sets-front, lent-sets}
 use Rattle.crc.specs.Crc.{crc32Of}
 use Rattle.refusals.specs.declared.Refusal.the-variants.{Output}
-use Rattle.pack.specs.Pack.{Packing, refusing, fourBytes, sealed, written, Packs}
+use Rattle.pack.specs.Pack.{Packing, refusing, written, Packs}
+use Rattle.sealing.specs.Sealing.{fourBytes, sealed, sealedAt}
+use Rattle.sealing.proofs.Laws.{seal-told}
 use Rattle.pack.specs.declared.Packed.the-variants.{Written, Refused}
 
 -- ---- the answers
@@ -42,7 +44,7 @@ module _ (out h b : List ℕ) (size : ℕ) (eh : length h ≡ 14) (eb : length b
       ap (putMid 14 (length head - 14) head) f ∙ lent-sets 14 b head 0 (omega arith) ∙ ap₂ (λ (x : List ℕ) (y : ℕ). sets x y b) e z ∙ sym (sets-append out 0 h b)
 
   -- and the CRC behind them
-  pub packet-stored : (body x : List ℕ) → body ≡ sets out 0 (h ++ b) → x ≡ sets body (14 + size) (fourBytes (crc32Of (take (14 + size) body)))
+  pub packet-stored : (body x : List ℕ) → body ≡ sets out 0 (h ++ b) → x ≡ sealedAt body (14 + size)
       → x ≡ sealed (h ++ b) ++ drop (length (sealed (h ++ b))) out
   unfolding sealed
   packet-stored body x e f =
@@ -50,6 +52,8 @@ module _ (out h b : List ℕ) (size : ℕ) (eh : length h ≡ 14) (eb : length b
       let t : take (14 + size) body ≡ h ++ b = ap (take (14 + size)) (e ∙ sets-front out (h ++ b) r) ∙ take-at (h ++ b) (drop (length (h ++ b)) out) (14 + size) both in
       let c : List ℕ = fourBytes (crc32Of (h ++ b)) in
       let z : 14 + size ≡ 0 + length (h ++ b) = omega (arith, both) in
-      f ∙ ap (λ (y : List ℕ). sets body (14 + size) (fourBytes (crc32Of y))) t
+      let l : length body ≡ length out = ap length e ∙ length-sets out 0 (h ++ b) in
+      f ∙ seal-told body (14 + size) (omega arith)
+      ∙ ap (λ (y : List ℕ). sets body (14 + size) (fourBytes (crc32Of y))) t
       ∙ ap₂ (λ (y : List ℕ) (k : ℕ). sets y k c) e z ∙ sym (sets-append out 0 (h ++ b) c)
       ∙ sets-front out ((h ++ b) ++ c) (omega (arith, both, length-append (h ++ b) c))

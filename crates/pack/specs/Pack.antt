@@ -2,17 +2,17 @@
 -- Assumes nothing.
 use mathlib.Core.Path.{_≡_}
 use mathlib.Core.Bool.{cond, not, _||_}
-use mathlib.Core.List.{List, [], _∷_, _++_}
-use Prim.Native.Nat.{ℕ, _+_, _*_, _/_, _%_}
+use mathlib.Core.List.{List, _++_}
+use Prim.Native.Nat.{ℕ, _+_, _*_}
 use lib.Dec.{eqb, leb, ltb}
 use lib.ListN.{length, take, drop}
 use Rattle.ground.specs.Lists.{ceil}
-use Rattle.crc.specs.Crc.{crc32Of}
 use Rattle.refusals.specs.declared.Refusal.{Refusal}
 use Rattle.refusals.specs.declared.Refusal.the-variants.{Number, Field, Size, Count, Output}
 use Rattle.packet.specs.declared.Packet.{Packet}
 use Rattle.settings.specs.declared.Settings.{Settings}
 use Rattle.packet.specs.Packet.{headerOf}
+use Rattle.sealing.specs.Sealing.{sealed}
 use Rattle.settings.specs.Settings.{settingsFit, rowsHeld}
 use Rattle.layout.specs.Layout.{tablesOf, codedFile}
 use Rattle.pack.specs.declared.Packed.{Packed}
@@ -37,14 +37,6 @@ sentOf g file = cond (eqb (g .protection) 0) file (codedFile (g .rows) file)
 -- the payload of packet n: P bytes, and what is left in the last
 unfoldable pub payloadOf : Settings → List ℕ → ℕ → List ℕ
 payloadOf g file n = take (g .size) (drop (n * g .size) (sentOf g file))
-
--- a number as four bytes, the most significant first
-abbrev pub fourBytes : ℕ → List ℕ
-fourBytes v = (v / 16777216 % 256) ∷ (v / 65536 % 256) ∷ (v / 256 % 256) ∷ (v % 256) ∷ []
-
--- bytes with their CRC behind them
-unfoldable pub sealed : List ℕ → List ℕ
-sealed b = b ++ fourBytes (crc32Of b)
 
 -- the fields of packet n, with a payload of k bytes
 abbrev pub fieldsFor : Settings → ℕ → ℕ → ℕ → Packet

@@ -5,9 +5,8 @@ ghost use Prim.Native.Nat.{_+_, _≤_, _<_, min};
 ghost use lib.ListN.{length, take, drop};
 ghost use lib.Seq.{sets};
 ghost use Rattle.ground.specs.Lists.{ceil};
-ghost use Rattle.crc.specs.Crc.{crc32Of};
 ghost use Rattle.settings.specs.Settings.{settingsFit, house};
-ghost use Rattle.pack.specs.Pack.{largestFile, codedLength, countOf, payloadOf, fourBytes, headerFor, packetOf, written, packOf, Packs};
+ghost use Rattle.pack.specs.Pack.{largestFile, codedLength, countOf, payloadOf, headerFor, packetOf, written, packOf, Packs};
 ghost use Rattle.pack.specs.Inner.{payloadLength, planOf, Packable, codedRows, RunFits};
 use packet::Packet;
 use refusals::Refusal;
@@ -145,18 +144,6 @@ fn put_payload(file: &[u8], settings: Settings, number: u32, size: usize, out: &
     put_coded(file, settings.rows as usize, from / 255, size / 255, out);
 }
 
-// The CRC of the first n bytes, behind them.
-fn seal(out: &mut [u8], n: usize)
-    requires { ⌜ n + 4 ≤ length (now out) ⌝ }
-    ensures { λ r. ⌜ now (out .exit) ≡ sets (now (out .entry)) n (fourBytes (crc32Of (take n (now (out .entry))))) ⌝ }
-{
-    let sum = crc::crc32(&out[..n]);
-    out[n] = (sum / 16777216 % 256) as u8;
-    out[n + 1] = (sum / 65536 % 256) as u8;
-    out[n + 2] = (sum / 256 % 256) as u8;
-    out[n + 3] = (sum % 256) as u8;
-}
-
 // Header, payload and CRC of packet `number`, whose payload has `size` bytes; refused, and nothing written, where `out` is too short. The payload is written
 // straight behind the header.
 fn put_packet(
@@ -177,7 +164,7 @@ fn put_packet(
     }
     put_header(settings, number, count, size, out);
     put_payload(file, settings, number, size, &mut out[body..]);
-    seal(out, end);
+    sealing::seal(out, end);
     Packed::Written(end + Packet::CRC)
 }
 

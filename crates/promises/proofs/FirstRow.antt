@@ -41,7 +41,7 @@ use Rattle.promises.specs.Statements.{Protected, Copy, rowIn, Fair, AllF
 use Rattle.refusals.specs.declared.Refusal.the-variants.{Crc, Missing}
 use lib.Dec.{ltb}
 use Rattle.pack.proofs.Laws.{fieldsOf}
-use Rattle.record.specs.Mend.{agrees}
+use Rattle.sealing.specs.Sealing.{agrees}
 use Rattle.record.specs.Offer.{Offering, storing, putInto, put, refuse, judgeMended, judgeBy, offerJudged, offerBy}
 use Rattle.promises.specs.Wrong.{firstRowOnly, mendingFirst}
 use Rattle.promises.proofs.Judged.{not-different, copy-reads}

@@ -17,7 +17,8 @@ use Rattle.pack.specs.Pack.{countOf, payloadOf, packetOf}
 use Rattle.pack.proofs.Laws.{fieldsOf, packet-payload, packet-front, packet-crc, packet-sent, packet-reads, payload-most, payload-coded}
 use Rattle.places.specs.Places.{placeOf}
 use Rattle.places.proofs.Truth.{and-join}
-use Rattle.record.specs.Mend.{payloadIn, crcIn, agrees}
+use Rattle.record.specs.Mend.{payloadIn}
+use Rattle.sealing.specs.Sealing.{crcIn, agrees}
 use Rattle.record.specs.Offer.{put, judge, differs}
 use Rattle.record.proofs.MendLaws.{Altered, Intact, read-copy}
 use Rattle.record.proofs.OfferFacts.{read-known, read-resource, SameFile, same-serves}

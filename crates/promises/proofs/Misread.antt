@@ -16,9 +16,10 @@ use Rattle.code.specs.Repair.{checksOf}
 use Rattle.code.proofs.Exact.{repair-found}
 use Rattle.layout.specs.Layout.{infoOf, rowOf, codedFile, undone}
 use Rattle.layout.proofs.Coded.{undone-coded}
-use Rattle.pack.specs.Pack.{fourBytes}
+use Rattle.sealing.specs.Sealing.{fourBytes}
 use Rattle.code.specs.Mend.{whole, behind, mendRows}
-use Rattle.record.specs.Mend.{mendedIn, agrees}
+use Rattle.record.specs.Mend.{mendedIn}
+use Rattle.sealing.specs.Sealing.{agrees}
 use Rattle.readout.specs.Hand.{handRows}
 use Rattle.readout.proofs.HandLaws.{rows-coded}
 use Rattle.promises.proofs.Turned.{zero-row, wrong-row, wrong-near, wrong-bytes}

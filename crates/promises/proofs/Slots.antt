@@ -32,7 +32,8 @@ use Rattle.contents.proofs.Places.{reading-slots, storing-leaves, apart-meets}
 use Rattle.record.specs.declared.Offered.{Offered}
 use Rattle.record.specs.declared.Offered.the-variants.{Repeat}
 use Rattle.code.specs.Mend.{Mended, whole, broken}
-use Rattle.record.specs.Mend.{payloadIn, mendedIn, agrees}
+use Rattle.record.specs.Mend.{payloadIn, mendedIn}
+use Rattle.sealing.specs.Sealing.{agrees}
 use Rattle.record.specs.Offer.{differs, Judged, refuse, put, judgeMended, judge, judgeBy, same, putInto, Offering, storing, offerJudged, offerOf}
 use Rattle.record.specs.Told.{offeredTold}
 use Rattle.record.proofs.SlotLaws.{same-equal}

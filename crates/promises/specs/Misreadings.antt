@@ -20,7 +20,8 @@ use Rattle.places.specs.Places.{placeNamed}
 use Rattle.contents.specs.Contents.{slotAt}
 use Rattle.contents.specs.Slots.{stored}
 use Rattle.code.specs.Mend.{Mended, whole}
-use Rattle.record.specs.Mend.{payloadIn, mendedIn, agrees}
+use Rattle.record.specs.Mend.{payloadIn, mendedIn}
+use Rattle.sealing.specs.Sealing.{agrees}
 use Rattle.record.specs.Offer.{Judged, refuse, put, judge}
 use Rattle.promises.specs.Calls.{State, Program, step, telling}
 use Rattle.promises.specs.Calls.Call.{offering}

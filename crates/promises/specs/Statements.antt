@@ -24,7 +24,8 @@ use Rattle.places.specs.declared.Found.{Found}
 use Rattle.places.specs.declared.Found.the-variants.{At, Nothing}
 use Rattle.places.specs.Places.{unused, inUse, names as holds, good, placeOf, coverOf}
 use Rattle.contents.specs.Contents.{Slot as Content, holding, slotOf, contents, anyWrong, filled, lowestEmpty}
-use Rattle.record.specs.Mend.{payloadIn, agrees}
+use Rattle.record.specs.Mend.{payloadIn}
+use Rattle.sealing.specs.Sealing.{agrees}
 use Rattle.record.specs.Offer.{differs, judge, put}
 use Rattle.promises.specs.Calls.{Call, Answer, telling, State, Program, run, fresh, names, about}
 use Rattle.promises.specs.Calls.Call.{packing, opening, offering, asking, handing, closing}

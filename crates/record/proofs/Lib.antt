@@ -1,5 +1,4 @@
 pub mod SlotLaws
-pub mod CrcLaws
 pub mod MendLaws
 pub mod OfferCases
 pub mod OfferFacts

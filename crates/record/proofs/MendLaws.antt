@@ -15,7 +15,8 @@ use Rattle.code.proofs.Mend.{rowOf, bytes-split, mend-whole, mend-length}
 use Rattle.packet.specs.Packet.{readOf}
 use Rattle.packet.proofs.Laws.{fields-first}
 use Rattle.code.specs.Mend.{whole}
-use Rattle.record.specs.Mend.{payloadIn, mendedIn, crcIn, agrees}
+use Rattle.record.specs.Mend.{payloadIn, mendedIn}
+use Rattle.sealing.specs.Sealing.{crcIn, agrees}
 use Rattle.record.proofs.OfferCases.{payload-length, mended-plain, mended-rows}
 
 pub mended-length : (t : ℕ) (q b : List ℕ) → 18 ≤ length q → (t ≡ 0) ⊎ ((length q - 18) % 255 ≡ 0) → mendedIn t q ≡ whole b → length b ≡ length q - 18

@@ -31,7 +31,8 @@ use Rattle.contents.proofs.Places.{reading-slots, storing-sets, storing-leaves,
 use Rattle.record.specs.declared.Offered.{Offered}
 use Rattle.record.specs.declared.Offered.the-variants.{Stored, Repeat, Refused}
 use Rattle.code.specs.Mend.{Mended, whole, broken}
-use Rattle.record.specs.Mend.{payloadIn, mendedIn, agrees}
+use Rattle.record.specs.Mend.{payloadIn, mendedIn}
+use Rattle.sealing.specs.Sealing.{agrees}
 use Rattle.record.specs.Offer.{differs, Judged, refuse, put, judgeMended, judge, same, putInto, Offering, storing, offerJudged, offerOf, judgeBy}
 use Rattle.record.proofs.OfferCases.{said, payload-length, judge-puts, offer-bad, offer-unread, offer-unknown, offer-placed}
 use Rattle.record.proofs.OfferFacts.{Read, read-known, read-resource, SameFile, same-file, same-serves, slot-below}

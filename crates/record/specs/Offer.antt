@@ -21,7 +21,8 @@ use Rattle.contents.specs.Contents.{Slot as Content, wrong, holding, slotAt, sl
 use Rattle.record.specs.declared.Offered.{Offered}
 use Rattle.record.specs.declared.Offered.the-variants.{Stored, Repeat}
 use Rattle.code.specs.Mend.{Mended, whole, broken}
-use Rattle.record.specs.Mend.{payloadIn, mendedIn, agrees}
+use Rattle.record.specs.Mend.{payloadIn, mendedIn}
+use Rattle.sealing.specs.Sealing.{agrees}
 
 -- type, update, count, protection, or M under protection 1, differs from the place
 unfoldable pub differs : Place → Packet → Bool

@@ -12,7 +12,6 @@ ghost use Rattle.code.specs.Mend.{mendRows};
 ghost use Rattle.record.specs.Offer.{differs, judgeMended, judge, offerJudged, offerOf};
 ghost use Rattle.record.specs.InnerOffer.{Comes, judgeCrc, refusalIn};
 use super::Offered;
-use super::mend;
 use super::slots;
 use packet::Packet;
 use packet::Reading;
@@ -88,7 +87,7 @@ fn offer_rows(p: Place, store: &mut [u8], number: u32, packet: &[u8], payload: &
         return Offered::Refused(refusal);
     }
     let mended = &buffer[..n];
-    put_in(p, store, number, mended, mend::crc_agrees(packet, mended))
+    put_in(p, store, number, mended, sealing::agrees(packet, mended))
 }
 
 // A packet that was read, at the place that holds its resource.
@@ -110,7 +109,7 @@ fn offer_at(p: Place, store: &mut [u8], fields: Packet, packet: &[u8]) -> Offere
             store,
             fields.number,
             payload,
-            mend::crc_agrees(packet, payload),
+            sealing::agrees(packet, payload),
         );
     }
     offer_rows(p, store, fields.number, packet, payload)

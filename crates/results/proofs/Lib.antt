@@ -10,6 +10,7 @@ pub mod Errata
 pub mod Repair
 pub mod Single
 pub mod Packet
+pub mod Sealing
 pub mod Settings
 pub mod Pack
 pub mod Places

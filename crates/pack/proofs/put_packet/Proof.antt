@@ -44,7 +44,7 @@ put-payload-requires : tie.Need-put-payload-requires
 put-payload-requires c κs = search needs
 
 seal-requires : tie.Need-seal-requires
-seal-requires c κs = omega arith
+seal-requires c κs = tt
 
 add-t10 : tie.Need-add-t10
 add-t10 c = omega arith

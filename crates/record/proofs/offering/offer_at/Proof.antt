@@ -10,6 +10,7 @@ use Rattle.places.proofs.Facts.{PlaceFacts, place-facts}
 use Rattle.contents.specs.Contents.{slotAt}
 use Rattle.record.specs.Mend.{payloadIn}
 use Rattle.record.specs.Offer.{differs, offerJudged}
+use Rattle.sealing.proofs.Laws.{agrees-long}
 use Rattle.record.proofs.OfferCases.{told, come, payload-cut, rows-cut, judge-other, judge-wide, offer-as-it-came, offer-repaired}
 use Rattle.record.proofs.OfferFacts.{slot-room}
 use Rattle.record.proofs.offering.offer_at.Statement.{statement}
@@ -18,6 +19,9 @@ use Rattle.record.proofs.offering.offer_at.Tie as tie
 -- what the packet and the place are known to be
 sent : (c : tie.After-shared-slice-known) → SentFacts (c .before .before .args .packet .now) (c .before .before .args .fields)
 sent c = read-sent _ _ (λ i. c .shared-slice-known .given i .fits) (c .before .before .pre .0)
+
+headed : (c : tie.After-shared-slice-known) → 14 ≤ length (c .before .before .args .packet .now)
+headed c = let s = sent c in omega arith
 
 place : (c : tie.Start) → PlaceFacts (length (c .args .store .now)) (c .args .p)
 place c = place-facts _ _ (c .pre .1) (c .pre .2)
@@ -57,8 +61,8 @@ returns-2 c =
     let q = c .before .before .before .before .before .before .before .args .packet .now in
     told (ap (offerJudged _ _) (judge-wide _ _ q (alike (c .before .before .before)) (omega (arith, ap length (payload-cut q)))))
 
-crc-agrees-requires : tie.Need-crc-agrees-requires
-crc-agrees-requires c κs = let s = sent (c .before .before .before .before .before .before .before .before) in omega arith
+agrees-requires : tie.Need-agrees-requires
+agrees-requires c κs = tt
 
 put-in-requires : tie.Need-put-in-requires
 put-in-requires c κs = (room (c .before .before .before .before .before .before .before), omega arith)
@@ -69,7 +73,7 @@ same-length c = omega arith
 returns-3 : tie.Need-returns-3
 returns-3 c =
     let q = c .before .before .before .before .before .before .before .before .before .before .before .before .before .before .args .packet .now in
-    come (offer-as-it-came _ _ q (alike (c .before .before .before .before .before .before .before .before .before .before)) _ (narrow (c .before .before .before .before .before .before .before)) (c .before .before .before .before .before .if3 .taken) _ (c .before .before .before .crc-agrees .ensures)) (c .before .before .put-in .ensures)
+    come (offer-as-it-came _ _ q (alike (c .before .before .before .before .before .before .before .before .before .before)) _ (narrow (c .before .before .before .before .before .before .before)) (c .before .before .before .before .before .if3 .taken) _ (c .before .before .before .agrees .ensures ∙ agrees-long q _ (headed (c .before .before .before .before .before .before .before .before .before .before .before .before)))) (c .before .before .put-in .ensures)
 
 offer-rows-requires : tie.Need-offer-rows-requires
 offer-rows-requires c κs =
@@ -97,7 +101,7 @@ offer-at-spec =
     part-payload-end
     cast-if2
     returns-2
-    crc-agrees-requires
+    agrees-requires
     put-in-requires
     same-length
     returns-3

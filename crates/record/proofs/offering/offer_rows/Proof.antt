@@ -10,6 +10,7 @@ use Rattle.repair.specs.Repair.{mendingOf, Mends}
 use Rattle.repair.proofs.AllRows.{mend-accepted}
 use Rattle.code.specs.Mend.{whole}
 use Rattle.record.specs.Offer.{offerJudged}
+use Rattle.sealing.proofs.Laws.{agrees-long}
 use Rattle.record.proofs.OfferCases.{told, come, copied-part, rows-broken, mended-crc}
 use Rattle.record.proofs.offering.offer_rows.Statement.{statement}
 use Rattle.record.proofs.offering.offer_rows.Tie as tie
@@ -72,8 +73,8 @@ slice-aggregate-mended c =
     let m = c .before .before .before .before in
     sym (ap length (front m (drop (length (b (copied m))) (copied m .copy-in .last .0))) ∙ long m)
 
-crc-agrees-requires : tie.Need-crc-agrees-requires
-crc-agrees-requires c κs = omega arith
+agrees-requires : tie.Need-agrees-requires
+agrees-requires c κs = tt
 
 put-in-requires : tie.Need-put-in-requires
 put-in-requires c κs =
@@ -91,7 +92,7 @@ returns-2 c =
     (ap (offerJudged (a .p) (a .store .now))
     (mended-crc (a .number) (a .packet .now) _ _
     (mend-accepted (b (copied m)) (c .before .before .before .before .before .before .before .before .before .before .before .before .before .before .before .before .before .pre .4) (c .before .before .before .before .before .before .before .before .before .before .before .before .before .before .before .before .before .pre .3) _ _ (mended m) (c .before .before .before .before .before .before .enum-told .given .1) ∙ ap whole (sym (front m _)))
-    _ (c .before .before .before .crc-agrees .ensures)))
+    _ (c .before .before .before .agrees .ensures ∙ agrees-long (a .packet .now) _ (c .before .before .before .before .before .before .before .before .before .before .before .before .before .before .before .before .before .pre .1))))
     (c .before .before .put-in .ensures)
 
 pub offer-rows-spec : {M : Type 1} → statement M
@@ -108,7 +109,7 @@ offer-rows-spec =
     enum-told
     array-share-prefix-buffer
     slice-aggregate-mended
-    crc-agrees-requires
+    agrees-requires
     put-in-requires
     same-length
     returns-2)

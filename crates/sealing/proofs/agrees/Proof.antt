@@ -1,17 +1,20 @@
--- The bytes as sent are one number. The header goes into the register and then the payload, by one table that keeps the rule: what is left is the CRC of
+-- `agrees`: the bytes as sent are one number. The header goes into the register and then the payload, by one table that keeps the rule: what is left is the CRC of
 -- both, and it is compared with the one sent.
 use mathlib.Core.Path.{refl, sym, _∙_}
 use Prim.Native.Nat.{ℕ, _-_, _<_}
 use native.Mathlib.Omega.{arith}
 use lib.ListN.{length, getD}
 use lib.Seq.{length-take-le}
-use Rattle.record.proofs.CrcLaws.{crc-fed, agrees-told}
-use Rattle.record.proofs.mend.crc_agrees.Statement.{statement}
-use Rattle.record.proofs.mend.crc_agrees.Tie as tie
+use Rattle.sealing.proofs.Laws.{crc-fed, agrees-short, agrees-told}
+use Rattle.sealing.proofs.agrees.Statement.{statement}
+use Rattle.sealing.proofs.agrees.Tie as tie
 
 -- byte k from the packet's end
 last : (c : tie.After-shared-slice-known) (k : ℕ) → getD (c .before .args .packet .now) (length (c .before .args .packet .now) - k) 0 < 256
 last c k = c .shared-slice-known .given (length (c .before .args .packet .now) - k) .fits
+
+returns : tie.Need-returns
+returns c = agrees-short _ _ (omega arith)
 
 sub-sent : tie.Need-sub-sent
 sub-sent c = omega arith
@@ -20,10 +23,10 @@ shared-slice-read-sent : tie.Need-shared-slice-read-sent
 shared-slice-read-sent c = omega arith
 
 cast-sent : tie.Need-cast-sent
-cast-sent c = omega (arith, last (c .before .before) 4)
+cast-sent c = omega (arith, last (c .before .before .before) 4)
 
 mul-sent : tie.Need-mul-sent
-mul-sent c = omega (arith, last (c .before .before) 4)
+mul-sent c = omega (arith, last (c .before .before .before) 4)
 
 sub-sent-2 : tie.Need-sub-sent-2
 sub-sent-2 c = omega arith
@@ -32,13 +35,13 @@ shared-slice-read-sent-2 : tie.Need-shared-slice-read-sent-2
 shared-slice-read-sent-2 c = omega arith
 
 cast-sent-2 : tie.Need-cast-sent-2
-cast-sent-2 c = omega (arith, last (c .before .before .before) 3)
+cast-sent-2 c = omega (arith, last (c .before .before .before .before) 3)
 
 mul-sent-2 : tie.Need-mul-sent-2
-mul-sent-2 c = omega (arith, last (c .before .before .before) 3)
+mul-sent-2 c = omega (arith, last (c .before .before .before .before) 3)
 
 add-sent : tie.Need-add-sent
-add-sent c = omega (arith, last (c .before .before .before) 4, last (c .before .before .before) 3)
+add-sent c = omega (arith, last (c .before .before .before .before) 4, last (c .before .before .before .before) 3)
 
 sub-sent-3 : tie.Need-sub-sent-3
 sub-sent-3 c = omega arith
@@ -47,13 +50,13 @@ shared-slice-read-sent-3 : tie.Need-shared-slice-read-sent-3
 shared-slice-read-sent-3 c = omega arith
 
 cast-sent-3 : tie.Need-cast-sent-3
-cast-sent-3 c = omega (arith, last (c .before .before .before .before) 2)
+cast-sent-3 c = omega (arith, last (c .before .before .before .before .before) 2)
 
 mul-sent-3 : tie.Need-mul-sent-3
-mul-sent-3 c = omega (arith, last (c .before .before .before .before) 2)
+mul-sent-3 c = omega (arith, last (c .before .before .before .before .before) 2)
 
 add-sent-2 : tie.Need-add-sent-2
-add-sent-2 c = omega (arith, last (c .before .before .before .before) 4, last (c .before .before .before .before) 3, last (c .before .before .before .before) 2)
+add-sent-2 c = omega (arith, last (c .before .before .before .before .before) 4, last (c .before .before .before .before .before) 3, last (c .before .before .before .before .before) 2)
 
 sub-sent-4 : tie.Need-sub-sent-4
 sub-sent-4 c = omega arith
@@ -62,10 +65,10 @@ shared-slice-read-sent-4 : tie.Need-shared-slice-read-sent-4
 shared-slice-read-sent-4 c = omega arith
 
 cast-sent-4 : tie.Need-cast-sent-4
-cast-sent-4 c = omega (arith, last (c .before .before .before .before .before) 1)
+cast-sent-4 c = omega (arith, last (c .before .before .before .before .before .before) 1)
 
 add-sent-3 : tie.Need-add-sent-3
-add-sent-3 c = omega (arith, last (c .before .before .before .before .before) 4, last (c .before .before .before .before .before) 3, last (c .before .before .before .before .before) 2, last (c .before .before .before .before .before) 1)
+add-sent-3 c = omega (arith, last (c .before .before .before .before .before .before) 4, last (c .before .before .before .before .before .before) 3, last (c .before .before .before .before .before .before) 2, last (c .before .before .before .before .before .before) 1)
 
 table-requires : tie.Need-table-requires
 table-requires c κs = tt
@@ -74,7 +77,7 @@ start-requires : tie.Need-start-requires
 start-requires c κs = tt
 
 slice-aggregate-feed-by : tie.Need-slice-aggregate-feed-by
-slice-aggregate-feed-by c = sym (length-take-le 14 (c .before .before .before .before .before .before .before .before .before .before .args .packet .now) (omega arith))
+slice-aggregate-feed-by c = sym (length-take-le 14 (c .before .before .before .before .before .before .before .before .before .before .before .args .packet .now) (omega arith))
 
 feed-by-requires : tie.Need-feed-by-requires
 feed-by-requires c κs = tt
@@ -85,16 +88,17 @@ feed-by-requires-2 c κs = tt
 finish-requires : tie.Need-finish-requires
 finish-requires c κs = tt
 
-returns : tie.Need-returns
-returns c =
-    agrees-told _ _ _ _ refl
+returns-2 : tie.Need-returns-2
+returns-2 c =
+    agrees-told _ _ (omega arith) _ _ refl
     (c .finish .ensures
     ∙ crc-fed _ (c .before .before .before .before .before .before .before .table .ensures) _ _ _ _ _ (c .before .before .before .before .before .start .ensures) (c .before .before .before .feed-by .ensures) (c .before .feed-by2 .ensures))
 
-pub crc-agrees-spec : {M : Type 1} → statement M
-crc-agrees-spec =
+pub agrees-spec : {M : Type 1} → statement M
+agrees-spec =
     tie.close
     (tie.spec
+    returns
     sub-sent
     shared-slice-read-sent
     cast-sent
@@ -119,4 +123,4 @@ crc-agrees-spec =
     feed-by-requires
     feed-by-requires-2
     finish-requires
-    returns)
+    returns-2)

@@ -1,0 +1,39 @@
+// A packet's CRC: written behind its header and payload (document 01, section 4), and judged when it is offered (section 5).
+ghost use mathlib.Core.Path.{_≡_};
+ghost use Rattle.sealing.specs.Sealing.{sealedAt, crcAgrees};
+use packet::Packet;
+
+// Writes the CRC of the first n bytes behind them. Where there is no room for it nothing is written.
+pub fn seal(out: &mut [u8], n: usize)
+    ensures { λ r. ⌜ now (out .exit) ≡ sealedAt (now (out .entry)) n ⌝ }
+{
+    let len = out.len();
+    if len < Packet::CRC {
+        return;
+    }
+    if len - Packet::CRC < n {
+        return;
+    }
+    let sum = crc::crc32(&out[..n]);
+    out[n] = (sum / 16777216 % 256) as u8;
+    out[n + 1] = (sum / 65536 % 256) as u8;
+    out[n + 2] = (sum / 256 % 256) as u8;
+    out[n + 3] = (sum % 256) as u8;
+}
+
+// Whether the CRC as sent is that of the packet's header and of a payload, which may be the repaired one. What is too short for a header has none.
+pub fn agrees(packet: &[u8], payload: &[u8]) -> bool
+    ensures { λ r. ⌜ r ≡ crcAgrees (now (packet .entry)) (now (payload .entry)) ⌝ }
+{
+    let n = packet.len();
+    if n < Packet::HEADER {
+        return false;
+    }
+    let sent = packet[n - Packet::CRC] as u32 * 16777216
+        + packet[n - 3] as u32 * 65536
+        + packet[n - 2] as u32 * 256
+        + packet[n - 1] as u32;
+    let t = crc::table();
+    let header = crc::feed_by(&t, crc::start(), &packet[..Packet::HEADER]);
+    sent == crc::finish(crc::feed_by(&t, header, payload))
+}
