@@ -23,10 +23,10 @@ shared-slice-read-sent : tie.Need-shared-slice-read-sent
 shared-slice-read-sent c = omega arith
 
 cast-sent : tie.Need-cast-sent
-cast-sent c = omega (arith, last (c .before .before .before) 4)
+cast-sent c = omega (arith, last (c .before .before .before) 4, last (c .before .before .before) 3, last (c .before .before .before) 2, last (c .before .before .before) 1)
 
 mul-sent : tie.Need-mul-sent
-mul-sent c = omega (arith, last (c .before .before .before) 4)
+mul-sent c = omega (arith, last (c .before .before .before) 4, last (c .before .before .before) 3, last (c .before .before .before) 2, last (c .before .before .before) 1)
 
 sub-sent-2 : tie.Need-sub-sent-2
 sub-sent-2 c = omega arith
@@ -35,13 +35,13 @@ shared-slice-read-sent-2 : tie.Need-shared-slice-read-sent-2
 shared-slice-read-sent-2 c = omega arith
 
 cast-sent-2 : tie.Need-cast-sent-2
-cast-sent-2 c = omega (arith, last (c .before .before .before .before) 3)
+cast-sent-2 c = omega (arith, last (c .before .before .before .before) 4, last (c .before .before .before .before) 3, last (c .before .before .before .before) 2, last (c .before .before .before .before) 1)
 
 mul-sent-2 : tie.Need-mul-sent-2
-mul-sent-2 c = omega (arith, last (c .before .before .before .before) 3)
+mul-sent-2 c = omega (arith, last (c .before .before .before .before) 4, last (c .before .before .before .before) 3, last (c .before .before .before .before) 2, last (c .before .before .before .before) 1)
 
 add-sent : tie.Need-add-sent
-add-sent c = omega (arith, last (c .before .before .before .before) 4, last (c .before .before .before .before) 3)
+add-sent c = omega (arith, last (c .before .before .before .before) 4, last (c .before .before .before .before) 3, last (c .before .before .before .before) 2, last (c .before .before .before .before) 1)
 
 sub-sent-3 : tie.Need-sub-sent-3
 sub-sent-3 c = omega arith
@@ -50,13 +50,13 @@ shared-slice-read-sent-3 : tie.Need-shared-slice-read-sent-3
 shared-slice-read-sent-3 c = omega arith
 
 cast-sent-3 : tie.Need-cast-sent-3
-cast-sent-3 c = omega (arith, last (c .before .before .before .before .before) 2)
+cast-sent-3 c = omega (arith, last (c .before .before .before .before .before) 4, last (c .before .before .before .before .before) 3, last (c .before .before .before .before .before) 2, last (c .before .before .before .before .before) 1)
 
 mul-sent-3 : tie.Need-mul-sent-3
-mul-sent-3 c = omega (arith, last (c .before .before .before .before .before) 2)
+mul-sent-3 c = omega (arith, last (c .before .before .before .before .before) 4, last (c .before .before .before .before .before) 3, last (c .before .before .before .before .before) 2, last (c .before .before .before .before .before) 1)
 
 add-sent-2 : tie.Need-add-sent-2
-add-sent-2 c = omega (arith, last (c .before .before .before .before .before) 4, last (c .before .before .before .before .before) 3, last (c .before .before .before .before .before) 2)
+add-sent-2 c = omega (arith, last (c .before .before .before .before .before) 4, last (c .before .before .before .before .before) 3, last (c .before .before .before .before .before) 2, last (c .before .before .before .before .before) 1)
 
 sub-sent-4 : tie.Need-sub-sent-4
 sub-sent-4 c = omega arith
@@ -65,7 +65,7 @@ shared-slice-read-sent-4 : tie.Need-shared-slice-read-sent-4
 shared-slice-read-sent-4 c = omega arith
 
 cast-sent-4 : tie.Need-cast-sent-4
-cast-sent-4 c = omega (arith, last (c .before .before .before .before .before .before) 1)
+cast-sent-4 c = omega (arith, last (c .before .before .before .before .before .before) 4, last (c .before .before .before .before .before .before) 3, last (c .before .before .before .before .before .before) 2, last (c .before .before .before .before .before .before) 1)
 
 add-sent-3 : tie.Need-add-sent-3
 add-sent-3 c = omega (arith, last (c .before .before .before .before .before .before) 4, last (c .before .before .before .before .before .before) 3, last (c .before .before .before .before .before .before) 2, last (c .before .before .before .before .before .before) 1)
@@ -77,7 +77,7 @@ start-requires : tie.Need-start-requires
 start-requires c κs = tt
 
 slice-aggregate-feed-by : tie.Need-slice-aggregate-feed-by
-slice-aggregate-feed-by c = sym (length-take-le 14 (c .before .before .before .before .before .before .before .before .before .before .before .args .packet .now) (omega arith))
+slice-aggregate-feed-by c = sym (length-take-le _ (c .before .before .before .before .before .before .before .before .before .before .before .args .packet .now) (omega arith))
 
 feed-by-requires : tie.Need-feed-by-requires
 feed-by-requires c κs = tt
