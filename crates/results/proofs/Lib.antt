@@ -16,5 +16,6 @@ pub mod Room
 pub mod Contents
 pub mod Opening
 pub mod Record
+pub mod Standing
 pub mod Readout
 pub mod Face
