@@ -38,14 +38,15 @@ pub fn survey(p: Place, store: &[u8]) -> Seen
         bytes: 0,
     };
     let mut at = p.start as usize;
-    if store.len() < at + places::cover_of(p.count, p.slot) {
+    let end = at + places::cover_of(p.count, p.slot);
+    if store.len() < end {
         return unsound;
     }
     let mut filled: u32 = 0;
     let mut empty: u32 = 0;
     let mut bytes: usize = 0;
     let mut k: u32 = 0;
-    while k < p.count {
+    while at < end {
         let n = contents::slot_length(store, at);
         if !contents::length_fits(p, n) {
             return unsound;
