@@ -20,7 +20,7 @@ use Rattle.contents.proofs.Slots.{slot-holds, slot-wrong, fits-room}
 use Rattle.contents.proofs.Filled.{lowest-found}
 use Rattle.contents.proofs.Places.{length-contents}
 use Rattle.standing.specs.declared.Seen.{Seen}
-use Rattle.standing.specs.Survey.{unsound, before, seenIn, seenOf}
+use Rattle.standing.specs.Survey.{nothingSeen, before, seenIn, seenOf}
 use Rattle.standing.proofs.StandLaws.{Stands, stands-first, stands-next}
 
 -- ---- what is seen
@@ -30,12 +30,12 @@ module _ (p : Place) (s : List ℕ) where
   unfolding seenOf
   seen-inside h = rw (le-leb (endOf p) (length s) h)
 
-  pub seen-outside : length s < endOf p → unsound ≡ seenOf p s
+  pub seen-outside : length s < endOf p → nothingSeen ≡ seenOf p s
   unfolding seenOf
   seen-outside h = rw (lt-leb (endOf p) (length s) h)
 
 module _ (c : List Content) where
-  seen-wrong : anyWrong c ≡ true → unsound ≡ seenIn c
+  seen-wrong : anyWrong c ≡ true → nothingSeen ≡ seenIn c
   unfolding seenIn
   seen-wrong w = rw w
 
@@ -66,7 +66,7 @@ module _ (p : Place) (s : List ℕ) (h : endOf p ≤ length s) (t : Seen) where
       c = contents p s
 
       by : (b : Bool) (o : Found) → anyWrong c ≡ b → lowestEmpty c 0 ≡ o
-          → t ≡ cond b unsound (record { sound = true; filled = filled c; empty = before o (length c); bytes = length (joined c) }) → Sees p c t
+          → t ≡ cond b nothingSeen (record { sound = true; filled = filled c; empty = before o (length c); bytes = length (joined c) }) → Sees p c t
       by true o w l e = record { wrong = λ x. w; sound = λ x. absurd (true≢false (sym x ∙ ap (λ (y : Seen). y .sound) e)) }
       by false o w l e = record {
         wrong = λ x. absurd (true≢false (sym (ap (λ (y : Seen). y .sound) e) ∙ x));
@@ -181,7 +181,7 @@ module _ (p : Place) (s : List ℕ) (at f e b k : ℕ) (v : Surveying p s at f e
     length-here : lengthAt s (slotAt p k) ≡ n
     length-here = ap (lengthAt s) (sym (v .stands .place)) ∙ sym l
 
-    pub surveying-wrong : endOf p ≤ length s → lengthFits p n ≡ false → unsound ≡ seenOf p s
+    pub surveying-wrong : endOf p ≤ length s → lengthFits p n ≡ false → nothingSeen ≡ seenOf p s
     surveying-wrong i w =
         seen-wrong (contents p s)
         (sym (v .tally .right)

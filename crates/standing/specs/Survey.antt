@@ -13,8 +13,8 @@ use Rattle.contents.specs.Contents.{Slot as Content, contents, anyWrong, filled
 use Rattle.standing.specs.declared.Seen.{Seen}
 
 -- where a length is wrong nothing is counted
-abbrev pub unsound : Seen
-unsound = record { sound = false; filled = 0; empty = 0; bytes = 0 }
+abbrev pub nothingSeen : Seen
+nothingSeen = record { sound = false; filled = 0; empty = 0; bytes = 0 }
 
 -- of n slots, those before the lowest empty one; all where none is empty
 abbrev pub before : Found → ℕ → ℕ
@@ -23,8 +23,8 @@ before Nothing n = n
 
 unfoldable pub seenIn : List Content → Seen
 seenIn c =
-    cond (anyWrong c) unsound (record { sound = true; filled = filled c; empty = before (lowestEmpty c 0) (length c); bytes = length (joined c) })
+    cond (anyWrong c) nothingSeen (record { sound = true; filled = filled c; empty = before (lowestEmpty c 0) (length c); bytes = length (joined c) })
 
 -- a place that passes the end of the store is not read
 unfoldable pub seenOf : Place → List ℕ → Seen
-seenOf p s = cond (leb (endOf p) (length s)) (seenIn (contents p s)) unsound
+seenOf p s = cond (leb (endOf p) (length s)) (seenIn (contents p s)) nothingSeen

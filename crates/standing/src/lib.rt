@@ -5,7 +5,7 @@ ghost use Prim.Native.Nat.{_≤_};
 ghost use lib.ListN.{length};
 ghost use Rattle.places.specs.Places.{endOf};
 ghost use Rattle.contents.specs.Contents.{contents};
-ghost use Rattle.standing.specs.Survey.{seenOf};
+ghost use Rattle.standing.specs.Survey.{nothingSeen, seenOf};
 ghost use Rattle.standing.specs.Status.{standingIn, statusOf};
 use places::Found;
 use places::Place;
@@ -27,20 +27,27 @@ pub enum Standing {
     Refused(Refusal),
 }
 
-// What the slots of a place hold, by their lengths.
-pub fn survey(p: Place, store: &[u8]) -> Seen
-    ensures { λ r. ⌜ r ≡ seenOf p (now (store .entry)) ⌝ }
+// Where a length is wrong nothing is counted.
+fn nothing_seen() -> Seen
+    ensures { λ r. ⌜ r ≡ nothingSeen ⌝ }
 {
-    let unsound = Seen {
+    Seen {
         sound: false,
         filled: 0,
         empty: 0,
         bytes: 0,
-    };
+    }
+}
+
+// What the slots of a place hold, by their lengths.
+pub fn survey(p: Place, store: &[u8]) -> Seen
+    ensures { λ r. ⌜ r ≡ seenOf p (now (store .entry)) ⌝ }
+{
+    let width = p.slot as usize + 2;
     let mut at = p.start as usize;
     let end = at + places::cover_of(p.count, p.slot);
     if store.len() < end {
-        return unsound;
+        return nothing_seen();
     }
     let mut filled: u32 = 0;
     let mut empty: u32 = 0;
@@ -49,7 +56,7 @@ pub fn survey(p: Place, store: &[u8]) -> Seen
     while at < end {
         let n = contents::slot_length(store, at);
         if !contents::length_fits(p, n) {
-            return unsound;
+            return nothing_seen();
         }
         if n != 0 {
             filled += 1;
@@ -59,7 +66,7 @@ pub fn survey(p: Place, store: &[u8]) -> Seen
             empty = k;
         }
         bytes += n;
-        at += p.slot as usize + 2;
+        at += width;
     }
     Seen {
         sound: true,

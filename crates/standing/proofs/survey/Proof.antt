@@ -16,27 +16,31 @@ use Rattle.standing.proofs.survey.Statement.{statement}
 use Rattle.standing.proofs.survey.Tie as tie
 
 abbrev Inv-loop : tie.InvT-loop
-Inv-loop p store unsound at₀ end filled₀ empty₀ bytes₀ k₀ at filled empty bytes k = Surveying p store at filled empty bytes k
+Inv-loop p store width at₀ end filled₀ empty₀ bytes₀ k₀ at filled empty bytes k = Surveying p store at filled empty bytes k
 
 abbrev μ-loop : tie.MeasureT-loop
-μ-loop p store unsound at₀ end filled₀ empty₀ bytes₀ k₀ at filled empty bytes k = p .count - k
+μ-loop p store width at₀ end filled₀ empty₀ bytes₀ k₀ at filled empty bytes k = p .count - k
 
 -- where the place ends, and that it lies in the store
-ends : (c : tie.After-cover-of Inv-loop μ-loop) → c .before .before .before .args .p .start + c .cover-of .result ≡ endOf (c .before .before .before .args .p)
-ends c = omega (arith, end-sum (c .before .before .before .args .p), c .cover-of .ensures)
+ends : (c : tie.After-cover-of Inv-loop μ-loop) → c .before .before .before .before .args .p .start + c .cover-of .result ≡ endOf (c .before .before .before .before .args .p)
+ends c = omega (arith, end-sum (c .before .before .before .before .args .p), c .cover-of .ensures)
 
-inside : (c : tie.Else1 Inv-loop μ-loop) → endOf (c .before .before .before .before .args .p) ≤ length (c .before .before .before .before .args .store .now)
+inside : (c : tie.Else1 Inv-loop μ-loop) → endOf (c .before .before .before .before .before .args .p) ≤ length (c .before .before .before .before .before .args .store .now)
 inside c = omega (arith, ends (c .before))
 
 -- while the walk stands before the end, a slot is left
-left : (c : tie.In-loop Inv-loop μ-loop) → c .before .loop .k < c .before .before .before .before .before .before .args .p .count
+left : (c : tie.In-loop Inv-loop μ-loop) → c .before .loop .k < c .before .before .before .before .before .before .before .args .p .count
 left c = stands-before _ _ _ (c .before .loop .inv .stands) (omega (arith, ends (c .before .before .before), c .loop-test .taken))
 
 -- which lies in the store
-room : (c : tie.Joined4 Inv-loop μ-loop)
-    → c .before .before .before .before .before .before .loop .at + (c .before .before .before .before .before .before .before .before .before .before .before .args .p .slot + 2) ≤ length (c .before .before .before .before .before .before .before .before .before .before .before .args .store .now)
-room c =
-    stands-room _ _ _ (c .before .before .before .before .before .before .loop .inv .stands) (left (c .before .before .before .before .before)) (c .before .before .before .before .before .before .before .before .before .before .before .args .store .now) (inside (c .before .before .before .before .before .before .before))
+room : (c : tie.Joined4 Inv-loop μ-loop) → c .before .before .before .before .before .before .loop .at + (c .before .before .before .before .before .before .before .before .before .before .before .before .args .p .slot + 2) ≤ length (c .before .before .before .before .before .before .before .before .before .before .before .before .args .store .now)
+room c = stands-room _ _ _ (c .before .before .before .before .before .before .loop .inv .stands) (left (c .before .before .before .before .before)) (c .before .before .before .before .before .before .before .before .before .before .before .before .args .store .now) (inside (c .before .before .before .before .before .before .before))
+
+cast-width : tie.Need-cast-width Inv-loop μ-loop
+cast-width c = omega arith
+
+add-width : tie.Need-add-width Inv-loop μ-loop
+add-width c = omega arith
 
 cast-at : tie.Need-cast-at Inv-loop μ-loop
 cast-at c = omega arith
@@ -46,13 +50,16 @@ cover-of-requires c κs = tt
 
 add-end : tie.Need-add-end Inv-loop μ-loop
 add-end c =
-    let p = c .before .before .before .args .p in
+    let p = c .before .before .before .before .args .p in
     let a : p .count ≤ 2 ^ 32 = omega arith in
     let b : p .slot + 2 ≤ 2 ^ 17 = omega arith in
     omega (arith, c .cover-of .ensures, mul-le-mul a b)
 
+nothing-seen-requires : tie.Need-nothing-seen-requires Inv-loop μ-loop
+nothing-seen-requires c κs = tt
+
 returns : tie.Need-returns Inv-loop μ-loop
-returns c = seen-outside (c .before .before .before .before .args .p) (c .before .before .before .before .args .store .now) (omega (arith, ends (c .before), c .if1 .taken))
+returns c = c .nothing-seen .ensures ∙ seen-outside _ _ (omega (arith, ends (c .before .before), c .before .if1 .taken))
 
 loop-holds : tie.Need-loop-holds Inv-loop μ-loop
 loop-holds c = surveying-first _ _
@@ -63,10 +70,14 @@ slot-length-requires c κs = tt
 length-fits-requires : tie.Need-length-fits-requires Inv-loop μ-loop
 length-fits-requires c κs = tt
 
+nothing-seen-requires-2 : tie.Need-nothing-seen-requires-2 Inv-loop μ-loop
+nothing-seen-requires-2 c κs = tt
+
 returns-2 : tie.Need-returns-2 Inv-loop μ-loop
 returns-2 c =
-    surveying-wrong _ _ _ _ _ _ _ (c .before .before .before .before .loop .inv) (left (c .before .before .before)) _ (c .before .before .slot-length .ensures)
-    (inside (c .before .before .before .before .before)) (sym (c .before .length-fits .ensures) ∙ not-true _ (c .if2 .taken))
+    c .nothing-seen2 .ensures
+    ∙ surveying-wrong _ _ _ _ _ _ _ (c .before .before .before .before .before .loop .inv) (left (c .before .before .before .before)) _ (c .before .before .before .slot-length .ensures) (inside (c .before .before .before .before .before .before))
+    (sym (c .before .before .length-fits .ensures) ∙ not-true _ (c .before .if2 .taken))
 
 add-filled : tie.Need-add-filled Inv-loop μ-loop
 add-filled c = omega (arith, surveying-few _ _ _ _ _ _ _ (c .before .before .before .before .before .loop .inv), left (c .before .before .before .before))
@@ -80,24 +91,18 @@ add-bytes c =
     let fits = sym (c .before .before .before .length-fits .ensures) ∙ not-false _ (c .before .before .if2 .left) in
     omega (arith, room c, v .short, surveying-room _ _ _ _ _ _ _ v (left (c .before .before .before .before .before)) _ (c .before .before .before .before .slot-length .ensures) fits)
 
-cast-at-2 : tie.Need-cast-at-2 Inv-loop μ-loop
-cast-at-2 c = omega arith
-
 add-at : tie.Need-add-at Inv-loop μ-loop
-add-at c = omega arith
-
-add-at-2 : tie.Need-add-at-2 Inv-loop μ-loop
-add-at-2 c = omega (arith, room (c .before))
+add-at c = omega (arith, room c)
 
 loop-less : tie.Need-loop-less Inv-loop μ-loop
-loop-less c = falls _ _ (left (c .before .before .before .before .before .before))
+loop-less c = falls _ _ (left (c .before .before .before .before .before))
 
 loop-again : tie.Need-loop-again Inv-loop μ-loop
 loop-again c =
-    surveying-next _ _ _ _ _ _ _ (c .before .before .before .before .before .before .before .loop .inv) (left (c .before .before .before .before .before .before)) _ (c .before .before .before .before .before .slot-length .ensures)
-    (sym (c .before .before .before .before .length-fits .ensures) ∙ not-false _ (c .before .before .before .if2 .left)) _ _
-    (⊎-elim (λ w. inl (w .0 .taken, w .1)) (λ w. inr (w .0 .left, w .1)) (c .before .before .if3 .came))
-    (⊎-elim (λ w. inl (w .0 .taken, w .1)) (λ w. inr (w .0 .left, w .1)) (c .before .if4 .came))
+    surveying-next _ _ _ _ _ _ _ (c .before .before .before .before .before .before .loop .inv) (left (c .before .before .before .before .before)) _ (c .before .before .before .before .slot-length .ensures)
+    (sym (c .before .before .before .length-fits .ensures) ∙ not-false _ (c .before .before .if2 .left)) _ _
+    (⊎-elim (λ w. inl (w .0 .taken, w .1)) (λ w. inr (w .0 .left, w .1)) (c .before .if3 .came))
+    (⊎-elim (λ w. inl (w .0 .taken, w .1)) (λ w. inr (w .0 .left, w .1)) (c .if4 .came))
 
 returns-3 : tie.Need-returns-3 Inv-loop μ-loop
 returns-3 c =
@@ -110,20 +115,22 @@ survey-spec =
     (tie.spec
     Inv-loop
     μ-loop
+    cast-width
+    add-width
     cast-at
     cover-of-requires
     add-end
+    nothing-seen-requires
     returns
     loop-holds
     slot-length-requires
     length-fits-requires
+    nothing-seen-requires-2
     returns-2
     add-filled
     add-k
     add-bytes
-    cast-at-2
     add-at
-    add-at-2
     loop-less
     loop-again
     returns-3)
