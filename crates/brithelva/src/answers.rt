@@ -4,15 +4,15 @@ ghost use Prim.Native.Nat.{_<_};
 ghost use Rattle.refusals.specs.Told.{refusedAs, verdictTold};
 ghost use Rattle.pack.specs.Told.{packedTold};
 ghost use Rattle.record.specs.Told.{offeredTold};
-ghost use Rattle.readout.specs.declared.Standing.the-variants.{Filled};
-ghost use Rattle.readout.specs.Told.{standingTold};
+ghost use Rattle.standing.specs.declared.Standing.the-variants.{Filled};
+ghost use Rattle.standing.specs.Told.{standingTold};
 ghost use Rattle.face.specs.Face.{answerOf, Says, putsIf};
 use pack::Packed;
 use places::Found;
-use readout::Standing;
 use record::Offered;
 use refusals::Refusal;
 use refusals::Verdict;
+use standing::Standing;
 
 // Record's number, for bytes lent as a record that are not 128.
 pub(crate) const NO_RECORD: u64 = 9;

@@ -175,7 +175,7 @@ pub extern "C" fn bh_status(held: &[u8], store: &[u8], resource: u16) -> u64
     if held.len() != 128 {
         return answers::NO_RECORD;
     }
-    let standing = readout::status(face::record_in(held), store, resource);
+    let standing = standing::status(face::record_in(held), store, resource);
     answers::standing_as(standing)
 }
 

@@ -18,10 +18,10 @@ use Rattle.places.proofs.Facts.{named-facts}
 use Rattle.contents.specs.Contents.{Slot as Content, contents, anyWrong, filled, lowestEmpty}
 use Rattle.contents.proofs.Places.{length-contents}
 use Rattle.contents.proofs.Filled.{filled-most, lowest-found}
-use Rattle.readout.specs.declared.Standing.{Standing}
-use Rattle.readout.specs.declared.Standing.the-variants.{Filled}
-use Rattle.readout.specs.Told.{standingTold}
-use Rattle.readout.specs.Hand.{standingIn, statusFound, statusOf}
+use Rattle.standing.specs.declared.Standing.{Standing}
+use Rattle.standing.specs.declared.Standing.the-variants.{Filled}
+use Rattle.standing.specs.Told.{standingTold}
+use Rattle.standing.specs.Status.{standingIn, statusFound, statusOf}
 use Rattle.face.specs.Layout.{recordIn}
 use Rattle.face.specs.Face.{answerOf, badRecord, statusSays}
 

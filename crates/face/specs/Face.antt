@@ -20,8 +20,9 @@ use Rattle.pack.specs.Told.{packedTold}
 use Rattle.opening.specs.Open.{openOf, closeOf}
 use Rattle.record.specs.Offer.{offerOf}
 use Rattle.record.specs.Told.{offeredTold}
-use Rattle.readout.specs.Hand.{statusOf, handOutOf}
-use Rattle.readout.specs.Told.{standingTold}
+use Rattle.standing.specs.Status.{statusOf}
+use Rattle.standing.specs.Told.{standingTold}
+use Rattle.readout.specs.Hand.{handOutOf}
 use Rattle.face.specs.Layout.{recordIn, recordBytes}
 
 -- values as one: 0 for none, v for one; for two, as of a Status with an empty slot, n + 2^24 · (i + 1)

@@ -40,11 +40,11 @@ use Rattle.record.proofs.SlotLaws.{same-equal}
 use Rattle.record.proofs.OfferCases.{payload-length, mended-plain, mended-rows}
 use Rattle.record.proofs.OfferFacts.{Read, read-known}
 use Rattle.record.proofs.OfferLaws.{Placed, Sound, Case, refused, placed, offer-case, offer-sound}
-use Rattle.readout.specs.declared.Standing.{Standing}
-use Rattle.readout.specs.declared.Standing.the-variants.{Filled}
-use Rattle.readout.specs.Hand.{standingIn, statusOf}
-use Rattle.readout.specs.Told.{standingTold}
-use Rattle.readout.proofs.HandCases.{status-found}
+use Rattle.standing.specs.declared.Standing.{Standing}
+use Rattle.standing.specs.declared.Standing.the-variants.{Filled}
+use Rattle.standing.specs.Status.{standingIn, statusOf}
+use Rattle.standing.specs.Told.{standingTold}
+use Rattle.standing.proofs.StatusLaws.{status-found}
 use Rattle.promises.specs.Calls.{State, step, telling}
 use Rattle.promises.specs.Statements.{RowsNear, placeAt, slotIn, Held, lowestValues, slotsTold, StatusBySlots, Carried, OthersStay, Accepts, OffersBySlots}
 use Rattle.promises.proofs.EachRow.{rows-near}

@@ -16,8 +16,9 @@ use Rattle.places.specs.Places.{freshRecord}
 use Rattle.opening.specs.Open.{openOf, closeOf}
 use Rattle.record.specs.Offer.{offerOf}
 use Rattle.record.specs.Told.{offeredTold}
-use Rattle.readout.specs.Hand.{statusOf, handOutOf}
-use Rattle.readout.specs.Told.{standingTold}
+use Rattle.standing.specs.Status.{statusOf}
+use Rattle.standing.specs.Told.{standingTold}
+use Rattle.readout.specs.Hand.{handOutOf}
 
 pub data Call : Type 0 where
   -- file, settings, packet number, output

@@ -1,4 +1,4 @@
--- Status and Hand out, case by case, in the order of their refusals: 9, 10, 15, 21, 22, 23, 24, 26. Assumes nothing.
+-- Hand out, case by case, in the order of its refusals: 9, 10, 15, 21, 22, 23, 24, 26. Assumes nothing.
 use mathlib.Core.Path.{_≡_, refl, sym, ap, _∙_}
 use mathlib.Core.Bool.{Bool, true, false}
 use mathlib.Core.List.{List, _++_}
@@ -23,8 +23,7 @@ use Rattle.places.specs.declared.Found.the-variants.{At, Nothing}
 use Rattle.places.specs.Places.{unused, good, placeNamed}
 use Rattle.places.proofs.Facts.{named-facts}
 use Rattle.contents.specs.Contents.{Slot as Content, contents, anyWrong, lowestEmpty, joined}
-use Rattle.readout.specs.declared.Standing.{Standing}
-use Rattle.readout.specs.Hand.{standingIn, statusFound, statusOf, Handing, refusing, handed, allZero, handRows, handJoined, handContents, handFound, handOutOf}
+use Rattle.readout.specs.Hand.{Handing, refusing, handed, allZero, handRows, handJoined, handContents, handFound, handOutOf}
 use Rattle.readout.specs.Passes.{infoAt, infoIn, Padding, Usable}
 use Rattle.readout.proofs.PaddingLaws.{padding-told}
 
@@ -146,25 +145,11 @@ module _ (p : Place) (c : List Content) (n : ℕ) (out : List ℕ) where
 -- ---- by the record
 
 module _ (h : Record) (s : List ℕ) (resource : ℕ) where
-  pub status-record : good (length s) (h .places) ≡ false → Standing.Refused Refusal.Record ≡ statusOf h s resource
-  unfolding statusOf
-  status-record b = rw b
-
   pub out-record : (n : ℕ) (out : List ℕ) → good (length s) (h .places) ≡ false → Comes (handOutOf h s resource n out) (Refused Refusal.Record) out
   unfolding handOutOf
   out-record n out b = comes (refusing Refusal.Record out) (rw b)
 
   module _ (b : good (length s) (h .places) ≡ true) where
-    status-good : statusFound h s (placeNamed (h .places) resource) ≡ statusOf h s resource
-    unfolding statusOf
-    status-good = rw b
-
-    pub status-unknown : placeNamed (h .places) resource ≡ Nothing → Standing.Refused Unknown ≡ statusOf h s resource
-    status-unknown a = ap (statusFound h s) (sym a) ∙ status-good
-
-    pub status-found : (i : ℕ) → placeNamed (h .places) resource ≡ At i → standingIn (contents (getD (h .places) i unused) s) ≡ statusOf h s resource
-    status-found i a = ap (statusFound h s) (sym a) ∙ status-good
-
     module _ (n : ℕ) (out : List ℕ) where
       out-good : handOutOf h s resource n out ≡ handFound h s n out (placeNamed (h .places) resource)
       unfolding handOutOf

@@ -1,5 +1,5 @@
--- What Status and Hand out promise: document 01, section 5. Slots that all hold the payloads of a file stand as filled, and the file is handed out, with and
--- without protection; a refusal changes nothing; both calls see nothing of the store but the contents of the resource's place. Assumes nothing.
+-- What Hand out promises: document 01, section 5. Of slots that all hold the payloads of a file the file is handed out, with and without protection; a refusal
+-- changes nothing; nothing is seen of the store but the contents of the resource's place. Assumes nothing.
 use mathlib.Core.Path.{_≡_, refl, sym, ap, ap₂, _∙_}
 use mathlib.Core.Bool.{Bool, true, false, cond, not}
 use mathlib.Core.List.{List, _++_}
@@ -23,9 +23,7 @@ use Rattle.places.specs.declared.Found.the-variants.{At, Nothing}
 use Rattle.places.specs.Places.{unused, good, placeNamed}
 use Rattle.contents.specs.Contents.{Slot as Content, wrong, holding, contents, anyWrong, filled, lowestEmpty, joined}
 use Rattle.contents.proofs.Filled.{holding-right, holding-all, holding-filled, holding-lowest, joined-whole}
-use Rattle.readout.specs.declared.Standing.{Standing}
-use Rattle.readout.specs.declared.Standing.the-variants.{Filled}
-use Rattle.readout.specs.Hand.{standingIn, statusFound, statusOf, Handing, refusing, handed, allZero, handRows, handJoined, handFilled, handContents, handFound, handOutOf}
+use Rattle.readout.specs.Hand.{Handing, refusing, handed, allZero, handRows, handJoined, handFilled, handContents, handFound, handOutOf}
 use Rattle.readout.proofs.HandCases.{handed-whole, joined-rows, contents-full, plain-right}
 
 -- ---- slots that all hold a payload, f k in slot k
@@ -50,11 +48,6 @@ module _ (c : List Content) (f : ℕ → List ℕ) (h : Carried c f) where
   -- the payloads are the parts of p bytes of what is sent
   pub carried-joined : (sent : List ℕ) (p : ℕ) → ((k : ℕ) → k < length c → f k ≡ take p (drop (k * p) sent)) → length sent ≤ length c * p → joined c ≡ sent
   carried-joined sent p e l = ap joined slots-are ∙ joined-whole f sent p (length c) e l
-
-  -- the status of a place whose slots are all filled
-  pub carried-standing : standingIn c ≡ Filled (length c) Nothing
-  unfolding standingIn
-  carried-standing = rw (carried-right, carried-filled, carried-full)
 
   pub carried-hand : (p : Place) (n : ℕ) (out : List ℕ) → handContents p c n out ≡ handJoined p (joined c) n out
   carried-hand p n out = contents-full p c n out carried-right carried-full
@@ -158,15 +151,6 @@ module _ (out : List ℕ) where
 
 module _ (h : Record) (s t : List ℕ) (resource : ℕ) (l : length s ≡ length t)
     (same : (i : ℕ) → placeNamed (h .places) resource ≡ At i → contents (getD (h .places) i unused) s ≡ contents (getD (h .places) i unused) t) where
-  pub status-same : statusOf h s resource ≡ statusOf h t resource
-  unfolding statusOf
-  status-same =
-      ap₂ (λ (n : ℕ) (x : Standing). cond (good n (h .places)) x (Standing.Refused Refusal.Record)) l (by (placeNamed (h .places) resource) same)
-    where
-      by : (e : Found) → ((i : ℕ) → e ≡ At i → contents (getD (h .places) i unused) s ≡ contents (getD (h .places) i unused) t) → statusFound h s e ≡ statusFound h t e
-      by (At i) f = ap standingIn (f i refl)
-      by Nothing f = refl
-
   pub hand-same : (n : ℕ) (out : List ℕ) → handOutOf h s resource n out ≡ handOutOf h t resource n out
   unfolding handOutOf
   hand-same n out =

@@ -1,9 +1,7 @@
 pub mod WalkLaws
-pub mod SurveyLaws
 pub mod TableLaws
 pub mod RowLaws
 pub mod PassLaws
 pub mod PaddingLaws
 pub mod HandCases
 pub mod HandLaws
-pub mod Apart

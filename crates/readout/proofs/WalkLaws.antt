@@ -12,32 +12,15 @@ use lib.ListN.{length, getD, length-append, List·getD-append}
 use lib.Seq.{getD-append-add}
 use Rattle.ground.proofs.Listed.{getD-listed}
 use Rattle.places.specs.declared.Place.{Place}
-use Rattle.places.specs.Places.{endOf}
 use Rattle.contents.specs.Slots.{lengthAt}
 use Rattle.contents.specs.Contents.{Slot as Content, bytesAt, slotAt, lengthFits, contents, joined}
 use Rattle.contents.proofs.Bytes.{length-bytes}
-use Rattle.contents.proofs.Slots.{slot-first, slot-within, fits-room, slot-holds, slot-wrong}
-use Rattle.contents.proofs.Walks.{contentsFrom, walk-all, walk-step, walk-end, walk-on}
+use Rattle.contents.proofs.Slots.{fits-room, slot-holds, slot-wrong}
+use Rattle.contents.proofs.Walks.{contentsFrom, walk-all, walk-step, walk-end}
 use Rattle.contents.proofs.Filled.{wrong-none}
 use Rattle.contents.proofs.Places.{length-contents, reading-slots}
+use Rattle.standing.proofs.StandLaws.{Stands, stands-first, stands-next, stands-room}
 use Rattle.readout.specs.Passes.{sentIn, Filled}
-
--- ---- where the walk stands: at slot k, which starts at at
-pub record Stands (p : Place) (at k : ℕ) : Type 0 where
-  pub within : k ≤ p .count
-  pub place : at ≡ slotAt p k
-
-pub stands-first : (p : Place) → Stands p (p .start) 0
-stands-first p = record { within = omega arith; place = sym (slot-first p) }
-
-module _ (p : Place) (at k : ℕ) (w : Stands p at k) (h : k < p .count) where
-  pub stands-next : Stands p (at + (p .slot + 2)) (k + 1)
-  stands-next =
-      record { within = omega arith; place = ap (λ (x : ℕ). x + (p .slot + 2)) (w .place) ∙ sym (walk-on p k) }
-
-  -- the slot lies in the store
-  pub stands-room : (s : List ℕ) → endOf p ≤ length s → at + (p .slot + 2) ≤ length s
-  stands-room s e = omega (arith, w .place, slot-within p k h .1)
 
 -- ---- a length that fits a slot is one of whole rows where there is protection
 pub fits-rows : (p : Place) (n : ℕ) → lengthFits p n ≡ true → (p .protection ≡ 0 → ⊥) → n / 255 * 255 ≡ n

@@ -1,4 +1,4 @@
--- Status and Hand out: document 01, section 5. Refusals in the orders 9, 10, 15 and 9, 10, 15, 21, 22, 23, 24, 26.
+-- Hand out: document 01, section 5. Refusals in the order 9, 10, 15, 21, 22, 23, 24, 26.
 -- Assumes nothing.
 use mathlib.Core.Bool.{Bool, true, cond, not, _&&_}
 use mathlib.Core.List.{List, [], _∷_, _++_}
@@ -15,24 +15,7 @@ use Rattle.places.specs.declared.Record.{Record}
 use Rattle.places.specs.declared.Found.{Found}
 use Rattle.places.specs.declared.Found.the-variants.{At, Nothing}
 use Rattle.places.specs.Places.{unused, good, placeNamed}
-use Rattle.contents.specs.Contents.{Slot as Content, contents, anyWrong, filled, lowestEmpty, joined}
-use Rattle.readout.specs.declared.Standing.{Standing}
-use Rattle.readout.specs.declared.Standing.the-variants.{Filled}
-
--- ---- status: by the slots alone
-
-unfoldable pub standingIn : List Content → Standing
-standingIn c = cond (anyWrong c) (Standing.Refused Slot) (Filled (filled c) (lowestEmpty c 0))
-
-abbrev pub statusFound : Record → List ℕ → Found → Standing
-statusFound h s (At i) = standingIn (contents (getD (h .places) i unused) s)
-statusFound h s Nothing = Standing.Refused Unknown
-
-unfoldable pub statusOf : Record → List ℕ → ℕ → Standing
-statusOf h s resource =
-    cond (good (length s) (h .places)) (statusFound h s (placeNamed (h .places) resource)) (Standing.Refused Refusal.Record)
-
--- ---- hand out
+use Rattle.contents.specs.Contents.{Slot as Content, contents, anyWrong, lowestEmpty, joined}
 
 -- what is answered, and what the output then holds
 pub record Handing : Type 0 where

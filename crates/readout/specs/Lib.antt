@@ -1,3 +1,2 @@
 pub mod Hand
 pub mod Passes
-pub mod Told

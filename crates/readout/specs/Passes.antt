@@ -1,4 +1,4 @@
--- The vocabulary of the private functions behind Status and Hand out. Nobody needs to believe it: the public contracts do not cite it.
+-- The vocabulary of the private functions behind Hand out. Nobody needs to believe it: the public contract does not cite it.
 -- Assumes nothing.
 use mathlib.Core.Path.{_≡_}
 use mathlib.Core.Bool.{Bool, true, false}
@@ -9,24 +9,7 @@ use Rattle.ground.specs.Lists.{listed}
 use Rattle.layout.specs.Spread.{rowStart, scattered}
 use Rattle.places.specs.declared.Place.{Place}
 use Rattle.places.specs.Places.{endOf}
-use Rattle.places.specs.declared.Found.the-variants.{At, Nothing}
-use Rattle.contents.specs.Contents.{Slot as Content, anyWrong, filled, lowestEmpty, joined, contents}
-use Rattle.readout.specs.declared.survey.Seen.{Seen}
-
--- ---- a pass over the lengths
-
--- what was seen of the slots, none of which is wrong: the number before the lowest empty one is that of all where none is empty
-pub record Tallied (p : Place) (c : List Content) (t : Seen) : Type 0 where
-  pub right : anyWrong c ≡ false
-  pub filled : t .filled ≡ filled c
-  pub none : t .empty ≡ p .count → lowestEmpty c 0 ≡ Nothing
-  pub some : (t .empty ≡ p .count → ⊥) → lowestEmpty c 0 ≡ At (t .empty)
-  pub bytes : t .bytes ≡ length (joined c)
-
--- what was seen of any slots
-pub record Sees (p : Place) (c : List Content) (t : Seen) : Type 0 where
-  pub wrong : t .sound ≡ false → anyWrong c ≡ true
-  pub sound : t .sound ≡ true → Tallied p c t
+use Rattle.contents.specs.Contents.{contents, anyWrong, joined}
 
 -- ---- rows that stand one behind the other
 

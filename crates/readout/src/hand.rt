@@ -7,7 +7,6 @@ ghost use Rattle.layout.specs.Spread.{scattered};
 ghost use Rattle.contents.specs.Contents.{contents};
 ghost use Rattle.readout.specs.Hand.{handRows, handContents, handOutOf};
 ghost use Rattle.readout.specs.Passes.{Usable, Filled, Rowed, sentIn, infoIn, Padding};
-use crate::survey;
 use crate::tables;
 use places::Found;
 use places::Place;
@@ -106,7 +105,7 @@ fn hand_place(p: Place, store: &[u8], n: usize, out: &mut [u8]) -> Verdict
     ensures { λ r. ⌜ (r ≡ handContents p (contents p (now (store .entry))) n (now (out .entry)) .answer)
         × (now (out .exit) ≡ handContents p (contents p (now (store .entry))) n (now (out .entry)) .output) ⌝ }
 {
-    let seen = survey::survey(p, store);
+    let seen = standing::survey(p, store);
     if !seen.sound {
         return Verdict::Refused(Refusal::Slot);
     }

@@ -18,5 +18,6 @@ pub mod Room
 pub mod Contents
 pub mod Opening
 pub mod Record
+pub mod Standing
 pub mod Readout
 pub mod Face

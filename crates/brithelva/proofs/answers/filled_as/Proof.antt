@@ -3,8 +3,8 @@ use mathlib.Core.Path.{_≡_, ap}
 use Prim.Native.Nat.{_+_, _*_}
 use native.Mathlib.Omega.{arith}
 use Rattle.places.specs.declared.Found.{Found}
-use Rattle.readout.specs.declared.Standing.the-variants.{Filled}
-use Rattle.readout.specs.Told.{standingTold}
+use Rattle.standing.specs.declared.Standing.the-variants.{Filled}
+use Rattle.standing.specs.Told.{standingTold}
 use Rattle.face.specs.Face.{answerOf}
 use Rattle.brithelva.proofs.answers.filled_as.Statement.{statement}
 use Rattle.brithelva.proofs.answers.filled_as.Tie as tie

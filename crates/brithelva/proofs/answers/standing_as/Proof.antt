@@ -2,8 +2,8 @@
 use mathlib.Core.Path.{_≡_, sym, ap, subst, _∙_}
 use Prim.Native.Nat.{_<_}
 use native.Mathlib.Omega.{arith}
-use Rattle.readout.specs.declared.Standing.{Standing}
-use Rattle.readout.specs.Told.{standingTold}
+use Rattle.standing.specs.declared.Standing.{Standing}
+use Rattle.standing.specs.Told.{standingTold}
 use Rattle.face.specs.Face.{answerOf}
 use Rattle.brithelva.proofs.answers.standing_as.Statement.{statement}
 use Rattle.brithelva.proofs.answers.standing_as.Tie as tie

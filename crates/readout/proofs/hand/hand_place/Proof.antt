@@ -6,15 +6,20 @@ use Prim.Native.Nat.{ℕ}
 use native.Mathlib.Omega.{arith}
 use borrow.Author.Tests.{not-true, not-false}
 use Rattle.contents.specs.Contents.{contents, joined}
+use Rattle.standing.proofs.SurveyLaws.{Tallied, Sees, sees}
 use Rattle.readout.specs.Hand.{handJoined, handContents}
-use Rattle.readout.specs.Passes.{Tallied}
 use Rattle.readout.proofs.HandCases.{comes-from, plain-size, plain-output, plain-file, joined-rows, contents-slot, contents-missing, contents-full}
 use Rattle.readout.proofs.hand.hand_place.Statement.{statement}
 use Rattle.readout.proofs.hand.hand_place.Tie as tie
 
+-- what was seen is what the contents say, since the place lies in the store
+seen : (c : tie.After-survey)
+    → Sees (c .before .before .before .args .p) (contents (c .before .before .before .args .p) (c .before .before .before .args .store .now)) (c .survey .result)
+seen c = sees _ _ (c .before .before .before .pre .ends) _ (c .survey .ensures)
+
 -- no slot is wrong, and then none is empty
 tallied : (c : tie.Else1) → Tallied (c .before .before .before .before .before .args .p) (contents (c .before .before .before .before .before .args .p) (c .before .before .before .before .before .args .store .now)) (c .before .before .survey .result)
-tallied c = c .before .before .survey .ensures .sound (not-false _ (c .if1 .left))
+tallied c = seen (c .before .before) .sound (not-false _ (c .if1 .left))
 
 full : (c : tie.Else2) (n : ℕ) (out : List ℕ)
     → handContents (c .before .before .before .before .before .before .before .before .args .p) (contents (c .before .before .before .before .before .before .before .before .args .p) (c .before .before .before .before .before .before .before .before .args .store .now)) n out
@@ -22,10 +27,10 @@ full : (c : tie.Else2) (n : ℕ) (out : List ℕ)
 full c n out = let t = tallied (c .before .before .before) in contents-full _ _ n out (t .right) (t .none (c .if2 .left))
 
 survey-requires : tie.Need-survey-requires
-survey-requires c κs = c .before .before .pre .ends
+survey-requires c κs = tt
 
 returns : tie.Need-returns
-returns c = contents-slot _ _ _ _ (c .before .before .survey .ensures .wrong (not-true _ (c .if1 .taken)))
+returns c = contents-slot _ _ _ _ (seen (c .before .before) .wrong (not-true _ (c .if1 .taken)))
 
 returns-2 : tie.Need-returns-2
 returns-2 c = let t = tallied (c .before .before .before) in contents-missing _ _ _ _ (t .right) _ (t .some (c .if2 .taken))

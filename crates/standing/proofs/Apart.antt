@@ -5,9 +5,9 @@ use mathlib.Core.List.{List, [], _∷_}
 use Prim.Native.Nat.{ℕ}
 use Rattle.refusals.proofs.Told.{answerIn, refused-back, told-apart}
 use Rattle.places.specs.declared.Found.the-variants.{At, Nothing}
-use Rattle.readout.specs.declared.Standing.{Standing}
-use Rattle.readout.specs.declared.Standing.the-variants.{Filled, Refused}
-use Rattle.readout.specs.Told.{standingTold}
+use Rattle.standing.specs.declared.Standing.{Standing}
+use Rattle.standing.specs.declared.Standing.the-variants.{Filled, Refused}
+use Rattle.standing.specs.Told.{standingTold}
 
 abbrev filledIn : List ℕ → Standing
 filledIn [] = Filled 0 Nothing

@@ -8,11 +8,12 @@ use borrow.Author.Tests.{not-true, not-false}
 use lib.ListN.{length}
 use Rattle.places.specs.declared.Found.the-variants.{At}
 use Rattle.places.specs.Places.{good, placeNamed}
+use Rattle.places.proofs.Facts.{named-facts}
 use Rattle.places.proofs.Steps.{mapped-length}
 use Rattle.places.proofs.Holders.{found-names}
-use Rattle.readout.proofs.HandCases.{status-record, status-unknown, status-found, found-usable}
-use Rattle.readout.proofs.survey.status.Statement.{statement}
-use Rattle.readout.proofs.survey.status.Tie as tie
+use Rattle.standing.proofs.StatusLaws.{status-record, status-unknown, status-found}
+use Rattle.standing.proofs.status.Statement.{statement}
+use Rattle.standing.proofs.status.Tie as tie
 
 -- the test passed, and the place found
 sound : (c : tie.Else1) → good (length (c .before .before .before .args .store .now)) (c .before .before .before .args .t1 .places) ≡ true
@@ -45,17 +46,17 @@ enum-told c = omega arith
 returns-2 : tie.Need-returns-2
 returns-2 c = status-unknown _ _ _ (sound (c .before .before .before)) (sym (c .before .before .find-place .ensures) ∙ c .enum-told .given .1)
 
-mul-standing : tie.Need-mul-standing
-mul-standing c = omega (arith, below (c .before))
+mul-stands : tie.Need-mul-stands
+mul-stands c = omega (arith, below (c .before))
 
-element-copy-out-standing : tie.Need-element-copy-out-standing
-element-copy-out-standing c = below (c .before)
+element-copy-out-stands : tie.Need-element-copy-out-stands
+element-copy-out-stands c = below (c .before)
 
-standing-requires : tie.Need-standing-requires
-standing-requires c κs = found-usable _ (c .before .before .before .before .before .before .before .before .args .store .now) _ (sound (c .before .before .before .before .before)) _ (found (c .before .before)) .ends
+stands-requires : tie.Need-stands-requires
+stands-requires c κs = named-facts _ _ (sound (c .before .before .before .before .before)) _ _ (found (c .before .before)) .ends-within
 
 returns-3 : tie.Need-returns-3
-returns-3 c = c .standing .ensures ∙ status-found _ _ _ (sound (c .before .before .before .before .before .before)) _ (found (c .before .before .before))
+returns-3 c = c .stands .ensures ∙ status-found _ _ _ (sound (c .before .before .before .before .before .before)) _ (found (c .before .before .before))
 
 pub status-spec : {M : Type 1} → statement M
 status-spec =
@@ -67,7 +68,7 @@ status-spec =
     enum-known-i
     enum-told
     returns-2
-    mul-standing
-    element-copy-out-standing
-    standing-requires
+    mul-stands
+    element-copy-out-stands
+    stands-requires
     returns-3)

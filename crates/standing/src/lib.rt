@@ -1,46 +1,62 @@
-// Status: document 01, section 5. A pass over the lengths of a place's slots, two bytes of each, which Hand out begins with too.
+// How a resource stands: document 01, section 5, Status. A pass over the lengths of a place's slots, two bytes of each, which Hand out begins with too. Record
+// and store are only read.
 ghost use mathlib.Core.Path.{_≡_};
 ghost use Prim.Native.Nat.{_≤_};
 ghost use lib.ListN.{length};
 ghost use Rattle.places.specs.Places.{endOf};
 ghost use Rattle.contents.specs.Contents.{contents};
-ghost use Rattle.readout.specs.Hand.{standingIn, statusOf};
-ghost use Rattle.readout.specs.Passes.{Sees};
-use crate::Standing;
+ghost use Rattle.standing.specs.Survey.{nothingSeen, seenOf};
+ghost use Rattle.standing.specs.Status.{standingIn, statusOf};
 use places::Found;
 use places::Place;
 use places::Record;
 use refusals::Refusal;
 
-// What a pass saw: whether every length is right, and then how many slots are filled, how many stand before the lowest empty one, which is all of them where
-// none is empty, and how many bytes the payloads have.
-pub(crate) struct Seen {
-    pub(crate) sound: bool,
-    pub(crate) filled: u32,
-    pub(crate) empty: u32,
-    pub(crate) bytes: usize,
+// What a pass saw: whether the place lies in the store and every length is right, and then how many slots are filled, how many stand before the lowest empty
+// one, which is all of them where none is empty, and how many bytes the payloads have; else 0 for each.
+pub struct Seen {
+    pub sound: bool,
+    pub filled: u32,
+    pub empty: u32,
+    pub bytes: usize,
+}
+
+// How a resource stands: the number of filled slots, and the lowest empty one.
+pub enum Standing {
+    Filled(u32, Found),
+    Refused(Refusal),
+}
+
+// Where a length is wrong nothing is counted.
+fn nothing_seen() -> Seen
+    ensures { λ r. ⌜ r ≡ nothingSeen ⌝ }
+{
+    Seen {
+        sound: false,
+        filled: 0,
+        empty: 0,
+        bytes: 0,
+    }
 }
 
 // What the slots of a place hold, by their lengths.
-pub(crate) fn survey(p: Place, store: &[u8]) -> Seen
-    requires { ⌜ endOf p ≤ length (now store) ⌝ }
-    ensures { λ r. ⌜ Sees p (contents p (now (store .entry))) r ⌝ }
+pub fn survey(p: Place, store: &[u8]) -> Seen
+    ensures { λ r. ⌜ r ≡ seenOf p (now (store .entry)) ⌝ }
 {
     let width = p.slot as usize + 2;
     let mut at = p.start as usize;
+    let end = at + places::cover_of(p.count, p.slot);
+    if store.len() < end {
+        return nothing_seen();
+    }
     let mut filled: u32 = 0;
     let mut empty: u32 = 0;
     let mut bytes: usize = 0;
     let mut k: u32 = 0;
-    while k < p.count {
+    while at < end {
         let n = contents::slot_length(store, at);
         if !contents::length_fits(p, n) {
-            return Seen {
-                sound: false,
-                filled,
-                empty,
-                bytes,
-            };
+            return nothing_seen();
         }
         if n != 0 {
             filled += 1;
@@ -61,7 +77,7 @@ pub(crate) fn survey(p: Place, store: &[u8]) -> Seen
 }
 
 // How a place stands.
-fn standing(p: Place, store: &[u8]) -> Standing
+fn stands(p: Place, store: &[u8]) -> Standing
     requires { ⌜ endOf p ≤ length (now store) ⌝ }
     ensures { λ r. ⌜ r ≡ standingIn (contents p (now (store .entry))) ⌝ }
 {
@@ -85,5 +101,5 @@ pub fn status(held: Record, store: &[u8], resource: u16) -> Standing
     let Found::At(i) = places::find_place(held, resource) else {
         return Standing::Refused(Refusal::Unknown);
     };
-    standing(held.places[i], store)
+    stands(held.places[i], store)
 }

@@ -3,8 +3,8 @@
 use mathlib.Core.List.{[], _∷_}
 use Rattle.refusals.specs.Told.{Told, acceptedWith, refusedAs}
 use Rattle.places.specs.declared.Found.the-variants.{At, Nothing}
-use Rattle.readout.specs.declared.Standing.{Standing}
-use Rattle.readout.specs.declared.Standing.the-variants.{Filled, Refused}
+use Rattle.standing.specs.declared.Standing.{Standing}
+use Rattle.standing.specs.declared.Standing.the-variants.{Filled, Refused}
 
 -- the number of filled slots, and the lowest empty one where there is one; or the refusal
 abbrev pub standingTold : Standing → Told

@@ -1,27 +1,91 @@
 -- The pass over the lengths of a place's slots: what the slots that are left add to what was seen, and what all say of the contents.
 -- Assumes nothing.
 use mathlib.Core.Path.{_≡_, refl, sym, ap, _∙_}
-use mathlib.Core.Bool.{true, false, true≢false}
+use mathlib.Core.Bool.{Bool, true, false, cond, true≢false}
 use mathlib.Core.List.{List, [], _∷_}
 use mathlib.Core.Logic.{_⊎_, inl, inr}
 use Prim.Native.Nat.{ℕ, suc, _+_, _<_, _≤_}
 use native.Mathlib.Omega.{arith}
+use borrow.Author.Tests.{le-leb, lt-leb}
 use lib.ListN.{length, length-append}
 use Rattle.places.specs.declared.Place.{Place}
 use Rattle.places.specs.declared.Found.{Found}
 use Rattle.places.specs.declared.Found.the-variants.{At, Nothing}
+use Rattle.places.specs.Places.{endOf}
 use Rattle.contents.specs.Slots.{lengthAt}
 use Rattle.contents.specs.Contents.{Slot as Content, wrong, holding, bytesAt, slotAt, lengthFits, contents, anyWrong, filled, lowestEmpty, joined}
 use Rattle.contents.proofs.Bytes.{length-bytes}
 use Rattle.contents.proofs.Walks.{contentsFrom, walk-all, walk-step, walk-end}
 use Rattle.contents.proofs.Slots.{slot-holds, slot-wrong, fits-room}
-use Rattle.refusals.specs.declared.Refusal.the-variants.{Slot}
-use Rattle.readout.specs.declared.Standing.{Standing}
-use Rattle.readout.specs.declared.Standing.the-variants.{Filled}
-use Rattle.readout.specs.declared.survey.Seen.{Seen}
-use Rattle.readout.specs.Hand.{standingIn}
-use Rattle.readout.specs.Passes.{Tallied, Sees}
-use Rattle.readout.proofs.WalkLaws.{Stands, stands-first, stands-next}
+use Rattle.contents.proofs.Filled.{lowest-found}
+use Rattle.contents.proofs.Places.{length-contents}
+use Rattle.standing.specs.declared.Seen.{Seen}
+use Rattle.standing.specs.Survey.{nothingSeen, before, seenIn, seenOf}
+use Rattle.standing.proofs.StandLaws.{Stands, stands-first, stands-next}
+
+-- ---- what is seen
+
+module _ (p : Place) (s : List ℕ) where
+  pub seen-inside : endOf p ≤ length s → seenIn (contents p s) ≡ seenOf p s
+  unfolding seenOf
+  seen-inside h = rw (le-leb (endOf p) (length s) h)
+
+  pub seen-outside : length s < endOf p → nothingSeen ≡ seenOf p s
+  unfolding seenOf
+  seen-outside h = rw (lt-leb (endOf p) (length s) h)
+
+module _ (c : List Content) where
+  seen-wrong : anyWrong c ≡ true → nothingSeen ≡ seenIn c
+  unfolding seenIn
+  seen-wrong w = rw w
+
+  seen-sound : (f e b : ℕ) → anyWrong c ≡ false → f ≡ filled c → e ≡ before (lowestEmpty c 0) (length c) → b ≡ length (joined c)
+      → record { sound = true; filled = f; empty = e; bytes = b } ≡ seenIn c
+  unfolding seenIn
+  seen-sound f e b w x y z = rw (w, x, y, z)
+
+-- of the slots of a place, none of which is wrong
+pub record Tallied (p : Place) (c : List Content) (t : Seen) : Type 0 where
+  pub right : anyWrong c ≡ false
+  pub filled : t .filled ≡ filled c
+  pub none : t .empty ≡ p .count → lowestEmpty c 0 ≡ Nothing
+  pub some : (t .empty ≡ p .count → ⊥) → lowestEmpty c 0 ≡ At (t .empty)
+  pub bytes : t .bytes ≡ length (joined c)
+
+-- of any slots
+pub record Sees (p : Place) (c : List Content) (t : Seen) : Type 0 where
+  pub wrong : t .sound ≡ false → anyWrong c ≡ true
+  pub sound : t .sound ≡ true → Tallied p c t
+
+module _ (p : Place) (s : List ℕ) (h : endOf p ≤ length s) (t : Seen) where
+  pub sees : t ≡ seenOf p s → Sees p (contents p s) t
+  unfolding seenIn
+  sees e = by (anyWrong c) (lowestEmpty c 0) refl refl (e ∙ sym (seen-inside p s h))
+    where
+      c : List Content
+      c = contents p s
+
+      by : (b : Bool) (o : Found) → anyWrong c ≡ b → lowestEmpty c 0 ≡ o
+          → t ≡ cond b nothingSeen (record { sound = true; filled = filled c; empty = before o (length c); bytes = length (joined c) }) → Sees p c t
+      by true o w l e = record { wrong = λ x. w; sound = λ x. absurd (true≢false (sym x ∙ ap (λ (y : Seen). y .sound) e)) }
+      by false o w l e = record {
+        wrong = λ x. absurd (true≢false (sym (ap (λ (y : Seen). y .sound) e) ∙ x));
+        sound = λ x. record {
+          right = w;
+          filled = ap (λ (y : Seen). y .filled) e;
+          none = λ x. none o l (sym (ap (λ (y : Seen). y .empty) e) ∙ x);
+          some = λ x. l ∙ some o l x (ap (λ (y : Seen). y .empty) e);
+          bytes = ap (λ (y : Seen). y .bytes) e;
+        };
+      }
+        where
+          none : (o : Found) → lowestEmpty c 0 ≡ o → before o (length c) ≡ p .count → lowestEmpty c 0 ≡ Nothing
+          none (At i) l x = absurd (omega (arith, x, lowest-found c i l .below, length-contents p s))
+          none Nothing l x = l
+
+          some : (o : Found) → lowestEmpty c 0 ≡ o → (t .empty ≡ p .count → ⊥) → t .empty ≡ before o (length c) → o ≡ At (t .empty)
+          some (At i) l x e = ap At (sym e)
+          some Nothing l x e = absurd (x (e ∙ length-contents p s))
 
 -- ---- k slots of c were seen, f of them filled, e before the lowest empty one, with b bytes; d are those that are left
 
@@ -100,43 +164,29 @@ module _ (p : Place) (s : List ℕ) (at f e b k : ℕ) (v : Surveying p s at f e
   pub surveying-few : f ≤ k
   surveying-few = tally-few _ _ _ _ _ _ (v .tally)
 
-  pub surveying-end : p .count ≤ k → Sees p (contents p s) (record { sound = true; filled = f; empty = e; bytes = b })
-  surveying-end h = record {
-    wrong = λ x. absurd (true≢false x);
-    sound = λ x. by (rw (walk-end p s k h) at (v .tally));
-  }
+  pub surveying-end : endOf p ≤ length s → p .count ≤ k → record { sound = true; filled = f; empty = e; bytes = b } ≡ seenOf p s
+  surveying-end i h = by (rw (walk-end p s k h) at (v .tally)) ∙ seen-inside p s i
     where
-      i : k ≡ p .count
-      i = omega (arith, v .stands .within)
-
-      by : Tally (contents p s) [] f e b k → Tallied p (contents p s) (record { sound = true; filled = f; empty = e; bytes = b })
-      by t = record {
-        right = sym (t .right);
-        filled = omega (arith, t .count);
-        none = λ x. no-empty (t .lowest) x;
-        some = λ x. an-empty (t .lowest) x;
-        bytes = omega (arith, t .total);
-      }
+      by : Tally (contents p s) [] f e b k → record { sound = true; filled = f; empty = e; bytes = b } ≡ seenIn (contents p s)
+      by t = seen-sound (contents p s) f e b (sym (t .right)) (omega (arith, t .count)) (lowest (t .lowest)) (omega (arith, t .total))
         where
-          no-empty : Lowest (contents p s) [] f e k → e ≡ p .count → lowestEmpty (contents p s) 0 ≡ Nothing
-          no-empty (none x y z) a = sym z
-          no-empty (some x y z) a = absurd (omega (arith, i))
+          all : k ≡ length (contents p s)
+          all = omega (arith, v .stands .within, length-contents p s)
 
-          an-empty : Lowest (contents p s) [] f e k → (e ≡ p .count → ⊥) → lowestEmpty (contents p s) 0 ≡ At e
-          an-empty (none x y z) a = absurd (a (y ∙ i))
-          an-empty (some x y z) a = z
+          lowest : Lowest (contents p s) [] f e k → e ≡ before (lowestEmpty (contents p s) 0) (length (contents p s))
+          lowest (none x y z) = y ∙ all ∙ ap (λ (o : Found). before o (length (contents p s))) z
+          lowest (some x y z) = ap (λ (o : Found). before o (length (contents p s))) (sym z)
 
   module _ (h : k < p .count) (n : ℕ) (l : n ≡ lengthAt s at) where
     length-here : lengthAt s (slotAt p k) ≡ n
     length-here = ap (lengthAt s) (sym (v .stands .place)) ∙ sym l
 
-    pub surveying-wrong : lengthFits p n ≡ false → Sees p (contents p s) (record { sound = false; filled = f; empty = e; bytes = b })
-    surveying-wrong w = record {
-      wrong = λ x.
-          sym (v .tally .right)
-          ∙ ap anyWrong (walk-step p s k h ∙ ap (λ (y : Content). y ∷ contentsFrom p s (k + 1)) (slot-wrong p s k (rw length-here w)));
-      sound = λ x. absurd (true≢false (sym x));
-    }
+    pub surveying-wrong : endOf p ≤ length s → lengthFits p n ≡ false → nothingSeen ≡ seenOf p s
+    surveying-wrong i w =
+        seen-wrong (contents p s)
+        (sym (v .tally .right)
+        ∙ ap anyWrong (walk-step p s k h ∙ ap (λ (y : Content). y ∷ contentsFrom p s (k + 1)) (slot-wrong p s k (rw length-here w))))
+        ∙ seen-inside p s i
 
     module _ (w : lengthFits p n ≡ true) where
       pub surveying-room : n ≤ p .slot
@@ -152,14 +202,3 @@ module _ (p : Place) (s : List ℕ) (at f e b k : ℕ) (v : Surveying p s at f e
             short = omega (arith, v .short, surveying-room);
             tally = tally-next (contents p s) (contentsFrom p s (k + 1)) f e k n g o x (length-bytes s (slotAt p k + 2) n) b (rw d at (v .tally)) m q;
           }
-
--- ---- how a place stands
-
-module _ (c : List Content) where
-  pub standing-wrong : anyWrong c ≡ true → Standing.Refused Slot ≡ standingIn c
-  unfolding standingIn
-  standing-wrong w = rw w
-
-  pub standing-sound : (p : Place) (t : Seen) → Tallied p c t → (e : Found) → lowestEmpty c 0 ≡ e → Filled (t .filled) e ≡ standingIn c
-  unfolding standingIn
-  standing-sound p t a e l = rw (a .right, sym (a .filled), l)

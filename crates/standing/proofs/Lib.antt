@@ -1,0 +1,4 @@
+pub mod StandLaws
+pub mod SurveyLaws
+pub mod StatusLaws
+pub mod Apart

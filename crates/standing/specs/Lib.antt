@@ -1,0 +1,3 @@
+pub mod Survey
+pub mod Status
+pub mod Told
