@@ -10,7 +10,8 @@ use opening::Kept;
 use packet::Reading;
 use settings::Settings;
 
-mod answers;
+// Record's number, for bytes lent as a record that are not 128.
+const NO_RECORD: u64 = 9;
 
 // The CRC-32 of the bytes.
 #[no_mangle]
@@ -121,7 +122,7 @@ pub extern "C" fn bh_open(
     ensures { λ r. ⌜ Keeps (openSays (now (held .entry)) (now (store .entry)) (record { resource = resource; kind = kind; update = update; protection = protection; rows = rows; size = slot }) count) r (now (held .exit)) (now (store .exit)) ⌝ }
 {
     if held.len() != 128 {
-        return answers::NO_RECORD;
+        return NO_RECORD;
     }
     let settings = Settings {
         resource,
@@ -148,7 +149,7 @@ pub extern "C" fn bh_open_house(
     ensures { λ r. ⌜ Keeps (openSays (now (held .entry)) (now (store .entry)) (house resource kind update) count) r (now (held .exit)) (now (store .exit)) ⌝ }
 {
     if held.len() != 128 {
-        return answers::NO_RECORD;
+        return NO_RECORD;
     }
     let before = face::record_in(held);
     let kept = opening::open_house(before, store, resource, kind, update, count);
@@ -161,7 +162,7 @@ pub extern "C" fn bh_offer(held: &[u8], store: &mut [u8], packet: &[u8]) -> u64
     ensures { λ r. ⌜ Keeps (offerSays (now (held .entry)) (now (store .entry)) (now (packet .entry))) r (now (held .entry)) (now (store .exit)) ⌝ }
 {
     if held.len() != 128 {
-        return answers::NO_RECORD;
+        return NO_RECORD;
     }
     let offered = record::offer(face::record_in(held), store, packet);
     answers::offered_as(offered)
@@ -173,7 +174,7 @@ pub extern "C" fn bh_status(held: &[u8], store: &[u8], resource: u16) -> u64
     ensures { λ r. ⌜ r ≡ statusSays (now (held .entry)) (now (store .entry)) resource ⌝ }
 {
     if held.len() != 128 {
-        return answers::NO_RECORD;
+        return NO_RECORD;
     }
     let standing = standing::status(face::record_in(held), store, resource);
     answers::standing_as(standing)
@@ -191,7 +192,7 @@ pub extern "C" fn bh_hand_out(
     ensures { λ r. ⌜ Says (handSays (now (held .entry)) (now (store .entry)) resource length (now (out .entry))) r (now (out .exit)) ⌝ }
 {
     if held.len() != 128 {
-        return answers::NO_RECORD;
+        return NO_RECORD;
     }
     let before = face::record_in(held);
     let verdict = readout::hand_out(before, store, resource, length as usize, out);
@@ -204,7 +205,7 @@ pub extern "C" fn bh_close(held: &mut [u8], store: &[u8], resource: u16) -> u64
     ensures { λ r. ⌜ Keeps (closeSays (now (held .entry)) (now (store .entry)) resource) r (now (held .exit)) (now (store .entry)) ⌝ }
 {
     if held.len() != 128 {
-        return answers::NO_RECORD;
+        return NO_RECORD;
     }
     let kept = opening::close(face::record_in(held), store, resource);
     put_kept(held, kept)

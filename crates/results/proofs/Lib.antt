@@ -20,4 +20,5 @@ pub mod Opening
 pub mod Record
 pub mod Standing
 pub mod Readout
+pub mod Answers
 pub mod Face

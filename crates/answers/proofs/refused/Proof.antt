@@ -3,8 +3,8 @@ use mathlib.Core.Path.{ap₂, _∙_}
 use Prim.Native.Nat.{ℕ, _+_, _*_}
 use native.Mathlib.Omega.{arith}
 use Rattle.face.proofs.ToldLaws.{refused-answer}
-use Rattle.brithelva.proofs.answers.refused.Statement.{statement}
-use Rattle.brithelva.proofs.answers.refused.Tie as tie
+use Rattle.answers.proofs.refused.Statement.{statement}
+use Rattle.answers.proofs.refused.Tie as tie
 
 number-requires : tie.Need-number-requires
 number-requires c κs = tt

@@ -4,8 +4,8 @@ use Rattle.refusals.specs.declared.Verdict.{Verdict}
 use Rattle.refusals.specs.Told.{verdictTold}
 use Rattle.face.specs.Face.{answerOf}
 use native.Mathlib.Omega.{arith}
-use Rattle.brithelva.proofs.answers.verdict_of.Statement.{statement}
-use Rattle.brithelva.proofs.answers.verdict_of.Tie as tie
+use Rattle.answers.proofs.verdict_of.Statement.{statement}
+use Rattle.answers.proofs.verdict_of.Tie as tie
 
 told : {v w : Verdict} → v ≡ w → answerOf (verdictTold w) ≡ answerOf (verdictTold v)
 told e = ap (λ (y : Verdict). answerOf (verdictTold y)) (sym e)

@@ -4,8 +4,8 @@ use Rattle.record.specs.declared.Offered.{Offered}
 use Rattle.record.specs.Told.{offeredTold}
 use Rattle.face.specs.Face.{answerOf}
 use native.Mathlib.Omega.{arith}
-use Rattle.brithelva.proofs.answers.offered_as.Statement.{statement}
-use Rattle.brithelva.proofs.answers.offered_as.Tie as tie
+use Rattle.answers.proofs.offered_as.Statement.{statement}
+use Rattle.answers.proofs.offered_as.Tie as tie
 
 told : {o s : Offered} → o ≡ s → answerOf (offeredTold s) ≡ answerOf (offeredTold o)
 told e = ap (λ (y : Offered). answerOf (offeredTold y)) (sym e)

@@ -1,8 +1,8 @@
 -- An accepted verdict puts the bytes; a refused one is answered, and the output stays.
 use Rattle.face.proofs.SayLaws.{puts-accepted, puts-refused}
 use native.Mathlib.Omega.{arith}
-use Rattle.brithelva.proofs.answers.put_if.Statement.{statement}
-use Rattle.brithelva.proofs.answers.put_if.Tie as tie
+use Rattle.answers.proofs.put_if.Statement.{statement}
+use Rattle.answers.proofs.put_if.Tie as tie
 
 enum-told : tie.Need-enum-told
 enum-told c = omega arith
