@@ -1,4 +1,4 @@
--- The pass over the lengths of a place's slots: what the slots that are left add to what was seen, and what all say of the contents.
+-- The pass over the lengths of a place's slots: what it says of their contents, and what the slots that are left add to what was seen.
 -- Assumes nothing.
 use mathlib.Core.Path.{_≡_, refl, sym, ap, _∙_}
 use mathlib.Core.Bool.{Bool, true, false, cond, true≢false}
@@ -44,7 +44,7 @@ module _ (c : List Content) where
   unfolding seenIn
   seen-sound f e b w x y z = rw (w, x, y, z)
 
--- of the slots of a place, none of which is wrong
+-- what was seen of the slots of a place, none of which is wrong: the number before the lowest empty one is that of all where none is empty
 pub record Tallied (p : Place) (c : List Content) (t : Seen) : Type 0 where
   pub right : anyWrong c ≡ false
   pub filled : t .filled ≡ filled c
@@ -52,7 +52,7 @@ pub record Tallied (p : Place) (c : List Content) (t : Seen) : Type 0 where
   pub some : (t .empty ≡ p .count → ⊥) → lowestEmpty c 0 ≡ At (t .empty)
   pub bytes : t .bytes ≡ length (joined c)
 
--- of any slots
+-- what was seen of any slots
 pub record Sees (p : Place) (c : List Content) (t : Seen) : Type 0 where
   pub wrong : t .sound ≡ false → anyWrong c ≡ true
   pub sound : t .sound ≡ true → Tallied p c t

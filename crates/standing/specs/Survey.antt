@@ -12,7 +12,7 @@ use Rattle.places.specs.Places.{endOf}
 use Rattle.contents.specs.Contents.{Slot as Content, contents, anyWrong, filled, lowestEmpty, joined}
 use Rattle.standing.specs.declared.Seen.{Seen}
 
--- where a length is wrong nothing is counted
+-- nothing is counted where a length is wrong or the place passes the end of the store
 abbrev pub nothingSeen : Seen
 nothingSeen = record { sound = false; filled = 0; empty = 0; bytes = 0 }
 
@@ -21,10 +21,10 @@ abbrev pub before : Found → ℕ → ℕ
 before (At i) n = i
 before Nothing n = n
 
+-- by the slots alone
 unfoldable pub seenIn : List Content → Seen
 seenIn c =
     cond (anyWrong c) nothingSeen (record { sound = true; filled = filled c; empty = before (lowestEmpty c 0) (length c); bytes = length (joined c) })
 
--- a place that passes the end of the store is not read
 unfoldable pub seenOf : Place → List ℕ → Seen
 seenOf p s = cond (leb (endOf p) (length s)) (seenIn (contents p s)) nothingSeen

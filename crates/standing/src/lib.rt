@@ -27,7 +27,7 @@ pub enum Standing {
     Refused(Refusal),
 }
 
-// Where a length is wrong nothing is counted.
+// What is answered for a place that passes the end of the store, or has a slot whose length is wrong.
 fn nothing_seen() -> Seen
     ensures { λ r. ⌜ r ≡ nothingSeen ⌝ }
 {
@@ -39,7 +39,7 @@ fn nothing_seen() -> Seen
     }
 }
 
-// What the slots of a place hold, by their lengths.
+// What the slots of a place hold, by their lengths. Whether the place lies in the store is asked once, before the first of them.
 pub fn survey(p: Place, store: &[u8]) -> Seen
     ensures { λ r. ⌜ r ≡ seenOf p (now (store .entry)) ⌝ }
 {
