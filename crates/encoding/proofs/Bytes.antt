@@ -3,56 +3,51 @@
 use mathlib.Core.Path.{_≡_, refl, sym, ap, ap₂, _∙_, subst}
 use mathlib.Core.List.{List, [], _∷_, _++_}
 use Prim.Native.Nat.{ℕ, suc, _+_, _-_, _*_, _^_, _<_, _≤_}
-use native.Mathlib.Nat.{lt-of-lt-of-le, mul-le-mul-right}
+use native.Mathlib.Nat.{lt-of-lt-of-le}
 use native.Mathlib.Numerals.{add-one}
 use native.Mathlib.Omega.{arith}
 use lib.ListN.{length, getD, set, length-set}
 use lib.Seq.{sets}
 use lib.Arith.{digits-lt}
 use lib.Pow.{pow-add, pow-mono}
-use Rattle.ground.proofs.Listed.{listed-append}
 use Rattle.ground.proofs.Writing.{sets-append}
 use Rattle.words.specs.Words.{byteAt}
-use Rattle.encoding.specs.InnerRegister.{column, unpack, both}
+use Rattle.encoding.specs.InnerRegister.{part, unpack, both}
+use Rattle.encoding.proofs.Parts.{part-append}
 use Rattle.encoding.proofs.Words.{length-unpack, unpack-push}
 
--- w has the n bytes from at on and m apart, and no more
-pub record Packing (d : List ℕ) (m at w n : ℕ) : Type 0 where
+-- w has the n bytes from at on, and no more
+pub record Packing (d : List ℕ) (at w n : ℕ) : Type 0 where
   pub within : n ≤ 8
   pub small : w < 2 ^ (n * 8)
-  pub held : unpack n w ≡ column d m at n
+  pub held : unpack n w ≡ part d at n
 
-pub packing-start : (d : List ℕ) (m at : ℕ) → Packing d m at 0 0
+pub packing-start : (d : List ℕ) (at : ℕ) → Packing d at 0 0
 unfolding unpack
-packing-start d m at = record { within = omega arith; small = omega arith; held = refl }
+packing-start d at = record { within = omega arith; small = omega arith; held = refl }
 
-module _ (d : List ℕ) (m at w n : ℕ) (p : Packing d m at w n) where
+module _ (d : List ℕ) (at w n : ℕ) (p : Packing d at w n) where
   -- there is room for one byte more
   pub packing-room : n < 8 → w < 2 ^ 56
   packing-room h = lt-of-lt-of-le (p .small) (pow-mono {i = n * 8} {j = 56} (omega arith))
 
-  -- and it stands no further than the last
-  pub packing-near : n < 8 → n * m ≤ 7 * m
-  packing-near h = mul-le-mul-right {m = n} {n = 7} m (omega arith)
-
-  pub packing-more : (b : ℕ) → n < 8 → b < 256 → b ≡ getD d (at + n * m) 0 → Packing d m at (w * 256 + b) (n + 1)
+  pub packing-more : (b : ℕ) → n < 8 → b < 256 → b ≡ getD d (at + n) 0 → Packing d at (w * 256 + b) (n + 1)
   packing-more b h j e =
       let s : n * 8 + 8 ≡ (n + 1) * 8 = omega arith in
-      let z : n ≡ 0 + n = omega arith in
       record {
         within = omega arith;
         small = subst (λ (x : ℕ). w * 256 + b < x) (sym (pow-add 2 (n * 8) 8) ∙ ap (λ (x : ℕ). 2 ^ x) s) (digits-lt (p .small) j);
         held =
             ap (λ (k : ℕ). unpack k (w * 256 + b)) (add-one n) ∙ unpack-push n w b j
-            ∙ ap₂ (λ (l : List ℕ) (x : ℕ). l ++ (x ∷ [])) (p .held) (e ∙ ap (λ (k : ℕ). getD d (at + k * m) 0) z)
-            ∙ sym (listed-append (λ c. getD d (at + c * m) 0) n 1 0);
+            ∙ ap₂ (λ (l : List ℕ) (x : ℕ). l ++ (x ∷ [])) (p .held) e
+            ∙ sym (part-append d at n 1);
       }
 
-  pub packing-done : 8 ≤ n → unpack 8 w ≡ column d m at 8
+  pub packing-done : 8 ≤ n → unpack 8 w ≡ part d at 8
   packing-done h =
       let j : n ≤ 8 = p .within in
       let e : n ≡ 8 = omega arith in
-      ap (λ (k : ℕ). unpack k w) (sym e) ∙ p .held ∙ ap (column d m at) e
+      ap (λ (k : ℕ). unpack k w) (sym e) ∙ p .held ∙ ap (part d at) e
 
 -- the top bytes of w are written; its k low bytes are left
 pub record Unpacking (w at : ℕ) (out₀ out : List ℕ) (i k : ℕ) : Type 0 where

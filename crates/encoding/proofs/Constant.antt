@@ -17,7 +17,7 @@ use Rattle.code.specs.Code.{add, scale, generator}
 use Rattle.code.specs.Search.{lower}
 use Rattle.code.specs.Register.{next}
 use Rattle.code.proofs.Lists.{scale-sum}
-use Rattle.encoding.specs.InnerRegister.{column, unpack, both, through, Halves}
+use Rattle.encoding.specs.InnerRegister.{part, unpack, both, through, Halves}
 use Rattle.encoding.proofs.Turns.{through-byte, through-next}
 
 -- the entries, each as sixteen bytes
@@ -160,7 +160,7 @@ module _ (t : List ℕ) (n : length t ≡ 512) (es : List (List ℕ)) (same : en
   }
 
 -- the generator, without its leading coefficient, in two words
-pub own-words : (x y : ℕ) → unpack 8 x ≡ column generator 1 1 8 → unpack 8 y ≡ column generator 1 9 8 → both x y ≡ lower
+pub own-words : (x y : ℕ) → unpack 8 x ≡ part generator 1 8 → unpack 8 y ≡ part generator 9 8 → both x y ≡ lower
 unfolding both generator lower
 own-words x y p q = ap₂ _++_ p q
 

@@ -4,10 +4,10 @@ use mathlib.Core.Path.{_≡_, refl, sym, ap, ap₂, _∙_}
 use mathlib.Core.List.{List, [], _∷_, _++_}
 use Prim.Native.Nat.{ℕ, _+_, _-_, _*_, _/_, _%_, _^_, _<_, _≤_}
 use native.Mathlib.Omega.{arith}
-use lib.ListN.{length, getD, take, drop}
+use lib.ListN.{length, take, drop}
 use lib.Seq.{length-sets, take-at}
 use lib.Bits.{bitXor}
-use Rattle.ground.proofs.Listed.{length-listed, listed-append, listed-same, listed-whole, listed-part, part-of-front}
+use Rattle.ground.proofs.Listed.{listed-part, part-of-front}
 use Rattle.ground.proofs.Writing.{sets-front}
 use Rattle.ground.proofs.Pieces.{pieces, length-pieces, piece-at}
 use native.Mathlib.Nat.{min-le-left}
@@ -18,41 +18,26 @@ use Rattle.code.specs.Repair.{checksOf}
 use Rattle.code.proofs.Lists.{zeros, length-zeros}
 use Rattle.code.proofs.Division.{length-remainder, remainder-row, run-checks}
 use Rattle.encoding.specs.Encode.{restOf, rowsIn, remaindersOf}
-use Rattle.encoding.specs.InnerRegister.{part, column, unpack, both, checksAt, remainderAt, Feeding}
+use Rattle.encoding.specs.InnerRegister.{part, unpack, both, checksAt, remainderAt, Feeding}
+use Rattle.encoding.proofs.Parts.{part-append, length-part, part-whole}
 use Rattle.encoding.proofs.Words.{length-unpack, unpack-push, unpack-top, both-zero, both-xor}
 use Rattle.encoding.proofs.Turns.{run-append, next-zeros}
 
--- n bytes and k more
-pub part-append : (d : List ℕ) (i n k : ℕ) → part d i (n + k) ≡ part d i n ++ part d (i + n) k
-part-append d i n k = listed-append (λ j. getD d j 0) n k i
-
-pub length-part : (d : List ℕ) (i n : ℕ) → length (part d i n) ≡ n
-length-part d i n = length-listed (λ j. getD d j 0) n i
-
-part-whole : (d : List ℕ) (n : ℕ) → length d ≡ n → part d 0 n ≡ d
-part-whole d n e = ap (part d 0) (sym e) ∙ listed-whole d 0
-
--- bytes that stand side by side
-column-one : (d : List ℕ) (i n : ℕ) → column d 1 i n ≡ part d i n
-column-one d i n =
-    listed-same (λ c. getD d (i + c * 1) 0) (λ k. getD d k 0) n 0 i
-    (λ k h. let e : i + (0 + k) * 1 ≡ i + k = omega arith in ap (λ (j : ℕ). getD d j 0) e)
-
 -- a word less its last byte
-seven : (d : List ℕ) (at w : ℕ) → unpack 8 w ≡ column d 1 at 8 → unpack 7 (w / 256) ≡ part d at 7
+seven : (d : List ℕ) (at w : ℕ) → unpack 8 w ≡ part d at 8 → unpack 7 (w / 256) ≡ part d at 7
 seven d at w e =
     let b : w % 256 < 256 = omega arith in
     let s : w ≡ w / 256 * 256 + w % 256 = omega arith in
     sym (take-at (unpack 7 (w / 256)) (w % 256 ∷ []) 7 (length-unpack 7 (w / 256)))
-    ∙ ap (take 7) (sym (ap (unpack 8) s ∙ unpack-push 7 (w / 256) (w % 256) b) ∙ e ∙ column-one d at 8)
+    ∙ ap (take 7) (sym (ap (unpack 8) s ∙ unpack-push 7 (w / 256) (w % 256) b) ∙ e)
 
-short : (d : List ℕ) (at w : ℕ) → w < 2 ^ 64 → unpack 8 w ≡ column d 1 at 8 → run (both 0 0) (unpack 8 (w / 256)) ≡ run (zeros 16) (part d at 7)
+short : (d : List ℕ) (at w : ℕ) → w < 2 ^ 64 → unpack 8 w ≡ part d at 8 → run (both 0 0) (unpack 8 (w / 256)) ≡ run (zeros 16) (part d at 7)
 unfolding run
 short d at w h e =
     ap₂ run both-zero (unpack-top (w / 256) (omega arith) ∙ ap (λ (l : List ℕ). 0 ∷ l) (seven d at w e))
     ∙ ap (λ (r : List ℕ). run r (part d at 7)) next-zeros
 
-pub feeding-start : (d : List ℕ) (at w : ℕ) (r : List ℕ) → w < 2 ^ 64 → unpack 8 w ≡ column d 1 at 8 → r ≡ run (both 0 0) (unpack 8 (w / 256)) → Feeding d at r 0
+pub feeding-start : (d : List ℕ) (at w : ℕ) (r : List ℕ) → w < 2 ^ 64 → unpack 8 w ≡ part d at 8 → r ≡ run (both 0 0) (unpack 8 (w / 256)) → Feeding d at r 0
 feeding-start d at w r h e q =
     let o : at + 0 + 7 ≡ at + 7 = omega arith in
     record {
@@ -62,7 +47,7 @@ feeding-start d at w r h e q =
           ∙ sym (run-append (zeros 16) (part d at 7) (part d (at + 7) 232)) ∙ ap (run (zeros 16)) (sym (part-append d at 7 232));
     }
 
-pub feeding-more : (d : List ℕ) (at w k : ℕ) (r s : List ℕ) → k < 29 → unpack 8 w ≡ column d 1 (at + 8 * k + 7) 8 → s ≡ run r (unpack 8 w) → Feeding d at r k
+pub feeding-more : (d : List ℕ) (at w k : ℕ) (r s : List ℕ) → k < 29 → unpack 8 w ≡ part d (at + 8 * k + 7) 8 → s ≡ run r (unpack 8 w) → Feeding d at r k
     → Feeding d at s (k + 1)
 feeding-more d at w k r s h e q f =
     let i : ℕ = at + 8 * k + 7 in
@@ -72,7 +57,7 @@ feeding-more d at w k r s h e q f =
     record {
       within = omega arith;
       left =
-          ap₂ (λ (l : List ℕ) (j : ℕ). run l (part d j n)) (q ∙ ap (run r) (e ∙ column-one d i 8)) o
+          ap₂ (λ (l : List ℕ) (j : ℕ). run l (part d j n)) (q ∙ ap (run r) e) o
           ∙ sym (run-append r (part d i 8) (part d (i + 8) n)) ∙ ap (run r) (sym (part-append d i 8 n) ∙ ap (part d i) p)
           ∙ f .left;
     }
@@ -90,14 +75,14 @@ unfolding checksAt
 checks-whole d e = ap checksOf (part-whole d 239 e)
 
 -- the checks of a row, less those that came with it
-pub rest-is : (d : List ℕ) (at h l x y : ℕ) → both h l ≡ checksAt d at → unpack 8 x ≡ column d 1 (at + 239) 8 → unpack 8 y ≡ column d 1 (at + 247) 8
+pub rest-is : (d : List ℕ) (at h l x y : ℕ) → both h l ≡ checksAt d at → unpack 8 x ≡ part d (at + 239) 8 → unpack 8 y ≡ part d (at + 247) 8
     → both (bitXor h x) (bitXor l y) ≡ remainderAt d at
 unfolding both checksAt remainderAt
 rest-is d at h l x y e u v =
     let o : at + 247 ≡ at + 239 + 8 = omega arith in
     both-xor h l x y
     ∙ ap₂ add e
-    (ap₂ _++_ (u ∙ column-one d (at + 239) 8) (v ∙ column-one d (at + 247) 8 ∙ ap (λ (i : ℕ). part d i 8) o) ∙ sym (part-append d (at + 239) 8 8))
+    (ap₂ _++_ u (v ∙ ap (λ (i : ℕ). part d i 8) o) ∙ sym (part-append d (at + 239) 8 8))
     ∙ sym (remainder-row (part d at 239) (part d (at + 239) 16) (length-part d at 239) (length-part d (at + 239) 16))
     ∙ ap (remainder 239) (sym (part-append d at 239 16))
 

@@ -1,7 +1,7 @@
+pub mod Parts
 pub mod Words
 pub mod Bytes
 pub mod Turns
 pub mod Constant
 pub mod Feeding
-pub mod Putting
-pub mod Serving
+pub mod Checking

@@ -14,14 +14,6 @@ use Rattle.code.specs.Repair.{checksOf}
 abbrev pub part : List ℕ → ℕ → ℕ → List ℕ
 part d i n = listed (λ k. getD d k 0) n i
 
--- n bytes of d, from byte i on and m apart
-abbrev pub column : List ℕ → ℕ → ℕ → ℕ → List ℕ
-column d m i n = listed (λ c. getD d (i + c * m) 0) n 0
-
--- the information bytes of a row that starts at byte i of d and has them m apart, from its byte n on
-abbrev pub columnFrom : List ℕ → ℕ → ℕ → ℕ → List ℕ
-columnFrom d m i n = listed (λ c. getD d (i + c * m) 0) (239 - n) n
-
 -- the checks of the 239 bytes of d from byte i on
 unfoldable pub checksAt : List ℕ → ℕ → List ℕ
 checksAt d i = checksOf (part d i 239)

@@ -1,3 +1,2 @@
 pub mod Encode
-pub mod Put
 pub mod InnerRegister

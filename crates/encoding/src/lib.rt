@@ -1,11 +1,8 @@
-// Encoding of rows of RS(255,239): checks, rows of a file's tables, and what rows leave when the generator divides them (document 01, section 3).
+// Encoding of rows of RS(255,239): checks, and what rows leave when the generator divides them (document 01, section 3).
 ghost use mathlib.Core.Path.{_≡_};
-ghost use lib.ListN.{length};
 ghost use Rattle.code.specs.Code.{generator as generatorOf};
-ghost use Rattle.encoding.specs.Encode.{encodeOf, remaindersOf};
-ghost use Rattle.encoding.specs.Put.{putVerdict, putRows};
+ghost use Rattle.encoding.specs.Encode.{encodeOf, checkedOf, remaindersOf};
 
-mod encode;
 mod halves;
 mod register;
 
@@ -62,20 +59,24 @@ pub fn encode_row(info: &[u8]) -> Encoded
     }
 }
 
-// Writes n coded rows of a table of m rows to the start of `out`: the first has its information from byte `at` of the file on, m bytes apart, the next from the
-// byte behind that. Beyond the file there are zeros. Refused, and nothing written: 17 where m is not 1 to 255, n is above 15, or the file or `at` is above
-// 16,777,216; 26 where `out` has no room for the rows.
-pub fn put_rows(file: &[u8], m: usize, at: usize, n: usize, out: &mut [u8]) -> Verdict
-    ensures { λ r. ⌜ (r ≡ putVerdict (length (now (file .entry))) m at n (length (now (out .entry)))) × (now (out .exit) ≡ putRows (now (file .entry)) m at n (now (out .entry))) ⌝ }
+// Writes the checks of each whole row of 255 bytes behind its 239 information bytes, where they stand; bytes behind the last whole row stay.
+pub fn put_checks(rows: &mut [u8])
+    ensures { λ r. ⌜ now (rows .exit) ≡ checkedOf (now (rows .entry)) ⌝ }
 {
-    if !encode::serves(file.len(), m, at, n) {
-        return Verdict::Refused(Refusal::Field);
+    let table = register::table();
+    let t = &table;
+    let n = rows.len() / 255;
+    let mut r: usize = 0;
+    while r + 2 <= n {
+        register::seal_two(rows, r * 255, t);
+        r += 2;
     }
-    if out.len() < n * 255 {
-        return Verdict::Refused(Refusal::Output);
+    if n <= r {
+        return;
     }
-    encode::rows(file, m, at, n, out);
-    Verdict::Accepted
+    let at = r * 255;
+    let q = register::checks(rows, at, t);
+    register::put(rows, at + 239, q);
 }
 
 // What the rows of 255 bytes at the front of `rows` leave when the generator divides them, sixteen bytes each, of fifteen at most: zeros exactly where a row is

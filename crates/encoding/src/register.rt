@@ -6,7 +6,7 @@ ghost use lib.ListN.{length};
 ghost use lib.Seq.{sets};
 ghost use Rattle.code.specs.Register.{run};
 ghost use Rattle.code.specs.Repair.{checksOf};
-ghost use Rattle.encoding.specs.InnerRegister.{column, unpack, both, checksAt, remainderAt, sealed, Halves, Feeding};
+ghost use Rattle.encoding.specs.InnerRegister.{part, unpack, both, checksAt, remainderAt, sealed, Halves, Feeding};
 use crate::halves;
 
 // Sixteen bytes, the first one at the top of `h`.
@@ -21,8 +21,8 @@ pub(crate) fn table() -> [u64; 512]
 {
     let generator = crate::GENERATOR;
     let mut t = halves::HALVES;
-    t[2] = word(&generator, 1, 1);
-    t[3] = word(&generator, 1, 9);
+    t[2] = word(&generator, 1);
+    t[3] = word(&generator, 9);
     t
 }
 
@@ -45,15 +45,15 @@ fn turn(r: Reg, x: u64, t: &[u64; 512]) -> Reg
     Reg { h, l }
 }
 
-// Eight bytes of `d`, from `at` on and m apart, as a word, the first one highest.
-pub(crate) fn word(d: &[u8], m: usize, at: usize) -> u64
-    requires { ⌜ (m ≤ 255) × (at + 7 * m < length (now d)) ⌝ }
-    ensures { λ w. ⌜ unpack 8 w ≡ column (now (d .entry)) m at 8 ⌝ }
+// Eight bytes of `d`, from `at` on, as a word, the first one highest.
+fn word(d: &[u8], at: usize) -> u64
+    requires { ⌜ at + 8 ≤ length (now d) ⌝ }
+    ensures { λ w. ⌜ unpack 8 w ≡ part (now (d .entry)) at 8 ⌝ }
 {
     let mut w: u64 = 0;
     let mut n: usize = 0;
     while n < 8 {
-        w = w * 256 + words::wide(d[at + n * m]);
+        w = w * 256 + words::wide(d[at + n]);
         n += 1;
     }
     w
@@ -64,7 +64,7 @@ fn begin(d: &[u8], at: usize, t: &[u64; 512]) -> Reg
     requires { ⌜ (at + 239 ≤ length (now d)) × Halves (now t) ⌝ }
     ensures { λ r. ⌜ Feeding (now (d .entry)) at (both (r .h) (r .l)) 0 ⌝ }
 {
-    turn(Reg { h: 0, l: 0 }, word(d, 1, at) / 256, t)
+    turn(Reg { h: 0, l: 0 }, word(d, at) / 256, t)
 }
 
 // The register after eight bytes more, of which there were k times eight.
@@ -72,7 +72,7 @@ fn go_on(r: Reg, d: &[u8], at: usize, k: usize, t: &[u64; 512]) -> Reg
     requires { ⌜ (at + 239 ≤ length (now d)) × (k < 29) × Feeding (now d) at (both (r .h) (r .l)) k × Halves (now t) ⌝ }
     ensures { λ s. ⌜ Feeding (now (d .entry)) at (both (s .h) (s .l)) (k + 1) ⌝ }
 {
-    turn(r, word(d, 1, at + 8 * k + 7), t)
+    turn(r, word(d, at + 8 * k + 7), t)
 }
 
 // The checks of the 239 bytes of `d` from `at` on.
@@ -116,13 +116,13 @@ pub(crate) fn rest(d: &[u8], at: usize, t: &[u64; 512]) -> Reg
 {
     let q = checks(d, at, t);
     Reg {
-        h: q.h ^ word(d, 1, at + 239),
-        l: q.l ^ word(d, 1, at + 247),
+        h: q.h ^ word(d, at + 239),
+        l: q.l ^ word(d, at + 247),
     }
 }
 
 // Writes the eight bytes of a word.
-pub(crate) fn put_word(out: &mut [u8], at: usize, w: u64)
+fn put_word(out: &mut [u8], at: usize, w: u64)
     requires { ⌜ at + 8 ≤ length (now out) ⌝ }
     ensures { λ r. ⌜ now (out .exit) ≡ sets (now (out .entry)) at (unpack 8 w) ⌝ }
 {

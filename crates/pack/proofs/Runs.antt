@@ -15,8 +15,9 @@ use Rattle.ground.proofs.Sweep.{all, below}
 use Rattle.ground.proofs.Listed.{listed-same, ceil-below}
 use Rattle.ground.proofs.Writing.{sets-append, lent-sets}
 use Rattle.refusals.specs.declared.Verdict.the-variants.{Accepted}
-use Rattle.encoding.specs.Put.{infoFrom, codedRow, rowsFrom, putVerdict, putRows}
-use Rattle.encoding.proofs.Serving.{by-length, put-accepted, put-done}
+use Rattle.encoding.specs.Encode.{codedRow}
+use Rattle.filling.specs.Put.{infoFrom, rowsFrom, putVerdict, putRows}
+use Rattle.filling.proofs.Serving.{by-length, put-accepted, put-done}
 use Rattle.layout.specs.Layout.{tablesOf, rowOf, codedFile}
 use Rattle.layout.proofs.Coded.{info-from, length-coded, row-behind, coded-rows}
 use Rattle.pack.specs.Inner.{codedRows, RunFits}

@@ -116,7 +116,7 @@ fn put_run(file: &[u8], m: usize, q: usize, left: usize, out: &mut [u8], at: usi
     ensures { λ r. ⌜ (0 < r) × (r ≤ left) × (now (out .exit) ≡ sets (now (out .entry)) at (codedRows (now (file .entry)) m q r)) ⌝ }
 {
     let n = lesser(left, m - q % m);
-    encoding::put_rows(file, m, q / m * (239 * m) + q % m, n, &mut out[at..]);
+    filling::put_rows(file, m, q / m * (239 * m) + q % m, n, &mut out[at..]);
     n
 }
 

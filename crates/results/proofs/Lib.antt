@@ -6,6 +6,7 @@ pub mod Field
 pub mod Crc
 pub mod Roots
 pub mod Encoding
+pub mod Filling
 pub mod Errata
 pub mod Repair
 pub mod Single

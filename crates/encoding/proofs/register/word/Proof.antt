@@ -2,36 +2,33 @@
 -- Assumes nothing.
 use Prim.Native.Nat.{_-_}
 use native.Mathlib.Omega.{arith}
-use Rattle.encoding.proofs.Bytes.{Packing, packing-start, packing-room, packing-near, packing-more, packing-done}
+use Rattle.encoding.proofs.Bytes.{Packing, packing-start, packing-room, packing-more, packing-done}
 use Rattle.encoding.proofs.register.word.Statement.{statement}
 use Rattle.encoding.proofs.register.word.Tie as tie
 
 abbrev Inv-loop : tie.InvT-loop
-Inv-loop d m at w₀ n₀ w n = Packing d m at w n
+Inv-loop d at w₀ n₀ w n = Packing d at w n
 
 abbrev μ-loop : tie.MeasureT-loop
-μ-loop d m at w₀ n₀ w n = 8 - n
+μ-loop d at w₀ n₀ w n = 8 - n
 
 loop-holds : tie.Need-loop-holds Inv-loop μ-loop
-loop-holds c = packing-start _ _ _
+loop-holds c = packing-start _ _
 
 mul-w : tie.Need-mul-w Inv-loop μ-loop
-mul-w c = omega (arith, packing-room _ _ _ _ _ (c .before .loop .inv) (c .loop-test .taken))
-
-mul-wide : tie.Need-mul-wide Inv-loop μ-loop
-mul-wide c = omega (arith, packing-near _ _ _ _ _ (c .before .loop .inv) (c .loop-test .taken))
+mul-w c = omega (arith, packing-room _ _ _ _ (c .before .loop .inv) (c .loop-test .taken))
 
 add-wide : tie.Need-add-wide Inv-loop μ-loop
-add-wide c = omega (arith, packing-near _ _ _ _ _ (c .before .loop .inv) (c .loop-test .taken))
+add-wide c = omega arith
 
 shared-slice-read-wide : tie.Need-shared-slice-read-wide Inv-loop μ-loop
-shared-slice-read-wide c = omega (arith, packing-near _ _ _ _ _ (c .before .before .loop .inv) (c .before .loop-test .taken))
+shared-slice-read-wide c = omega arith
 
 wide-requires : tie.Need-wide-requires Inv-loop μ-loop
 wide-requires c κs = tt
 
 add-w : tie.Need-add-w Inv-loop μ-loop
-add-w c = omega (arith, packing-room _ _ _ _ _ (c .before .before .before .loop .inv) (c .before .before .loop-test .taken))
+add-w c = omega (arith, packing-room _ _ _ _ (c .before .before .before .loop .inv) (c .before .before .loop-test .taken))
 
 add-n : tie.Need-add-n Inv-loop μ-loop
 add-n c = omega arith
@@ -41,10 +38,10 @@ loop-less c = omega arith
 
 loop-again : tie.Need-loop-again Inv-loop μ-loop
 loop-again c =
-    packing-more _ _ _ _ _ (c .before .before .before .loop .inv) _ (c .before .before .loop-test .taken) (c .wide .ensures .1) (c .wide .ensures .0)
+    packing-more _ _ _ _ (c .before .before .before .loop .inv) _ (c .before .before .loop-test .taken) (c .wide .ensures .1) (c .wide .ensures .0)
 
 returns : tie.Need-returns Inv-loop μ-loop
-returns c = packing-done _ _ _ _ _ (c .before .loop .inv) (c .loop-test .left)
+returns c = packing-done _ _ _ _ (c .before .loop .inv) (c .loop-test .left)
 
 pub word-spec : {M : Type 1} → statement M
 word-spec =
@@ -54,7 +51,6 @@ word-spec =
     μ-loop
     loop-holds
     mul-w
-    mul-wide
     add-wide
     shared-slice-read-wide
     wide-requires

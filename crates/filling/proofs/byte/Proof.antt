@@ -1,10 +1,10 @@
--- `encode::byte` reads within the file, and answers the list's own default beyond it.
+-- `byte` reads within the file, and answers the list's own default beyond it.
 -- Assumes nothing.
 use mathlib.Core.Path.{sym}
 use lib.ListN.{List·getD-eq-default}
 use native.Mathlib.Omega.{arith}
-use Rattle.encoding.proofs.encode.byte.Statement.{statement}
-use Rattle.encoding.proofs.encode.byte.Tie as tie
+use Rattle.filling.proofs.byte.Statement.{statement}
+use Rattle.filling.proofs.byte.Tie as tie
 
 shared-slice-read-result : tie.Need-shared-slice-read-result
 shared-slice-read-result c = omega arith

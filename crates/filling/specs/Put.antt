@@ -9,15 +9,11 @@ use Rattle.ground.specs.Lists.{listed}
 use Rattle.refusals.specs.declared.Verdict.{Verdict}
 use Rattle.refusals.specs.declared.Verdict.the-variants.{Accepted, Refused}
 use Rattle.refusals.specs.declared.Refusal.the-variants.{Field, Output}
-use Rattle.code.specs.Repair.{checksOf}
+use Rattle.encoding.specs.Encode.{codedRow}
 
 -- the 239 information bytes of the row that starts at byte i of the file: 0 beyond the file
 unfoldable pub infoFrom : List ℕ → ℕ → ℕ → List ℕ
 infoFrom file m i = listed (λ c. getD file (i + c * m) 0) 239 0
-
--- a row: its information bytes, and their checks behind them
-unfoldable pub codedRow : List ℕ → List ℕ
-codedRow info = info ++ checksOf info
 
 -- n rows one behind the other, the first of which starts at byte i of the file
 unfoldable pub rowsFrom : List ℕ → ℕ → ℕ → ℕ → List ℕ

@@ -1,20 +1,21 @@
--- What `put_rows` serves: the tests of `encode::serves`, one after the other, what is known where all of them passed, and the call's three ends.
+-- What `put_rows` serves: the tests of `serves`, one after the other, what is known where all of them passed, and the call's three ends.
 -- Assumes nothing.
-use mathlib.Core.Path.{_≡_, refl, sym, ap, _∙_}
+use mathlib.Core.Path.{_≡_, refl, sym, ap, ap₂, _∙_}
 use mathlib.Core.Bool.{Bool, true, false, not, _&&_}
-use mathlib.Core.List.{List}
-use Prim.Native.Nat.{ℕ, _*_, _<_, _≤_}
+use mathlib.Core.List.{List, _++_}
+use Prim.Native.Nat.{ℕ, _-_, _*_, _<_, _≤_}
 use native.Mathlib.Omega.{arith}
 use borrow.Author.Tests.{lt-ltb, le-ltb, le-leb, lt-leb, leb-true, not-true, not-false}
+use borrow.Rule.Slice.PartMut.{putMid}
 use lib.Dec.{leb, ltb}
-use lib.ListN.{length}
-use lib.Seq.{sets}
+use lib.ListN.{length, take, drop}
+use lib.Seq.{sets, length-take-le}
 use Rattle.ground.proofs.Writing.{sets-front}
 use Rattle.refusals.specs.declared.Verdict.{Verdict}
 use Rattle.refusals.specs.declared.Verdict.the-variants.{Accepted, Refused}
 use Rattle.refusals.specs.declared.Refusal.the-variants.{Field, Output}
-use Rattle.encoding.specs.Put.{rowsFrom, putServes, putVerdict, putAs, putRows}
-use Rattle.encoding.proofs.Putting.{length-rows}
+use Rattle.filling.specs.Put.{rowsFrom, putServes, putVerdict, putAs, putRows}
+use Rattle.filling.proofs.Gathering.{length-rows}
 
 module _ (len m at n : ℕ) where
   pub no-rows : m ≡ 0 → false ≡ putServes len m at n
@@ -79,6 +80,10 @@ put-done file m at n out e h =
     sets-front out (rowsFrom file m at n) (omega (arith, length-rows file m at n))
     ∙ ap (λ (v : Verdict). putAs v (rowsFrom file m at n) out) (sym e)
 
+-- the front of the output, as it is lent
+pub lent-front : (out : List ℕ) (k : ℕ) → k ≤ length out → length (take (k - 0) out) ≡ k
+lent-front out k h = length-take-le (k - 0) out (omega arith) ∙ omega arith
+
 -- ---- the call's three ends, where the tests said r
 
 pub put-served : (len m at n : ℕ) (r : Bool) → r ≡ putServes len m at n → not r ≡ false → Served m at n
@@ -104,7 +109,12 @@ module _ (file : List ℕ) (m at n : ℕ) (out : List ℕ) (r : Bool) (e : r ≡
     unfolding putVerdict
     put-short l = kept (Refused Output) (rw (serves, lt-ltb (length out) (n * 255) l) refl) refl
 
-    pub put-written : (next : List ℕ) → n * 255 ≤ length out → next ≡ sets out 0 (rowsFrom file m at n) → (Accepted ≡ said) × (next ≡ putRows file m at n out)
+    -- in the part of the output that is lent
+    pub put-written : (next : List ℕ) → n * 255 ≤ length out → next ≡ rowsFrom file m at n → (Accepted ≡ said) × (putMid 0 (n * 255 - 0) out next ≡ putRows file m at n out)
+    unfolding putRows
     put-written next l g =
         let a : said ≡ Accepted = put-accepted (length file) m at n (length out) serves l in
-        (sym a, g ∙ put-done file m at n out a l)
+        let e : n * 255 - 0 ≡ length (rowsFrom file m at n) = omega (arith, length-rows file m at n) in (
+          sym a,
+          ap₂ (λ (b : List ℕ) (k : ℕ). b ++ drop k out) g e ∙ ap (λ (v : Verdict). putAs v (rowsFrom file m at n) out) (sym a),
+        )

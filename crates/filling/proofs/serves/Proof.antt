@@ -1,8 +1,8 @@
--- `encode::serves` makes the definition's tests in its order.
+-- `serves` makes the definition's tests in its order.
 -- Assumes nothing.
-use Rattle.encoding.proofs.Serving.{no-rows, too-tall, too-many, too-far, by-length}
-use Rattle.encoding.proofs.encode.serves.Statement.{statement}
-use Rattle.encoding.proofs.encode.serves.Tie as tie
+use Rattle.filling.proofs.Serving.{no-rows, too-tall, too-many, too-far, by-length}
+use Rattle.filling.proofs.serves.Statement.{statement}
+use Rattle.filling.proofs.serves.Tie as tie
 
 returns : tie.Need-returns
 returns c = no-rows _ _ _ _ (c .if1 .taken)
