@@ -14,7 +14,7 @@ use Rattle.ground.specs.Bits.{sum}
 use Rattle.ground.proofs.Sums.{sum-zero}
 use Rattle.ground.proofs.Numbers.{same-or-not, below-suc}
 use Rattle.errata.specs.declared.Errata.{Errata}
-use Rattle.errata.specs.InnerErrata.{entries, mendedBy, Ordered, added, Put, Listed, Kept}
+use Rattle.errata.specs.InnerErrata.{nothingTo, entries, mendedBy, Ordered, added, Put, Listed, Kept}
 
 -- ---- the row
 
@@ -50,8 +50,8 @@ zeros-at zero k = refl
 zeros-at (suc n) zero = refl
 zeros-at (suc n) (suc k) = zeros-at n k
 
-pub keeping-start : (at c : List ℕ) (n : ℕ) → Keeping at c n 0 (record { fits = true; n = 0; at = replicate 16 0; values = replicate 16 0 })
-unfolding mendedBy
+pub keeping-start : (at c : List ℕ) (n : ℕ) → Keeping at c n 0 (nothingTo true)
+unfolding mendedBy nothingTo
 keeping-start at c n =
     record {
       within = omega arith;

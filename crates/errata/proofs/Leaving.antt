@@ -6,7 +6,7 @@ use mathlib.Core.Bool.{true, false}
 use mathlib.Core.List.{List, _++_}
 use Prim.Native.Nat.{ℕ, _+_}
 use native.Mathlib.Omega.{arith}
-use lib.ListN.{length, replicate, length-append}
+use lib.ListN.{length, length-append}
 use Rattle.code.specs.Code.{Bytes}
 use Rattle.code.specs.Search.{remainder}
 use Rattle.code.specs.Search.Repaired.{found, none}
@@ -16,7 +16,7 @@ use Rattle.code.proofs.Division.{remainder-zeros}
 use Rattle.code.proofs.Exact.{repair-found, repair-none}
 use Rattle.errata.specs.declared.Errata.{Errata}
 use Rattle.errata.specs.Errata.{errataFor, leaving, errataOf}
-use Rattle.errata.specs.InnerErrata.{entries, mendedBy, Searched, Kept}
+use Rattle.errata.specs.InnerErrata.{nothingTo, entries, mendedBy, Searched, Kept}
 use Rattle.errata.proofs.Listing.{listed-told}
 
 not-divided : (w : List ℕ) → remainder 0 w ≡ w
@@ -46,8 +46,8 @@ module _ (rest : List ℕ) (long : length rest ≡ 16) where
           let near : Near r s = searched .sound refl r leaving-length leaving-bytes leaving-rest in
           listed-told r s leaving-length e (kept .listed) (sym (kept .same r)) (kept .fits) ∙ ap (errataFor r) (sym (repair-found r s leaving-length leaving-bytes near))
 
-      pub none-told : Searched rest n at c false → record { fits = false; n = 0; at = replicate 16 0; values = replicate 16 0 } ≡ errataOf rest
-      unfolding errataOf errataFor
+      pub none-told : Searched rest n at c false → nothingTo false ≡ errataOf rest
+      unfolding errataOf errataFor nothingTo
       none-told searched =
           let r : List ℕ = leaving rest in
           ap (errataFor r) (sym (repair-none r leaving-length leaving-bytes (searched .complete refl r leaving-length leaving-bytes leaving-rest)))

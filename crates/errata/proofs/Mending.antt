@@ -28,7 +28,7 @@ use Rattle.code.proofs.Division.{remainder-coded}
 use Rattle.code.proofs.Locate.{located}
 use Rattle.errata.specs.InnerSums.{total, runOf}
 use Rattle.errata.specs.InnerNull.{Annihilated}
-use Rattle.errata.specs.InnerErrata.{entries, shareOf, Rooted, Solved, mendedBy, Searched}
+use Rattle.errata.specs.InnerErrata.{entries, shareOf, Syndromes, Rooted, Solved, mendedBy, Searched}
 use Rattle.ground.proofs.Numbers.{same-or-not, below-suc}
 use Rattle.errata.proofs.Totals.{total-ext, total-first}
 use Rattle.errata.proofs.Shares.{expo-swap, Agreeing}
@@ -170,7 +170,7 @@ run-dot (c ∷ v) s j =
 
 -- what the search has found out of the remainder of a row
 pub record Tried (rest s v : List ℕ) (n : ℕ) (at c : List ℕ) : Type 0 where
-  pub syndromes : (j : ℕ) → j < 16 → getD s j 0 ≡ value rest (power j)
+  pub syndromes : Syndromes rest s
   pub bytes : (i : ℕ) → getD v i 0 < 256
   pub null : Annihilated s v
   pub rooted : Rooted v n at
@@ -191,7 +191,7 @@ module _ {rest s v : List ℕ} {n : ℕ} {at c : List ℕ} (tried : Tried rest s
   mended-bytes = bytes-of (mendedBy row (entries at) (entries c) n) (mended-byte row long (entries at) (entries c) (bytes-at row bytes) (tried .value-bytes) n)
 
   syndrome : (j : ℕ) → j < 16 → getD s j 0 ≡ value row (power j)
-  syndrome j h = tried .syndromes j h ∙ ap (λ (l : List ℕ). value l (power j)) left ∙ sym (value-remainder row long j h)
+  syndrome j h = tried .syndromes .entry j h ∙ ap (λ (l : List ℕ). value l (power j)) left ∙ sym (value-remainder row long j h)
 
   mended-share : (j : ℕ) → value mended (power j) ≡ sum (value row (power j)) (shareOf (entries at) (entries c) n j)
   unfolding mended

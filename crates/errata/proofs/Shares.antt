@@ -16,7 +16,7 @@ use Rattle.code.specs.Value.{value}
 use Rattle.code.proofs.Weights.{expo-zero, expo-suc, one-product}
 use Rattle.code.proofs.Values.{value-nil, value-cons}
 use Rattle.errata.specs.InnerSums.{total}
-use Rattle.errata.specs.InnerErrata.{entries, shareOf, Termed, Shared, Placed, Nought}
+use Rattle.errata.specs.InnerErrata.{entries, shareOf, Termed, Shared, Syndromes, Placed, Nought}
 use Rattle.errata.proofs.Totals.{total-first}
 
 -- the entry x of sum j, with its term
@@ -82,12 +82,15 @@ value-share (c ∷ u) j =
     ∙ ap₂ sum (ap (product c) (sym (expo-swap (length u) j))) (value-share u j)
     ∙ sym (total-first (length u) (λ k. product (getD (c ∷ u) k 0) (expo (power (getD (down (suc (length u))) k 0)) j)))
 
-pub syndromed : {rest s : List ℕ} → length rest ≡ 16 → Shared (replicate 16 0) (down 16) rest 16 s → (j : ℕ) → j < 16 → getD s j 0 ≡ value rest (power j)
-syndromed {rest} {s} long shared j h =
-    shared .entry j h
-    ∙ ap (λ (x : ℕ). sum x (shareOf (entries (down 16)) (entries rest) 16 j)) (getD-replicate 16 j 0 0 h)
-    ∙ zero-sum (shareOf (entries (down 16)) (entries rest) 16 j)
-    ∙ sym (value-share rest j ∙ ap (λ (n : ℕ). shareOf (entries (down n)) (entries rest) n j) long)
+pub syndromed : {rest s : List ℕ} → length rest ≡ 16 → Shared (replicate 16 0) (down 16) rest 16 s → Syndromes rest s
+syndromed {rest} {s} long shared =
+    record {
+      entry = λ j h.
+          shared .entry j h
+          ∙ ap (λ (x : ℕ). sum x (shareOf (entries (down 16)) (entries rest) 16 j)) (getD-replicate 16 j 0 0 h)
+          ∙ zero-sum (shareOf (entries (down 16)) (entries rest) 16 j)
+          ∙ sym (value-share rest j ∙ ap (λ (n : ℕ). shareOf (entries (down n)) (entries rest) n j) long);
+    }
 
 -- ---- one place more
 

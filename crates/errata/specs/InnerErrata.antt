@@ -6,13 +6,13 @@ use mathlib.Core.Logic.{_≢_}
 use mathlib.Core.Bool.{Bool, true, false}
 use mathlib.Core.List.{List}
 use Prim.Native.Nat.{ℕ, zero, suc, _+_, _-_, _≤_, _<_}
-use lib.ListN.{length, getD, set}
+use lib.ListN.{length, getD, set, replicate}
 use Rattle.ground.specs.Bits.{sum}
 use Rattle.field.specs.Field.{product, expo, power}
 use Rattle.code.specs.Code.{Bytes}
 use Rattle.code.specs.Search.{remainder}
 use Rattle.code.specs.Repair.{Near}
-use Rattle.code.specs.Value.{eval}
+use Rattle.code.specs.Value.{value, eval}
 use Rattle.errata.specs.declared.Errata.{Errata}
 use Rattle.errata.specs.InnerSums.{total}
 
@@ -31,6 +31,10 @@ pub record Termed (c a : ℕ) (s r : List ℕ) : Type 0 where
 -- r is the sixteen sums s, with what c at the first n places add
 pub record Shared (s at c : List ℕ) (n : ℕ) (r : List ℕ) : Type 0 where
   pub entry : (j : ℕ) → j < 16 → getD r j 0 ≡ sum (getD s j 0) (shareOf (entries at) (entries c) n j)
+
+-- s has the values at the powers of α, j from 0 to 15, of what a row leaves, which are those of the row
+pub record Syndromes (rest s : List ℕ) : Type 0 where
+  pub entry : (j : ℕ) → j < 16 → getD s j 0 ≡ value rest (power j)
 
 -- the first n entries are different places
 pub record Placed (n : ℕ) (at : List ℕ) : Type 0 where
@@ -102,6 +106,10 @@ pub record Searched (rest : List ℕ) (n : ℕ) (at c : List ℕ) (fits : Bool) 
   pub complete : fits ≡ false → (row : List ℕ) → length row ≡ 255 → Bytes row → rest ≡ remainder 239 row → (s : List ℕ) → Near row s → ⊥
 
 -- ---- what is kept
+
+-- nothing to add; no abbreviation, since a check would write out its 32 zeros at each step
+unfoldable pub nothingTo : Bool → Errata
+nothingTo b = record { fits = b; n = 0; at = replicate 16 0; values = replicate 16 0 }
 
 -- e, and behind it the value c at the place a
 abbrev pub added : Errata → ℕ → ℕ → Errata

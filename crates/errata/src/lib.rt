@@ -3,7 +3,7 @@
 ghost use mathlib.Core.Path.{_≡_};
 ghost use Prim.Native.Nat.{_<_};
 ghost use Rattle.errata.specs.Errata.{errataOf};
-ghost use Rattle.errata.specs.InnerErrata.{Ordered, Put, Kept};
+ghost use Rattle.errata.specs.InnerErrata.{nothingTo, Ordered, Put, Kept};
 
 mod factors;
 mod kernel;
@@ -23,40 +23,33 @@ pub struct Errata {
 pub fn find(rest: [u8; 16]) -> Errata
     ensures { λ r. ⌜ r ≡ errataOf rest ⌝ }
 {
-    let none = [0u8; 16];
     if terms::is_nought(rest) {
-        return Errata {
-            fits: true,
-            n: 0,
-            at: none,
-            values: none,
-        };
+        return nothing(true);
     }
     let powers = field::powers();
     let logs = field::logs();
     let p = &powers;
     let l = &logs;
-    // The syndromes: the remainder's bytes are the coefficients of the powers 15 to 0.
-    let s = terms::add_terms(
-        none,
-        [15u8, 14, 13, 12, 11, 10, 9, 8, 7, 6, 5, 4, 3, 2, 1, 0],
-        rest,
-        16,
-        p,
-        l,
-    );
+    let s = terms::syndromes(rest, p, l);
     let places = roots::find(kernel::null_vector(s, p, l));
     let at = places.at;
     let values = values::solve(s, at, places.n, p, l);
     if !terms::is_nought(terms::add_terms(s, at, values, places.n, p, l)) {
-        return Errata {
-            fits: false,
-            n: 0,
-            at: none,
-            values: none,
-        };
+        return nothing(false);
     }
     keep(at, values, places.n)
+}
+
+// Nothing to add, whether or not that is right.
+fn nothing(fits: bool) -> Errata
+    ensures { λ r. ⌜ r ≡ nothingTo fits ⌝ }
+{
+    Errata {
+        fits,
+        n: 0,
+        at: [0u8; 16],
+        values: [0u8; 16],
+    }
 }
 
 // Those of the n places at which there is something to add.
@@ -64,12 +57,7 @@ fn keep(at: [u8; 16], values: [u8; 16], n: usize) -> Errata
     requires { ⌜ Ordered n at ⌝ }
     ensures { λ r. ⌜ Kept at values n r ⌝ }
 {
-    let mut out = Errata {
-        fits: true,
-        n: 0,
-        at: [0u8; 16],
-        values: [0u8; 16],
-    };
+    let mut out = nothing(true);
     let mut k: usize = 0;
     while k < n {
         let next = put(out, at[k], values[k]);

@@ -1,7 +1,7 @@
 // Sixteen sums of terms c · α^(a · j), j from 0 to 15: what the byte c at the place with the locator α^a adds to the syndromes of a row (document 01, section 3).
 ghost use Prim.Native.Nat.{_<_};
 ghost use Rattle.field.specs.Tables.{Powers, Logs};
-ghost use Rattle.errata.specs.InnerErrata.{Termed, Placed, Shared, Nought};
+ghost use Rattle.errata.specs.InnerErrata.{Termed, Placed, Shared, Syndromes, Nought};
 use crate::factors;
 
 // The sums s, with what c at the place a adds. The terms are told by their exponents, each a more than the one before.
@@ -46,6 +46,21 @@ pub(crate) fn add_terms(
         k += 1;
     }
     out
+}
+
+// The syndromes of a row that leaves `rest`, whose bytes are the coefficients of the powers 15 to 0.
+pub(crate) fn syndromes(rest: [u8; 16], powers: &[u8; 512], logs: &[u8; 256]) -> [u8; 16]
+    requires { ⌜ Powers (now powers) × Logs (now logs) ⌝ }
+    ensures { λ r. ⌜ Syndromes rest r ⌝ }
+{
+    add_terms(
+        [0u8; 16],
+        [15u8, 14, 13, 12, 11, 10, 9, 8, 7, 6, 5, 4, 3, 2, 1, 0],
+        rest,
+        16,
+        powers,
+        logs,
+    )
 }
 
 // Whether all sixteen are 0.

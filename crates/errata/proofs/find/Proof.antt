@@ -1,17 +1,17 @@
 -- `errata::find`: a row that leaves nothing is coded as it is. Of another the locator's roots are the places, the values are solved for there, and where they give all
 -- sixteen syndromes the mended row is coded.
 -- Assumes nothing.
-use mathlib.Core.Path.{_≡_, subst}
+use mathlib.Core.Path.{_≡_, subst, _∙_}
 use mathlib.Core.Bool.{Bool, true, false}
-use mathlib.Core.List.{List}
+use mathlib.Core.List.{List, []}
 use Prim.Native.Nat.{ℕ, _<_}
 use native.Mathlib.Nat.{le-refl}
-use lib.ListN.{length, getD, replicate}
+use lib.ListN.{length, getD}
 use borrow.Author.Tests.{not-true, not-false}
 use Rattle.code.specs.Code.{Bytes}
 use Rattle.code.proofs.Lists.{bytes-of}
 use Rattle.errata.specs.InnerErrata.{Rooted, Nought, Searched}
-use Rattle.errata.proofs.Shares.{down, down-placed, syndromed, shared-agrees}
+use Rattle.errata.proofs.Shares.{shared-agrees}
 use Rattle.errata.proofs.Locators.{rooted}
 use Rattle.errata.proofs.Mending.{nothing-left, searched}
 use Rattle.errata.proofs.Keeping.{keeping-start, keeping-end}
@@ -29,12 +29,15 @@ rest-bytes c = bytes-of (c .args .rest) (λ i. let fit : mir.Val.Fits mir.Syntax
 is-nought-requires : tie.Need-is-nought-requires
 is-nought-requires c κs = tt
 
+nothing-requires : tie.Need-nothing-requires
+nothing-requires c κs = tt
+
 returns : tie.Need-returns
 returns c =
-    let rest : List ℕ = c .before .before .args .rest in
-    found-told rest (sixteen (c .before .before)) (rest-bytes (c .before .before))
-    (nothing-left _ (replicate 16 0) (replicate 16 0) (sixteen (c .before .before)) (c .before .is-nought .ensures .yes (c .if1 .taken))) _
-    (keeping-end (keeping-start (replicate 16 0) (replicate 16 0) 0) (le-refl 0))
+    let start = c .before .before .before in
+    c .nothing .ensures
+    ∙ found-told (start .args .rest) (sixteen start) (rest-bytes start)
+    (nothing-left _ [] [] (sixteen start) (c .before .before .is-nought .ensures .yes (c .before .if1 .taken))) _ (keeping-end (keeping-start [] [] 0) (le-refl 0))
 
 powers-requires : tie.Need-powers-requires
 powers-requires c κs = tt
@@ -42,9 +45,8 @@ powers-requires c κs = tt
 logs-requires : tie.Need-logs-requires
 logs-requires c κs = tt
 
-add-terms-requires : tie.Need-add-terms-requires
-unfolding down
-add-terms-requires c κs = (down-placed, c .before .before .before .powers .ensures, c .before .before .logs .ensures)
+syndromes-requires : tie.Need-syndromes-requires
+syndromes-requires c κs = (c .before .before .before .powers .ensures, c .before .before .logs .ensures)
 
 null-vector-requires : tie.Need-null-vector-requires
 null-vector-requires c κs = (c .before .before .before .before .powers .ensures, c .before .before .before .logs .ensures)
@@ -67,8 +69,8 @@ solve-requires c κs =
     let logs = c .before .before .before .before .before .before in
     (places (c .before) .placed, logs .before .powers .ensures, logs .logs .ensures)
 
-add-terms-requires-2 : tie.Need-add-terms-requires-2
-add-terms-requires-2 c κs =
+add-terms-requires : tie.Need-add-terms-requires
+add-terms-requires c κs =
     let logs = c .before .before .before .before .before .before .before in
     (places (c .before .before) .placed, logs .before .powers .ensures, logs .logs .ensures)
 
@@ -79,29 +81,30 @@ is-nought-requires-2 c κs = tt
 module _ (c : tie.After-is-nought2) where
   found : (fits : Bool) → c .is-nought2 .result ≡ fits → Searched (c .before .before .before .before .before .before .before .before .before .before .before .before .before .args .rest) (c .before .before .before .before .find .result .n)
       (c .before .before .before .before .find .result .at) (c .before .before .solve .result) fits
-  unfolding down
   found fits e =
       let solve = c .before .before in
       let found = solve .before .before in
-      let terms = found .before .before in
-      let start = terms .before .before .before .before .before .before .before in
+      let syndromes = found .before .before in
       let values : List ℕ = solve .solve .result in
       let value-fit : (i : ℕ) → mir.Val.Fits mir.Syntax.w8 (getD values i 0) = λ i. search needs in
       let places : Rooted (found .before .null-vector .result) (found .find .result .n) (found .find .result .at) = places found in
       searched
       (record {
-        syndromes = syndromed (sixteen start) (terms .add-terms .ensures);
+        syndromes = syndromes .syndromes .ensures;
         bytes = bytes found;
         null = found .before .null-vector .ensures;
         rooted = places;
         value-bytes = λ i. value-fit i .fits;
         solved = solve .solve .ensures;
-      }) fits (shared-agrees (c .before .add-terms2 .ensures) fits (subst (Nought (c .before .add-terms2 .result)) e (c .is-nought2 .ensures)))
+      }) fits (shared-agrees (c .before .add-terms .ensures) fits (subst (Nought (c .before .add-terms .result)) e (c .is-nought2 .ensures)))
+
+nothing-requires-2 : tie.Need-nothing-requires-2
+nothing-requires-2 c κs = tt
 
 returns-2 : tie.Need-returns-2
 returns-2 c =
-    let start = c .before .before .before .before .before .before .before .before .before .before .before .before .before .before in
-    none-told (start .args .rest) (sixteen start) (rest-bytes start) (found (c .before) false (not-true _ (c .if2 .taken)))
+    let start = c .before .before .before .before .before .before .before .before .before .before .before .before .before .before .before in
+    c .nothing2 .ensures ∙ none-told (start .args .rest) (sixteen start) (rest-bytes start) (found (c .before .before) false (not-true _ (c .before .if2 .taken)))
 
 keep-requires : tie.Need-keep-requires
 keep-requires c κs = places (c .before .before .before .before .before) .ordered
@@ -117,15 +120,17 @@ find-spec =
     tie.close
     (tie.spec
     is-nought-requires
+    nothing-requires
     returns
     powers-requires
     logs-requires
-    add-terms-requires
+    syndromes-requires
     null-vector-requires
     find-requires
     solve-requires
-    add-terms-requires-2
+    add-terms-requires
     is-nought-requires-2
+    nothing-requires-2
     returns-2
     keep-requires
     returns-3)
