@@ -1,16 +1,19 @@
 -- The bytes of a store after slots were cleared or a payload was stored: at the bytes written, and at every other.
 -- Assumes nothing.
-use mathlib.Core.Path.{_≡_, refl, ap₂, _∙_}
+use mathlib.Core.Path.{_≡_, refl, sym, ap, ap₂, _∙_}
+use mathlib.Core.Bool.{Bool, true, false, true≢false, _&&_}
 use mathlib.Core.List.{List, [], _∷_}
 use mathlib.Core.Logic.{_⊎_, inl, inr}
 use Prim.Native.Nat.{ℕ, zero, suc, _+_, _*_, _/_, _%_, _<_, _≤_}
 use native.Mathlib.Nat.{suc-mul}
 use native.Mathlib.Numerals.{add-one, add-two}
 use native.Mathlib.Omega.{arith}
+use borrow.Author.Tests.{lt-ltb, le-ltb, ltb-true, lt-leb, le-leb, leb-true}
+use lib.Dec.{leb, ltb}
 use lib.ListN.{length, getD, set, take, drop, length-set, List·getD-eq-default}
-use lib.Seq.{sets, getD-set-same, getD-set-other, length-sets}
+use lib.Seq.{sets, set-comm, getD-set-same, getD-set-other, length-sets}
 use Rattle.ground.proofs.Listed.{length-listed, listed-ext, listed-part}
-use Rattle.contents.specs.Slots.{lengthAt, cleared, stored}
+use Rattle.contents.specs.Slots.{lengthAt, cleared, stored, roomFor, storedWithin}
 use Rattle.contents.specs.Contents.{bytesAt}
 
 -- ---- the n bytes from at on
@@ -51,6 +54,51 @@ length-out s at h = rw (List·getD-eq-default s 0 {n = at} h, List·getD-eq-defa
 
 pub length-half : (s : List ℕ) (at : ℕ) → length s ≤ at + 1 → getD s at 0 ≡ lengthAt s at
 length-half s at h = rw (List·getD-eq-default s 0 {n = at + 1} h) (omega arith)
+
+-- ---- a payload first, then its length: the same as in the order in which they stand
+
+set-before : (s : List ℕ) (i x : ℕ) (at : ℕ) (b : List ℕ) → i < at → set (sets s at b) i x ≡ sets (set s i x) at b
+set-before s i x at [] h = refl
+set-before s i x at (v ∷ b) h =
+    set-before (set s at v) i x (suc at) b (omega arith)
+    ∙ ap (λ (l : List ℕ). sets l (suc at) b) (set-comm s at i v x (omega arith))
+
+pub stored-made : (s : List ℕ) (at : ℕ) (b : List ℕ) → set (set (sets s (at + 2) b) at (length b % 256)) (at + 1) (length b / 256) ≡ stored s at b
+stored-made s at b =
+    ap (λ (l : List ℕ). set l (at + 1) (length b / 256)) (set-before s at (length b % 256) (at + 2) b (omega arith))
+    ∙ set-before (set s at (length b % 256)) (at + 1) (length b / 256) (at + 2) b (omega arith)
+    ∙ rw (add-two at, add-one at) refl
+
+-- ---- where there is room
+
+module _ (size at n : ℕ) where
+  pub room-made : n < 65536 → at + 2 + n ≤ size → roomFor size at n ≡ true
+  room-made h l = rw (lt-ltb n 65536 h, le-leb (at + 2 + n) size l) refl
+
+  pub room-none : (65536 ≤ n) ⊎ (size < at + 2 + n) → roomFor size at n ≡ false
+  room-none (inl h) = rw (le-ltb n 65536 h) refl
+  room-none (inr h) = rw (lt-leb (at + 2 + n) size h) (either (ltb n 65536))
+    where
+      either : (x : Bool) → (x && false) ≡ false
+      either true = refl
+      either false = refl
+
+  pub room-known : roomFor size at n ≡ true → (n < 65536) × (at + 2 + n ≤ size)
+  room-known e = by (ltb n 65536) (leb (at + 2 + n) size) refl refl e
+    where
+      by : (x y : Bool) → ltb n 65536 ≡ x → leb (at + 2 + n) size ≡ y → (x && y) ≡ true → (n < 65536) × (at + 2 + n ≤ size)
+      by true true t u e = (ltb-true n 65536 t, leb-true (at + 2 + n) size u)
+      by true false t u e = absurd (true≢false (sym e))
+      by false y t u e = absurd (true≢false (sym e))
+
+module _ (s : List ℕ) (at : ℕ) (b : List ℕ) where
+  pub stored-within : roomFor (length s) at (length b) ≡ true → storedWithin s at b ≡ stored s at b
+  unfolding storedWithin
+  stored-within e = rw e refl
+
+  pub stored-nowhere : roomFor (length s) at (length b) ≡ false → storedWithin s at b ≡ s
+  unfolding storedWithin
+  stored-nowhere e = rw e refl
 
 -- ---- after a payload was stored
 

@@ -1,7 +1,9 @@
 -- The slots of a store: document 01, section 5. Each is a two-byte length, little-endian, then room for S bytes. Length 0 means empty.
 -- Assumes nothing.
+use mathlib.Core.Bool.{Bool, cond, _&&_}
 use mathlib.Core.List.{List, _∷_}
 use Prim.Native.Nat.{ℕ, zero, suc, _+_, _*_, _/_, _%_}
+use lib.Dec.{leb, ltb}
 use lib.ListN.{length, getD, set}
 use lib.Seq.{sets}
 
@@ -17,3 +19,11 @@ cleared s at (suc n) w = cleared (set (set s at 0) (at + 1) 0) (at + w) n w
 -- a payload in the slot at at: its length, and its bytes behind it; the slot's other bytes stay
 abbrev pub stored : List ℕ → ℕ → List ℕ → List ℕ
 stored s at b = sets s at ((length b % 256) ∷ (length b / 256) ∷ b)
+
+-- whether n bytes are a payload that a slot at at can take: two bytes hold its length, and it ends within a store of so many bytes
+abbrev pub roomFor : ℕ → ℕ → ℕ → Bool
+roomFor size at n = ltb n 65536 && leb (at + 2 + n) size
+
+-- a payload in the slot at at where there is room for it, else no byte changes
+unfoldable pub storedWithin : List ℕ → ℕ → List ℕ → List ℕ
+storedWithin s at b = cond (roomFor (length s) at (length b)) (stored s at b) s

@@ -1,9 +1,9 @@
-// Slots of a store as the calls above read them: document 01, section 5. Each takes every input, and answers what the definitions of specs/ say, by
+// Slots of a store as the calls above read and fill them: document 01, section 5. Each takes every input, and answers what the definitions of specs/ say, by
 // which what a place holds is told. A store reads as 0 beyond its end.
 ghost use mathlib.Core.Path.{_≡_};
 ghost use Prim.Native.Nat.{_+_, _≤_};
 ghost use lib.ListN.{length};
-ghost use Rattle.contents.specs.Slots.{lengthAt};
+ghost use Rattle.contents.specs.Slots.{lengthAt, roomFor, storedWithin};
 ghost use Rattle.contents.specs.Contents.{lengthFits};
 use places::Place;
 
@@ -37,4 +37,33 @@ pub fn length_fits(p: Place, n: usize) -> bool
     ensures { λ r. ⌜ r ≡ lengthFits p n ⌝ }
 {
     n <= p.slot as usize && (p.protection == 0 || n % 255 == 0)
+}
+
+// Puts a payload into the slot at `at`, where there is room for it. Its length is written last: a process that is killed before leaves the slot empty.
+pub fn put_slot(store: &mut [u8], at: usize, payload: &[u8])
+    ensures { λ r. ⌜ now (store .exit) ≡ storedWithin (now (store .entry)) at (now (payload .entry)) ⌝ }
+{
+    let n = payload.len();
+    if !has_room(store.len(), at, n) {
+        return;
+    }
+    words::copy_in(store, at + 2, payload);
+    store[at] = (n % 256) as u8;
+    store[at + 1] = (n / 256) as u8;
+}
+
+// Whether a slot at `at` in a store of `size` bytes has room for `n`.
+fn has_room(size: usize, at: usize, n: usize) -> bool
+    ensures { λ r. ⌜ r ≡ roomFor size at n ⌝ }
+{
+    if 65535 < n {
+        return false;
+    }
+    if size < n + 2 {
+        return false;
+    }
+    if size - (n + 2) < at {
+        return false;
+    }
+    true
 }

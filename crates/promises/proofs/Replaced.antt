@@ -7,6 +7,7 @@ use Prim.Native.Nat.{ℕ, _≤_, _<_}
 use native.Mathlib.Omega.{arith}
 use lib.ListN.{length, getD}
 use Rattle.ground.proofs.Numbers.{same-or-not}
+use Rattle.words.proofs.SameLaws.{same-differs}
 use Rattle.refusals.specs.declared.Refusal.the-variants.{Conflict}
 use Rattle.refusals.specs.Told.{Told}
 use Rattle.layout.specs.Layout.{undone}
@@ -29,7 +30,6 @@ use Rattle.record.specs.declared.Offered.{Offered}
 use Rattle.record.specs.declared.Offered.the-variants.{Refused}
 use Rattle.record.specs.Offer.{Offering, put, judge, putInto, storing, offerJudged, offerOf}
 use Rattle.record.specs.Told.{offeredTold}
-use Rattle.record.proofs.SlotLaws.{same-differs}
 use Rattle.record.proofs.OfferCases.{offer-placed}
 use Rattle.promises.specs.Calls.{State, Outcome, step, telling}
 use Rattle.promises.specs.Calls.Call.{offering}

@@ -12,6 +12,8 @@ use Rattle.refusals.specs.declared.Refusal.the-variants.{Other, Wide, Crc, Slot
 use Rattle.refusals.specs.Told.{refusedAs}
 use Rattle.refusals.proofs.Told.{number-not-0}
 use Rattle.ground.proofs.Numbers.{lt-or-ge, same-or-not}
+use Rattle.words.specs.Words.{same}
+use Rattle.words.proofs.SameLaws.{same-equal}
 use Rattle.packet.specs.declared.Packet.{Packet}
 use Rattle.packet.specs.declared.Reading.the-variants.{Sent}
 use Rattle.packet.specs.Packet.{readOf}
@@ -34,9 +36,8 @@ use Rattle.record.specs.declared.Offered.the-variants.{Repeat}
 use Rattle.code.specs.Mend.{Mended, whole, broken}
 use Rattle.record.specs.Mend.{payloadIn, mendedIn}
 use Rattle.sealing.specs.Sealing.{agrees}
-use Rattle.record.specs.Offer.{differs, Judged, refuse, put, judgeMended, judge, judgeBy, same, putInto, Offering, storing, offerJudged, offerOf}
+use Rattle.record.specs.Offer.{differs, Judged, refuse, put, judgeMended, judge, judgeBy, putInto, Offering, storing, offerJudged, offerOf}
 use Rattle.record.specs.Told.{offeredTold}
-use Rattle.record.proofs.SlotLaws.{same-equal}
 use Rattle.record.proofs.OfferCases.{payload-length, mended-plain, mended-rows}
 use Rattle.record.proofs.OfferFacts.{Read, read-known}
 use Rattle.record.proofs.OfferLaws.{Placed, Sound, Case, refused, placed, offer-case, offer-sound}

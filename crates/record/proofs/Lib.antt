@@ -1,4 +1,3 @@
-pub mod SlotLaws
 pub mod MendLaws
 pub mod OfferCases
 pub mod OfferFacts

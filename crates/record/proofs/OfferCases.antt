@@ -9,6 +9,7 @@ use borrow.Author.Tests.{lt-ltb, le-ltb, eq-eqb, ne-eqb}
 use lib.ListN.{length, getD, take, drop, replicate, length-drop, length-replicate}
 use lib.Seq.{sets, take-at, length-take-le}
 use Rattle.ground.proofs.Writing.{sets-front}
+use Rattle.words.specs.Words.{same}
 use Rattle.refusals.specs.declared.Refusal.{Refusal}
 use Rattle.refusals.specs.declared.Refusal.the-variants.{Unknown, Other, Wide, Crc, Slot, Conflict}
 use Rattle.refusals.specs.declared.Verdict.{Verdict}
@@ -25,13 +26,14 @@ use Rattle.places.specs.declared.Found.the-variants.{At, Nothing}
 use Rattle.places.specs.Places.{unused, good, placeNamed}
 use Rattle.contents.specs.Slots.{lengthAt, stored}
 use Rattle.contents.specs.Contents.{holding, bytesAt, slotAt, lengthFits, slotOf}
+use Rattle.contents.proofs.Bytes.{bytes-part}
 use Rattle.contents.proofs.Slots.{slot-holds, slot-wrong, slot-empty}
 use Rattle.record.specs.declared.Offered.{Offered}
 use Rattle.record.specs.declared.Offered.the-variants.{Stored, Repeat, Refused}
 use Rattle.code.specs.Mend.{Mended, whole, broken, mendRows}
 use Rattle.record.specs.Mend.{payloadIn, mendedIn}
 use Rattle.sealing.specs.Sealing.{agrees}
-use Rattle.record.specs.Offer.{differs, refuse, put, judgeMended, judge, same, Offering, storing, offerJudged, offerOf, judgeBy, offerBy}
+use Rattle.record.specs.Offer.{differs, refuse, put, judgeMended, judge, Offering, storing, offerJudged, offerOf, judgeBy, offerBy}
 use Rattle.record.specs.InnerOffer.{Comes, judgeCrc, refusalIn}
 
 abbrev pub said : Offered → List ℕ → Offering
@@ -62,8 +64,13 @@ module _ (p : Place) (s : List ℕ) (k : ℕ) (b : List ℕ) (a : Bool) (h : a �
   pub put-empty : n ≡ 0 → offerJudged p s (judgeCrc k b a) ≡ said Stored (stored s at b)
   put-empty z = agreed ∙ rw (slot-empty p s k (slot-length ∙ z)) (ap (λ (x : ℕ). said Stored (stored s x b)) (sym d))
 
-  -- a slot that holds something, and r says whether that is the payload
-  module _ (f : lengthFits p n ≡ true) (full : n ≡ 0 → ⊥) (r : Bool) (t : r ≡ same (bytesAt s (at + 2) n) b) where
+  -- a slot that holds something, and r says whether that, as the code cuts it out, is the payload
+  module _ (f : lengthFits p n ≡ true) (full : n ≡ 0 → ⊥) (l : at + 2 + n ≤ length s) (r : Bool) (t : r ≡ same (take (at + 2 + n - (at + 2)) (drop (at + 2) s)) b) where
+    bytes-compared : r ≡ same (bytesAt s (at + 2) n) b
+    bytes-compared =
+        let e : at + 2 + n - (at + 2) ≡ n = omega arith in
+        t ∙ ap (λ (x : List ℕ). same x b) (ap (λ (m : ℕ). take m (drop (at + 2) s)) e ∙ sym (bytes-part s (at + 2) n l))
+
     put-full : offerJudged p s (judgeCrc k b a) ≡ storing s (slotAt p k) b (cond r Repeat (Refused Conflict))
     put-full = agreed ∙ by n refl
       where
@@ -72,7 +79,7 @@ module _ (p : Place) (s : List ℕ) (k : ℕ) (b : List ℕ) (a : Bool) (h : a �
         by (suc m) w =
             let o : slotOf p s k ≡ holding (bytesAt s (slotAt p k + 2) (suc m)) =
             slot-holds p s k (suc m) (slot-length ∙ w) (sym (ap (lengthFits p) w) ∙ f) in
-            let y : same (bytesAt s (slotAt p k + 2) (suc m)) b ≡ r = sym (t ∙ ap₂ (λ (x y : ℕ). same (bytesAt s (x + 2) y) b) d w) in
+            let y : same (bytesAt s (slotAt p k + 2) (suc m)) b ≡ r = sym (bytes-compared ∙ ap₂ (λ (x y : ℕ). same (bytesAt s (x + 2) y) b) d w) in
             rw o (ap (λ (x : Bool). storing s (slotAt p k) b (cond x Repeat (Refused Conflict))) y)
 
     pub put-same : r ≡ true → offerJudged p s (judgeCrc k b a) ≡ said Repeat s

@@ -10,6 +10,8 @@ use borrow.Author.Tests.{eqb-true, eqb-false, ltb-false}
 use lib.Dec.{eqb, ltb}
 use lib.ListN.{length, getD, set}
 use lib.Seq.{getD-set-same, getD-set-other}
+use Rattle.words.specs.Words.{same}
+use Rattle.words.proofs.SameLaws.{same-self}
 use Rattle.refusals.specs.declared.Refusal.{Refusal}
 use Rattle.refusals.specs.declared.Refusal.the-variants.{Unknown, Other, Wide, Crc, Conflict}
 use Rattle.packet.specs.declared.Packet.{Packet}
@@ -33,11 +35,10 @@ use Rattle.record.specs.declared.Offered.the-variants.{Stored, Repeat, R
 use Rattle.code.specs.Mend.{Mended, whole, broken}
 use Rattle.record.specs.Mend.{payloadIn, mendedIn}
 use Rattle.sealing.specs.Sealing.{agrees}
-use Rattle.record.specs.Offer.{differs, Judged, refuse, put, judgeMended, judge, same, putInto, Offering, storing, offerJudged, offerOf, judgeBy}
+use Rattle.record.specs.Offer.{differs, Judged, refuse, put, judgeMended, judge, putInto, Offering, storing, offerJudged, offerOf, judgeBy}
 use Rattle.record.proofs.OfferCases.{said, payload-length, judge-puts, offer-bad, offer-unread, offer-unknown, offer-placed}
 use Rattle.record.proofs.OfferFacts.{Read, read-known, read-resource, SameFile, same-file, same-serves, slot-below}
 use Rattle.record.proofs.MendLaws.{mended-length, Altered, Intact, agrees-copy, mended-copy}
-use Rattle.record.proofs.SlotLaws.{same-self}
 
 -- ---- what is put fits the place
 

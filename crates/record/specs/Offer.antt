@@ -1,10 +1,11 @@
 -- Offer: document 01, section 5. Refusals in the order 9, then 1 to 8 as the field reader gives them, then 10 to 16.
 -- Assumes nothing.
-use mathlib.Core.Bool.{Bool, true, false, cond, not, _&&_, _||_}
+use mathlib.Core.Bool.{Bool, cond, not, _&&_, _||_}
 use mathlib.Core.List.{List, [], _∷_}
 use Prim.Native.Nat.{ℕ}
 use lib.Dec.{eqb, ltb}
 use lib.ListN.{length, getD}
+use Rattle.words.specs.Words.{same}
 use Rattle.refusals.specs.declared.Refusal.{Refusal}
 use Rattle.refusals.specs.declared.Refusal.the-variants.{Unknown, Other, Wide, Repair, Crc, Slot, Conflict}
 use Rattle.packet.specs.declared.Packet.{Packet}
@@ -47,12 +48,6 @@ judgeBy mend p f q =
 
 abbrev pub judge : Place → Packet → List ℕ → Judged
 judge = judgeBy mendedIn
-
-abbrev pub same : List ℕ → List ℕ → Bool
-same [] [] = true
-same [] (y ∷ b) = false
-same (x ∷ a) [] = false
-same (x ∷ a) (y ∷ b) = eqb x y && same a b
 
 -- what a payload comes to at what a slot holds
 abbrev pub putInto : Content → List ℕ → Offered

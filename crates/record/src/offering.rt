@@ -12,7 +12,6 @@ ghost use Rattle.code.specs.Mend.{mendRows};
 ghost use Rattle.record.specs.Offer.{differs, judgeMended, judge, offerJudged, offerOf};
 ghost use Rattle.record.specs.InnerOffer.{Comes, judgeCrc, refusalIn};
 use super::Offered;
-use super::slots;
 use packet::Packet;
 use packet::Reading;
 use places::Found;
@@ -65,10 +64,11 @@ fn put_in(p: Place, store: &mut [u8], number: u32, payload: &[u8], agrees: bool)
         return Offered::Refused(Refusal::Slot);
     }
     if n == 0 {
-        slots::put_slot(store, at, payload);
+        contents::put_slot(store, at, payload);
         return Offered::Stored;
     }
-    if slots::same_bytes(store, at + 2, n, payload) {
+    let from = at + 2;
+    if words::same(&store[from..from + n], payload) {
         return Offered::Repeat;
     }
     Offered::Refused(Refusal::Conflict)

@@ -20,3 +20,6 @@ byte-one κs a r s d e p q = (equation p q, refl)
 
 pub copy-in-one : OneResult words.copy_in.ended words.copy_in.Reads.Learnt
 copy-in-one κs a r s d e p q = (refl, lent (equation p q) refl)
+
+pub same-one : OneResult words.same.ended words.same.Reads.Learnt
+same-one κs a r s d e p q = (equation p q, refl)

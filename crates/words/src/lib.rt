@@ -1,9 +1,9 @@
-// Bytes as numbers of a wider type, the bytes of a word, and bytes copied. A wider number asks of a caller no more than the byte: that it is below 256 is known of
+// Bytes as numbers of a wider type, the bytes of a word, and bytes copied and compared. A wider number asks of a caller no more than the byte: that it is below 256 is known of
 // the result.
 ghost use mathlib.Core.Path.{_≡_};
 ghost use Prim.Native.Nat.{_+_, _<_, _≤_};
 ghost use lib.Seq.{sets};
-ghost use Rattle.words.specs.Words.{byteAt};
+ghost use Rattle.words.specs.Words.{byteAt, same};
 
 // A byte as a word of 64 bits.
 pub fn wide(b: u8) -> u64
@@ -59,4 +59,22 @@ fn reach(size: usize, at: usize, n: usize) -> usize
         return size - at;
     }
     n
+}
+
+// Whether two slices hold the same bytes.
+pub fn same(a: &[u8], b: &[u8]) -> bool
+    ensures { λ r. ⌜ r ≡ same (now (a .entry)) (now (b .entry)) ⌝ }
+{
+    let n = a.len();
+    if n != b.len() {
+        return false;
+    }
+    let mut i: usize = 0;
+    while i < n {
+        if a[i] != b[i] {
+            return false;
+        }
+        i += 1;
+    }
+    true
 }
