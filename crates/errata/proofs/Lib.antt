@@ -1,4 +1,3 @@
-pub mod Stores
 pub mod ByExponents
 pub mod Totals
 pub mod Null

@@ -20,7 +20,7 @@ use Rattle.field.proofs.Laws.{product-byte, product-comm, product-assoc, produc
 use Rattle.errata.specs.InnerSums.{total, runOf}
 use Rattle.errata.specs.InnerNull.{Short, Passed, Annihilated, Mixed, Shifted}
 use Rattle.ground.proofs.Numbers.{lt-or-ge, same-or-not, below-suc}
-use Rattle.errata.proofs.Stores.{Front}
+use Rattle.terms.proofs.Stores.{Front}
 use Rattle.errata.proofs.Totals.{total-ext, total-more, total-first, total-sum, total-product, total-byte}
 
 -- q is kept for run i: the runs before annihilate it, run i does not, and c is one over what run i gives

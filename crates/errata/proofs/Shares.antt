@@ -1,27 +1,30 @@
 -- The laws of the terms c · α^(a · j), and of their sums over places.
 -- Assumes nothing.
-use mathlib.Core.Path.{_≡_, sym, ap, ap₂, subst, _∙_}
+use mathlib.Core.Path.{_≡_, refl, sym, ap, ap₂, subst, _∙_}
+use mathlib.Core.Logic.{_≢_, ⊎-elim}
 use mathlib.Core.Bool.{Bool, true, false}
 use mathlib.Core.List.{List, [], _∷_}
-use Prim.Native.Nat.{ℕ, zero, suc, _+_, _-_, _<_}
-use native.Mathlib.Nat.{mul-comm, le-of-suc-le-suc, not-suc-le-zero}
+use Prim.Native.Nat.{ℕ, zero, suc, _+_, _-_, _≤_, _<_}
+use native.Mathlib.Nat.{mul-comm, le-refl, le-of-suc-le-suc, not-suc-le-zero, min-eq-right}
 use native.Mathlib.Numerals.{add-one}
 use native.Mathlib.Omega.{arith}
+use borrow.Author.Tests.{eq-eqb, ne-eqb, le-leb, lt-leb}
 use lib.ListN.{length, getD, replicate, getD-replicate}
 use Rattle.ground.specs.Bits.{sum}
 use Rattle.ground.proofs.Sums.{sum-assoc, sum-self, sum-zero, zero-sum, sum-cancel}
+use Rattle.ground.proofs.Listed.{length-listed, getD-listed-0}
+use Rattle.ground.proofs.Numbers.{lt-or-ge, same-or-not}
 use Rattle.field.specs.Field.{product, expo, power}
+use Rattle.field.specs.Tables.{Powers, Logs}
 use Rattle.field.proofs.Laws.{product-comm, product-assoc, product-power, zero-product, expo-power}
 use Rattle.code.specs.Value.{value}
 use Rattle.code.proofs.Weights.{expo-zero, expo-suc, one-product}
 use Rattle.code.proofs.Values.{value-nil, value-cons}
+use Rattle.terms.specs.Terms.{onward, steps, termBy, withTerm, withTerms, addTerms}
 use Rattle.errata.specs.InnerSums.{total}
 use Rattle.errata.specs.InnerErrata.{entries, shareOf, Termed, Shared, Syndromes, Placed, Nought}
 use Rattle.errata.proofs.Totals.{total-first}
-
--- the entry x of sum j, with its term
-abbrev pub WithTerm : ℕ → ℕ → List ℕ → ℕ → ℕ → Type 0
-WithTerm c a s j x = x ≡ sum (getD s j 0) (product c (expo (power a) j))
+use Rattle.errata.proofs.ByExponents.{Rounded, round-down, round-stay}
 
 pub term-first : (c a : ℕ) → c < 256 → c ≡ product c (expo (power a) 0)
 term-first c a h = sym (ap (product c) (expo-zero (power a)) ∙ one-product c h)
@@ -35,17 +38,6 @@ term-next c a j t e =
 -- by exponents
 pub term-moved : (c a j e r : ℕ) → power e ≡ product c (expo (power a) j) → power r ≡ power (e + a) → power r ≡ product c (expo (power a) (j + 1))
 term-moved c a j e r p q = q ∙ sym (product-power e a) ∙ term-next c a j (power e) p
-
--- what is 0 adds nothing
-pub term-nothing : (c a : ℕ) (s : List ℕ) → c ≡ 0 → length s ≡ 16 → Termed c a s s
-term-nothing c a s z long =
-    record {
-      sized = long;
-      entry =
-          λ j h. sym (ap (λ (x : ℕ). sum (getD s j 0) (product x (expo (power a) j))) z
-          ∙ ap (sum (getD s j 0)) (zero-product (expo (power a) j))
-          ∙ sum-zero (getD s j 0));
-    }
 
 -- α^(a · j) either way round
 pub expo-swap : (a j : ℕ) → expo (power a) j ≡ expo (power j) a
@@ -117,6 +109,54 @@ shared-more {s} {at} {c} {k} {left} was r a e term =
 
 pub shared-end : {s at c : List ℕ} {k n : ℕ} {r : List ℕ} → Shared s at c k r → k ≡ n → Shared s at c n r
 shared-end {s} {at} {c} {k} {n} {r} was e = subst (λ (m : ℕ). Shared s at c m r) e was
+
+-- ---- as crate terms reads them off the field's tables
+
+onward-round : (a e : ℕ) → a < 255 → e < 255 → Rounded (e + a) (onward a e)
+unfolding onward
+onward-round a e ha he =
+    ⊎-elim (λ (h : e + a < 255). rw (lt-leb 255 (e + a) h) (round-stay h refl)) (λ (h : 255 ≤ e + a). rw (le-leb 255 (e + a) h) (round-down (omega arith) h refl))
+    (lt-or-ge (e + a) 255)
+
+module _ {l : List ℕ} (isl : Logs l) (c a : ℕ) (hc : c < 256) (nc : c ≢ 0) (ha : a < 255) where
+  -- the exponent after j steps
+  stepped : (j : ℕ) → (steps a (getD l c 0) j < 255) × (power (steps a (getD l c 0) j) ≡ product c (expo (power a) j))
+  unfolding steps
+  stepped zero = (isl .small c hc, isl .entry c hc nc ∙ term-first c a hc)
+  stepped (suc j) = more (steps a (getD l c 0) j) (stepped j)
+    where
+      more : (e : ℕ) → (e < 255) × (power e ≡ product c (expo (power a) j)) → (onward a e < 255) × (power (onward a e) ≡ product c (expo (power a) (suc j)))
+      more e was =
+          let r : Rounded (e + a) (onward a e) = onward-round a e ha (was .0) in
+          (r .below, term-moved c a j e (onward a e) (was .1) (r .same) ∙ ap (λ (k : ℕ). product c (expo (power a) k)) (add-one j))
+
+module _ {p l : List ℕ} (isp : Powers p) (isl : Logs l) where
+  pub term-true : (c a j : ℕ) → c < 256 → a < 255 → termBy p l c a j ≡ product c (expo (power a) j)
+  unfolding termBy
+  term-true c a j hc ha =
+      ⊎-elim (λ (z : c ≡ 0). rw (eq-eqb c 0 z) (sym (ap (λ (x : ℕ). product x (expo (power a) j)) z ∙ zero-product (expo (power a) j))))
+      (λ (n : c ≡ 0 → ⊥). let t = stepped isl c a hc n ha j in rw (ne-eqb c 0 n) (isp .entry (steps a (getD l c 0) j) (omega (arith, t .0)) ∙ t .1)) (same-or-not c 0)
+
+  with-term : (c a : ℕ) (s : List ℕ) → c < 256 → a < 255 → Termed c a s (withTerm p l s c a)
+  unfolding withTerm
+  with-term c a s hc ha =
+      let f : ℕ → ℕ = λ j. sum (getD s j 0) (termBy p l c a j) in
+      record { sized = length-listed f 16 0; entry = λ j h. getD-listed-0 f 16 j 0 h ∙ ap (sum (getD s j 0)) (term-true c a j hc ha) }
+
+  module _ (s at c : List ℕ) (n : ℕ) (placed : Placed n at) (bytes : (k : ℕ) → getD c k 0 < 256) where
+    up-to : (k : ℕ) → k ≤ n → Shared s at c k (withTerms p l s at c k)
+    unfolding withTerms
+    up-to zero h = shared-start s at c
+    up-to (suc k) h =
+        shared-end
+        (shared-more (up-to k (omega arith)) (withTerm p l (withTerms p l s at c k) (getD c k 0) (getD at k 0)) (getD at k 0) refl
+        (with-term (getD c k 0) (getD at k 0) (withTerms p l s at c k) (bytes k) (placed .below k h)))
+        (add-one k)
+
+    pub terms-shared : {r : List ℕ} → r ≡ addTerms p l s at c n → Shared s at c n r
+    unfolding addTerms
+    terms-shared {r} e =
+        subst (Shared s at c n) (sym (e ∙ ap (withTerms p l s at c) (min-eq-right (placed .few)))) (up-to n (le-refl n))
 
 -- r says whether c at the first n places gives all sixteen syndromes s
 pub record Agreeing (s at c : List ℕ) (n : ℕ) (r : Bool) : Type 0 where

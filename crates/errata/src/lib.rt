@@ -7,7 +7,7 @@ ghost use Rattle.errata.specs.InnerErrata.{nothingTo, Ordered, Put, Kept
 
 mod factors;
 mod kernel;
-mod terms;
+mod sums;
 mod values;
 
 // Whether there is a coded row within eight bytes; then the n places at which to add something, in increasing order, and what, which is never 0. Zeros behind
@@ -23,18 +23,18 @@ pub struct Errata {
 pub fn find(rest: [u8; 16]) -> Errata
     ensures { λ r. ⌜ r ≡ errataOf rest ⌝ }
 {
-    if terms::is_nought(rest) {
+    if sums::is_nought(rest) {
         return nothing(true);
     }
     let powers = field::powers();
     let logs = field::logs();
     let p = &powers;
     let l = &logs;
-    let s = terms::syndromes(rest, p, l);
+    let s = sums::syndromes(rest, p, l);
     let places = roots::find(kernel::null_vector(s, p, l));
     let at = places.at;
     let values = values::solve(s, at, places.n, p, l);
-    if !terms::is_nought(terms::add_terms(s, at, values, places.n, p, l)) {
+    if !sums::is_nought(terms::add_terms(s, at, values, places.n, p, l)) {
         return nothing(false);
     }
     keep(at, values, places.n)

@@ -7,6 +7,7 @@ pub mod Crc
 pub mod Roots
 pub mod Encoding
 pub mod Filling
+pub mod Terms
 pub mod Errata
 pub mod Repair
 pub mod Single

@@ -11,7 +11,7 @@ use borrow.Author.Tests.{not-true, not-false}
 use Rattle.code.specs.Code.{Bytes}
 use Rattle.code.proofs.Lists.{bytes-of}
 use Rattle.errata.specs.InnerErrata.{Rooted, Nought, Searched}
-use Rattle.errata.proofs.Shares.{shared-agrees}
+use Rattle.errata.proofs.Shares.{terms-shared, shared-agrees}
 use Rattle.errata.proofs.Locators.{rooted}
 use Rattle.errata.proofs.Mending.{nothing-left, searched}
 use Rattle.errata.proofs.Keeping.{keeping-start, keeping-end}
@@ -70,9 +70,7 @@ solve-requires c κs =
     (places (c .before) .placed, logs .before .powers .ensures, logs .logs .ensures)
 
 add-terms-requires : tie.Need-add-terms-requires
-add-terms-requires c κs =
-    let logs = c .before .before .before .before .before .before .before in
-    (places (c .before .before) .placed, logs .before .powers .ensures, logs .logs .ensures)
+add-terms-requires c κs = tt
 
 is-nought-requires-2 : tie.Need-is-nought-requires-2
 is-nought-requires-2 c κs = tt
@@ -85,6 +83,7 @@ module _ (c : tie.After-is-nought2) where
       let solve = c .before .before in
       let found = solve .before .before in
       let syndromes = found .before .before in
+      let logs = syndromes .before .before .before in
       let values : List ℕ = solve .solve .result in
       let value-fit : (i : ℕ) → mir.Val.Fits mir.Syntax.w8 (getD values i 0) = λ i. search needs in
       let places : Rooted (found .before .null-vector .result) (found .find .result .n) (found .find .result .at) = places found in
@@ -96,7 +95,7 @@ module _ (c : tie.After-is-nought2) where
         rooted = places;
         value-bytes = λ i. value-fit i .fits;
         solved = solve .solve .ensures;
-      }) fits (shared-agrees (c .before .add-terms .ensures) fits (subst (Nought (c .before .add-terms .result)) e (c .is-nought2 .ensures)))
+      }) fits (shared-agrees (terms-shared (logs .before .powers .ensures) (logs .logs .ensures) _ _ values _ (places .placed) (λ i. value-fit i .fits) (c .before .add-terms .ensures)) fits (subst (Nought (c .before .add-terms .result)) e (c .is-nought2 .ensures)))
 
 nothing-requires-2 : tie.Need-nothing-requires-2
 nothing-requires-2 c κs = tt

@@ -4,7 +4,7 @@ use mathlib.Core.Path.{sym, subst}
 use Prim.Native.Nat.{_-_}
 use native.Mathlib.Nat.{lt-of-lt-of-le}
 use native.Mathlib.Omega.{arith}
-use Rattle.errata.proofs.Stores.{next-nearer}
+use Rattle.terms.proofs.Stores.{next-nearer}
 use Rattle.errata.proofs.Keeping.{Keeping, keeping-start, keeping-more, keeping-end}
 use Rattle.errata.proofs.keep.Statement.{statement}
 use Rattle.errata.proofs.keep.Tie as tie

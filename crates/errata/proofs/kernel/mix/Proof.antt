@@ -7,7 +7,7 @@ use native.Mathlib.Omega.{arith}
 use Rattle.ground.specs.Bits.{sum}
 use lib.ListN.{getD}
 use Rattle.errata.proofs.ByExponents.{times-law}
-use Rattle.errata.proofs.Stores.{next-within, next-nearer, Front, front-start, front-more}
+use Rattle.terms.proofs.Stores.{next-within, next-nearer, Front, front-start, front-more}
 use Rattle.errata.proofs.Null.{Added, mixed-from}
 use borrow.Author.Needs.{needs}
 use Rattle.errata.proofs.kernel.mix.Statement.{statement}

@@ -7,7 +7,7 @@ use native.Mathlib.Nat.{lt-of-lt-of-le}
 use native.Mathlib.Omega.{arith}
 use Rattle.ground.specs.Bits.{sum}
 use lib.ListN.{getD}
-use Rattle.errata.proofs.Stores.{next-within, next-nearer}
+use Rattle.terms.proofs.Stores.{next-within, next-nearer}
 use Rattle.errata.proofs.ByExponents.{times-law}
 use Rattle.errata.specs.InnerSums.{total, runOf}
 use borrow.Author.Needs.{needs}

@@ -7,7 +7,7 @@ use native.Mathlib.Omega.{arith}
 use lib.ListN.{getD}
 use Rattle.ground.specs.Bits.{sum}
 use Rattle.field.specs.Field.{product, power}
-use Rattle.errata.proofs.Stores.{next-nearer, next-fits}
+use Rattle.terms.proofs.Stores.{next-nearer, next-fits}
 use Rattle.errata.proofs.Solving.{Restoring, restoring-start, restoring-more, restoring-end, locators-apart}
 use borrow.Author.Needs.{needs}
 use Rattle.errata.proofs.values.restore.Statement.{statement}

@@ -2,7 +2,7 @@
 -- Assumes nothing.
 use Prim.Native.Nat.{_-_}
 use native.Mathlib.Nat.{lt-of-lt-of-le}
-use Rattle.errata.proofs.Stores.{next-nearer, next-fits}
+use Rattle.terms.proofs.Stores.{next-nearer, next-fits}
 use Rattle.errata.proofs.Solving.{Sifting, sifting-start, sifting-more, sifting-end}
 use borrow.Author.Needs.{needs}
 use Rattle.errata.proofs.values.sift.Statement.{statement}

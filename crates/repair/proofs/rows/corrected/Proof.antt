@@ -7,7 +7,7 @@ use native.Mathlib.Nat.{lt-of-lt-of-le}
 use native.Mathlib.Omega.{arith}
 use Rattle.ground.specs.Bits.{sum}
 use Rattle.errata.specs.InnerErrata.{entries, mendedBy}
-use Rattle.errata.proofs.Stores.{next-within, next-nearer, next-fits}
+use Rattle.terms.proofs.Stores.{next-within, next-nearer, next-fits}
 use Rattle.errata.proofs.Mending.{mended-start, mended-more}
 use Rattle.repair.proofs.AllRows.{ordered-few, copied-row}
 use Rattle.repair.proofs.rows.corrected.Statement.{statement}

@@ -1,4 +1,4 @@
--- `terms::is_nought` looks at one after the other: those before j are 0.
+-- `sums::is_nought` looks at one after the other: those before j are 0.
 -- Assumes nothing.
 use mathlib.Core.Path.{_≡_, sym, subst}
 use Prim.Native.Nat.{ℕ, _-_, _≤_, _<_}
@@ -6,8 +6,8 @@ use native.Mathlib.Omega.{arith}
 use borrow.Author.Count.{below-more}
 use lib.Dec.{T}
 use lib.ListN.{getD}
-use Rattle.errata.proofs.terms.is_nought.Statement.{statement}
-use Rattle.errata.proofs.terms.is_nought.Tie as tie
+use Rattle.errata.proofs.sums.is_nought.Statement.{statement}
+use Rattle.errata.proofs.sums.is_nought.Tie as tie
 
 abbrev Inv-loop : tie.InvT-loop
 Inv-loop s j₀ j = (j ≤ 16) × ((i : ℕ) → i < j → getD s i 0 ≡ 0)
