@@ -57,7 +57,7 @@ loop-again c =
     let inv = c .before .before .before .loop .inv in
     let index = c .before .before .before .before .before .before in
     let on : Onward (index .index .result) (c .before .before .before .loop .e) (c .if2 .e) =
-    ⊎-elim (λ w. onward-down (inv .small) (index .index .ensures .1) (w .0 .taken) (w .1)) (λ w. onward-stay (w .0 .left) (w .1)) (c .if2 .came) in
+    ⊎-elim (λ w. onward-down (inv .small) (index .index .ensures .1) (omega (arith, w .0 .taken)) (w .1)) (λ w. onward-stay (omega (arith, w .0 .left)) (w .1)) (c .if2 .came) in
     adding-more _ _ _ _ _ inv (c .before .before .loop-test .taken) (index .before .if1 .left)
     (subst (λ (a : ℕ). Onward a (c .before .before .before .loop .e) (c .if2 .e)) (index .index .ensures .0) on)
 
