@@ -10,7 +10,7 @@ use lib.Dec.{eqb}
 use lib.ListN.{length, getD}
 use Rattle.code.specs.Code.{distance}
 use Rattle.roots.specs.Roots.{passing}
-use Rattle.errata.specs.Errata.{byteAt, differing}
+use Rattle.errata.specs.Errata.{differing}
 
 abbrev one : Bool → ℕ
 one b = cond b 1 0

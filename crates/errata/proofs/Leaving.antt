@@ -3,14 +3,13 @@
 -- Assumes nothing.
 use mathlib.Core.Path.{_≡_, refl, sym, ap, _∙_}
 use mathlib.Core.Bool.{true, false}
-use mathlib.Core.List.{List, _++_}
-use Prim.Native.Nat.{ℕ, _+_}
+use mathlib.Core.List.{List}
+use Prim.Native.Nat.{ℕ}
 use native.Mathlib.Omega.{arith}
 use lib.ListN.{length, length-append}
 use Rattle.code.specs.Code.{Bytes}
 use Rattle.code.specs.Search.{remainder}
-use Rattle.code.specs.Search.Repaired.{found, none}
-use Rattle.code.specs.Repair.{repairOf, Near}
+use Rattle.code.specs.Repair.{Near}
 use Rattle.code.proofs.Lists.{zeros, length-zeros, zeros-bytes, append-bytes}
 use Rattle.code.proofs.Division.{remainder-zeros}
 use Rattle.code.proofs.Exact.{repair-found, repair-none}

@@ -1,50 +1,49 @@
 -- The list of what is to be added is determined by the row and by what it becomes: the places at which they differ, in increasing order, and by how much.
 -- Assumes nothing.
-use mathlib.Core.Path.{_≡_, refl, sym, ap, ap₂, subst, _∙_}
+use mathlib.Core.Path.{_≡_, refl, sym, ap, subst, _∙_}
 use mathlib.Core.Logic.{_≢_, _⊎_, inl, inr, ⊎-elim}
 use mathlib.Core.Bool.{Bool, true, false, not}
 use mathlib.Core.List.{List, [], _∷_, map}
 use Prim.Native.Nat.{ℕ, zero, suc, _-_, _≤_, _<_}
 use native.Mathlib.Nat.{le-refl, not-suc-le-zero, le-of-suc-le-suc}
 use native.Mathlib.Omega.{arith}
-use borrow.Author.Tests.{eq-eqb, ne-eqb, eqb-true, eqb-false}
+use borrow.Author.Tests.{eq-eqb, ne-eqb}
 use lib.Dec.{eqb}
 use lib.ListN.{length, getD, set, length-map}
 use lib.Seq.{getD-set-same, getD-set-other, ext-getD}
 use Rattle.ground.specs.Bits.{sum}
-use Rattle.ground.specs.Lists.{listed}
 use Rattle.ground.proofs.Listed.{length-listed, getD-listed-0}
-use Rattle.ground.proofs.Sums.{sum-zero, sum-self, sum-cancel}
+use Rattle.ground.proofs.Sums.{sum-self}
 use Rattle.ground.proofs.Numbers.{lt-or-ge, below-suc}
 use Rattle.code.specs.Search.Repaired.{found}
 use Rattle.code.proofs.Lists.{sum-again}
 use Rattle.errata.specs.declared.Errata.{Errata}
-use Rattle.errata.specs.Errata.{byteAt, differing, differences, padded, errataFor}
+use Rattle.errata.specs.Errata.{atPlace, differing, differences, padded, errataFor}
 use Rattle.errata.specs.InnerErrata.{entries, mendedBy, Listed}
 use Rattle.errata.proofs.Mending.{mended-length, mended-off}
 use Rattle.errata.proofs.Rising.{Rises, passing-rises, rises-same, rises-many, somewhere}
 
 -- at the place k of n different ones the value is added
 pub mended-on : (row : List ℕ) → length row ≡ 255 → (a c : ℕ → ℕ) (n : ℕ) → ((k : ℕ) → k < n → a k < 255) → ((j k : ℕ) → j < k → k < n → a j < a k)
-    → (k : ℕ) → k < n → byteAt (mendedBy row a c n) (a k) ≡ sum (byteAt row (a k)) (c k)
+    → (k : ℕ) → k < n → atPlace (mendedBy row a c n) (a k) ≡ sum (atPlace row (a k)) (c k)
 unfolding mendedBy
 mended-on row long a c zero below rising k h = absurd (not-suc-le-zero h)
 mended-on row long a c (suc n) below rising k h =
     by (mended-on row long a c n (λ k h. below k (omega arith)) (λ j k b h. rising j k b (omega arith))) (below-suc h)
   where
-    by : ((k : ℕ) → k < n → byteAt (mendedBy row a c n) (a k) ≡ sum (byteAt row (a k)) (c k)) → (k ≡ n) ⊎ (k < n)
-        → byteAt (set (mendedBy row a c n) (254 - a n) (sum (byteAt (mendedBy row a c n) (a n)) (c n))) (a k) ≡ sum (byteAt row (a k)) (c k)
+    by : ((k : ℕ) → k < n → atPlace (mendedBy row a c n) (a k) ≡ sum (atPlace row (a k)) (c k)) → (k ≡ n) ⊎ (k < n)
+        → atPlace (set (mendedBy row a c n) (254 - a n) (sum (atPlace (mendedBy row a c n) (a n)) (c n))) (a k) ≡ sum (atPlace row (a k)) (c k)
     by old (inl e) =
         let l : List ℕ = mendedBy row a c n in
         let size : length l ≡ 255 = mended-length row long a c n in
-        ap (λ (x : ℕ). byteAt (set l (254 - a n) (sum (byteAt l (a n)) (c n))) (a x)) e
-        ∙ getD-set-same l (254 - a n) (sum (byteAt l (a n)) (c n)) 0 (omega arith)
+        ap (λ (x : ℕ). atPlace (set l (254 - a n) (sum (atPlace l (a n)) (c n))) (a x)) e
+        ∙ getD-set-same l (254 - a n) (sum (atPlace l (a n)) (c n)) 0 (omega arith)
         ∙ ap (λ (x : ℕ). sum x (c n))
         (mended-off row long a c n (254 - a n) (λ j b z. omega (arith, below j (omega arith), below n (le-refl (suc n)), rising j n b (le-refl (suc n)))))
-        ∙ sym (ap (λ (x : ℕ). sum (byteAt row (a x)) (c x)) e)
+        ∙ sym (ap (λ (x : ℕ). sum (atPlace row (a x)) (c x)) e)
     by old (inr b) =
         let l : List ℕ = mendedBy row a c n in
-        getD-set-other l (254 - a n) (254 - a k) (sum (byteAt l (a n)) (c n)) 0
+        getD-set-other l (254 - a n) (254 - a k) (sum (atPlace l (a n)) (c n)) 0
         (λ z. omega (arith, below k (omega arith), below n (le-refl (suc n)), rising k n b (le-refl (suc n))))
         ∙ old k b
 
@@ -75,30 +74,30 @@ module _ (r s : List ℕ) (long : length r ≡ 255) (e : Errata) (w : Listed e) 
   abbrev value : ℕ → ℕ
   value k = getD (e .values) k 0
 
-  on : (k : ℕ) → k < e .n → byteAt s (at k) ≡ sum (byteAt r (at k)) (value k)
+  on : (k : ℕ) → k < e .n → atPlace s (at k) ≡ sum (atPlace r (at k)) (value k)
   on k h =
-      ap (λ (l : List ℕ). byteAt l (at k)) same ∙ mended-on r long (entries (e .at)) (entries (e .values)) (e .n) (w .ordered .below) (w .ordered .rising) k h
+      ap (λ (l : List ℕ). atPlace l (at k)) same ∙ mended-on r long (entries (e .at)) (entries (e .values)) (e .n) (w .ordered .below) (w .ordered .rising) k h
 
   -- what is added is by how much they differ
-  difference : (k : ℕ) → k < e .n → sum (byteAt r (at k)) (byteAt s (at k)) ≡ value k
-  difference k h = ap (sum (byteAt r (at k))) (on k h) ∙ sum-again (byteAt r (at k)) (value k)
+  difference : (k : ℕ) → k < e .n → sum (atPlace r (at k)) (atPlace s (at k)) ≡ value k
+  difference k h = ap (sum (atPlace r (at k))) (on k h) ∙ sum-again (atPlace r (at k)) (value k)
 
-  off : (a : ℕ) → a < 255 → ((k : ℕ) → k < e .n → at k ≢ a) → byteAt r a ≡ byteAt s a
+  off : (a : ℕ) → a < 255 → ((k : ℕ) → k < e .n → at k ≢ a) → atPlace r a ≡ atPlace s a
   off a b o =
-      sym (ap (λ (l : List ℕ). byteAt l a) same
+      sym (ap (λ (l : List ℕ). atPlace l a) same
       ∙ mended-off r long (entries (e .at)) (entries (e .values)) (e .n) (254 - a) (λ k h z. o k h (omega (arith, w .ordered .below k h))))
 
   abbrev differ : ℕ → Bool
-  differ a = not (eqb (byteAt r a) (byteAt s a))
+  differ a = not (eqb (atPlace r a) (atPlace s a))
 
   changed : (k : ℕ) → k < e .n → differ (at k) ≡ true
   changed k h =
-      ap not (ne-eqb (byteAt r (at k)) (byteAt s (at k)) (λ q. w .some k h (sym (difference k h) ∙ ap (sum (byteAt r (at k))) (sym q) ∙ sum-self (byteAt r (at k)))))
+      ap not (ne-eqb (atPlace r (at k)) (atPlace s (at k)) (λ q. w .some k h (sym (difference k h) ∙ ap (sum (atPlace r (at k))) (sym q) ∙ sum-self (atPlace r (at k)))))
 
   each : (a : ℕ) → a < 255 → differ a ≡ true → (k : ℕ) × (k < e .n) × (at k ≡ a)
   each a b t =
       ⊎-elim (λ (f : (k : ℕ) × (k < e .n) × (at k ≡ a)). f)
-      (λ (o : (k : ℕ) → k < e .n → at k ≢ a). absurd (true-not-false (sym t ∙ ap not (eq-eqb (byteAt r a) (byteAt s a) (off a b o))))) (somewhere at a (e .n))
+      (λ (o : (k : ℕ) → k < e .n → at k ≢ a). absurd (true-not-false (sym t ∙ ap not (eq-eqb (atPlace r a) (atPlace s a) (off a b o))))) (somewhere at a (e .n))
     where
       true-not-false : true ≡ false → ⊥
       true-not-false e = let z : _≡_ {A = ℕ} 0 1 = cc in omega arith
@@ -117,12 +116,12 @@ module _ (r s : List ℕ) (long : length r ≡ 255) (e : Errata) (w : Listed e) 
   amount : (k : ℕ) → k < e .n → value k ≡ getD (differences r s) k 0
   unfolding differences
   amount k h =
-      sym (getD-map (λ (a : ℕ). sum (byteAt r a) (byteAt s a)) (differing r s) k (subst (λ (n : ℕ). k < n) many h)
-      ∙ ap (λ (a : ℕ). sum (byteAt r a) (byteAt s a)) (sym (place k h)) ∙ difference k h)
+      sym (getD-map (λ (a : ℕ). sum (atPlace r a) (atPlace s a)) (differing r s) k (subst (λ (n : ℕ). k < n) many h)
+      ∙ ap (λ (a : ℕ). sum (atPlace r a) (atPlace s a)) (sym (place k h)) ∙ difference k h)
 
   many-amounts : length (differences r s) ≡ e .n
   unfolding differences
-  many-amounts = length-map (differing r s) (λ (a : ℕ). sum (byteAt r a) (byteAt s a)) ∙ sym many
+  many-amounts = length-map (differing r s) (λ (a : ℕ). sum (atPlace r a) (atPlace s a)) ∙ sym many
 
   pub listed-told : e .fits ≡ true → e ≡ errataFor r (found s)
   unfolding errataFor

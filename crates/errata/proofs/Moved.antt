@@ -9,7 +9,7 @@ use native.Mathlib.Nat.{not-suc-le-zero}
 use native.Mathlib.Omega.{arith}
 use borrow.Author.Tests.{eqb-true}
 use lib.Dec.{eqb}
-use lib.ListN.{length, getD, length-map}
+use lib.ListN.{length, getD}
 use lib.Seq.{ext-getD}
 use Rattle.ground.specs.Bits.{sum}
 use Rattle.ground.proofs.Listed.{getD-listed-0}
@@ -25,7 +25,7 @@ use Rattle.code.proofs.Distance.{nonzeros, nonzeros-add, distance-sym}
 use Rattle.code.proofs.Values.{value-add, value-remainder, coded-values, values-coded}
 use Rattle.code.proofs.Exact.{repair-near, repair-found, repair-none, none-near}
 use Rattle.errata.specs.declared.Errata.{Errata}
-use Rattle.errata.specs.Errata.{byteAt, differing, differences, padded, errataFor, leaving, errataOf}
+use Rattle.errata.specs.Errata.{atPlace, differing, differences, padded, errataFor, leaving, errataOf}
 use Rattle.errata.specs.InnerErrata.{entries, mendedBy, Ordered}
 use Rattle.errata.proofs.Mending.{mended-length, mended-off}
 use Rattle.errata.proofs.Rising.{Rises, passing-rises, somewhere}
@@ -85,7 +85,7 @@ module _ (r s : List ℕ) (lr : length r ≡ 255) (ls : length s ≡ 255) (close
   amount k = entries (padded (differences r s)) k
 
   abbrev differ : ℕ → Bool
-  differ a = not (eqb (byteAt r a) (byteAt s a))
+  differ a = not (eqb (atPlace r a) (atPlace s a))
 
   few : n ≤ 8
   few = omega (arith, differing-distance r s lr ls)
@@ -97,12 +97,12 @@ module _ (r s : List ℕ) (lr : length r ≡ 255) (ls : length s ≡ 255) (close
   at-is : (k : ℕ) → k < n → at k ≡ getD (differing r s) k 0
   at-is k h = getD-listed-0 (λ k. getD (differing r s) k 0) 16 k 0 (omega (arith, few))
 
-  amount-is : (k : ℕ) → k < n → amount k ≡ sum (byteAt r (at k)) (byteAt s (at k))
+  amount-is : (k : ℕ) → k < n → amount k ≡ sum (atPlace r (at k)) (atPlace s (at k))
   unfolding differences
   amount-is k h =
       getD-listed-0 (λ k. getD (differences r s) k 0) 16 k 0 (omega (arith, few))
-      ∙ getD-map (λ (a : ℕ). sum (byteAt r a) (byteAt s a)) (differing r s) k h
-      ∙ ap (λ (a : ℕ). sum (byteAt r a) (byteAt s a)) (sym (at-is k h))
+      ∙ getD-map (λ (a : ℕ). sum (atPlace r a) (atPlace s a)) (differing r s) k h
+      ∙ ap (λ (a : ℕ). sum (atPlace r a) (atPlace s a)) (sym (at-is k h))
 
   ordered : Ordered n (padded (differing r s))
   ordered =
@@ -113,28 +113,28 @@ module _ (r s : List ℕ) (lr : length r ≡ 255) (ls : length s ≡ 255) (close
       }
 
   -- elsewhere they agree
-  agree : (a : ℕ) → a < 255 → ((k : ℕ) → k < n → at k ≢ a) → byteAt r a ≡ byteAt s a
-  agree a b off = by (eqb (byteAt r a) (byteAt s a)) refl
+  agree : (a : ℕ) → a < 255 → ((k : ℕ) → k < n → at k ≢ a) → atPlace r a ≡ atPlace s a
+  agree a b off = by (eqb (atPlace r a) (atPlace s a)) refl
     where
-      by : (t : Bool) → eqb (byteAt r a) (byteAt s a) ≡ t → byteAt r a ≡ byteAt s a
-      by true e = eqb-true (byteAt r a) (byteAt s a) e
+      by : (t : Bool) → eqb (atPlace r a) (atPlace s a) ≡ t → atPlace r a ≡ atPlace s a
+      by true e = eqb-true (atPlace r a) (atPlace s a) e
       by false e = let k = listing .all a b (ap not e) in absurd (off (k .0) (k .1) (at-is (k .0) (k .1) ∙ k .2))
 
   module _ (row : List ℕ) (lrow : length row ≡ 255) where
     ring : (x y z : ℕ) → sum x (sum y z) ≡ sum z (sum y x)
     ring x y z = simp (sum-comm, sum-left-comm)
 
-    there : (a : ℕ) → a < 255 → byteAt (mendedBy row at amount n) a ≡ sum (byteAt s a) (sum (byteAt r a) (byteAt row a))
+    there : (a : ℕ) → a < 255 → atPlace (mendedBy row at amount n) a ≡ sum (atPlace s a) (sum (atPlace r a) (atPlace row a))
     there a b =
         ⊎-elim
         (λ (f : (k : ℕ) × (k < n) × (at k ≡ a)).
         let k : ℕ = f .0 in
-        subst (λ (x : ℕ). byteAt (mendedBy row at amount n) x ≡ sum (byteAt s x) (sum (byteAt r x) (byteAt row x))) (f .2)
+        subst (λ (x : ℕ). atPlace (mendedBy row at amount n) x ≡ sum (atPlace s x) (sum (atPlace r x) (atPlace row x))) (f .2)
         (mended-on row lrow at amount n (ordered .below) (ordered .rising) k (f .1)
-        ∙ ap (sum (byteAt row (at k))) (amount-is k (f .1)) ∙ ring (byteAt row (at k)) (byteAt r (at k)) (byteAt s (at k))))
+        ∙ ap (sum (atPlace row (at k))) (amount-is k (f .1)) ∙ ring (atPlace row (at k)) (atPlace r (at k)) (atPlace s (at k))))
         (λ (o : (k : ℕ) → k < n → at k ≢ a).
         mended-off row lrow at amount n (254 - a) (λ k h z. o k h (omega (arith, ordered .below k h)))
-        ∙ sym (ap (λ (x : ℕ). sum x (sum (byteAt r a) (byteAt row a))) (sym (agree a b o)) ∙ sum-again (byteAt r a) (byteAt row a)))
+        ∙ sym (ap (λ (x : ℕ). sum x (sum (atPlace r a) (atPlace row a))) (sym (agree a b o)) ∙ sum-again (atPlace r a) (atPlace row a)))
         (somewhere at a n)
 
     mended-moved : mendedBy row at amount n ≡ add s (add r row)
@@ -146,7 +146,7 @@ module _ (r s : List ℕ) (lr : length r ≡ 255) (ls : length s ≡ 255) (close
         let e : 254 - (254 - i) ≡ i = omega arith in
         subst (λ (x : ℕ). getD (mendedBy row at amount n) x 0 ≡ getD (add s (add r row)) x 0) e
         (there (254 - i) (omega arith)
-        ∙ sym (add-at s (add r row) (ls ∙ sym mid) (254 - (254 - i)) ∙ ap (sum (byteAt s (254 - i))) (add-at r row (lr ∙ sym lrow) (254 - (254 - i))))))
+        ∙ sym (add-at s (add r row) (ls ∙ sym mid) (254 - (254 - i)) ∙ ap (sum (atPlace s (254 - i))) (add-at r row (lr ∙ sym lrow) (254 - (254 - i))))))
 
 -- ---- any row that leaves `rest`
 

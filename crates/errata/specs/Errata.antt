@@ -15,16 +15,16 @@ use Rattle.roots.specs.Roots.{passing}
 use Rattle.errata.specs.declared.Errata.{Errata}
 
 -- the byte at the place a
-abbrev pub byteAt : List ℕ → ℕ → ℕ
-byteAt r a = getD r (254 - a) 0
+abbrev pub atPlace : List ℕ → ℕ → ℕ
+atPlace r a = getD r (254 - a) 0
 
 -- the places at which r and s differ, in increasing order
 unfoldable pub differing : List ℕ → List ℕ → List ℕ
-differing r s = passing (λ a. not (eqb (byteAt r a) (byteAt s a))) 255 0
+differing r s = passing (λ a. not (eqb (atPlace r a) (atPlace s a))) 255 0
 
 -- what is to be added there
 unfoldable pub differences : List ℕ → List ℕ → List ℕ
-differences r s = map (λ a. sum (byteAt r a) (byteAt s a)) (differing r s)
+differences r s = map (λ a. sum (atPlace r a) (atPlace s a)) (differing r s)
 
 -- l, and zeros behind it
 abbrev pub padded : List ℕ → List ℕ

@@ -30,7 +30,7 @@ use Rattle.contents.proofs.Bytes.{bytes-part}
 use Rattle.contents.proofs.Slots.{slot-holds, slot-wrong, slot-empty}
 use Rattle.record.specs.declared.Offered.{Offered}
 use Rattle.record.specs.declared.Offered.the-variants.{Stored, Repeat, Refused}
-use Rattle.code.specs.Mend.{Mended, whole, broken, mendRows}
+use Rattle.code.specs.Mend.{Mended, whole, mendRows}
 use Rattle.record.specs.Mend.{payloadIn, mendedIn}
 use Rattle.sealing.specs.Sealing.{agrees}
 use Rattle.record.specs.Offer.{differs, refuse, put, judgeMended, judge, Offering, storing, offerJudged, offerOf, judgeBy, offerBy}

@@ -1,6 +1,5 @@
 -- A length is the value; a refusal is answered as every other.
 use mathlib.Core.Path.{_≡_, sym, ap, _∙_}
-use Prim.Native.Nat.{_*_}
 use native.Mathlib.Omega.{arith}
 use borrow.Author.Needs.{needs}
 use Rattle.pack.specs.declared.Packed.{Packed}

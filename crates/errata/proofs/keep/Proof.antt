@@ -2,7 +2,6 @@
 -- Assumes nothing.
 use mathlib.Core.Path.{sym, subst}
 use Prim.Native.Nat.{_-_}
-use native.Mathlib.Nat.{lt-of-lt-of-le}
 use native.Mathlib.Omega.{arith}
 use Rattle.terms.proofs.Stores.{next-nearer}
 use Rattle.errata.proofs.Keeping.{Keeping, keeping-start, keeping-more, keeping-end}

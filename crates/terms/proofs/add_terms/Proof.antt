@@ -1,7 +1,7 @@
 -- `add_terms` adds one place a turn: after k turns the sums have what the first k places add.
 -- Assumes nothing.
 use mathlib.Core.Path.{_≡_, ap, _∙_}
-use Prim.Native.Nat.{ℕ, _-_, _≤_, min}
+use Prim.Native.Nat.{_-_, _≤_}
 use native.Mathlib.Nat.{lt-of-lt-of-le, min-le-left}
 use native.Mathlib.Omega.{arith}
 use Rattle.terms.specs.Terms.{withTerms, addTerms}
