@@ -13,7 +13,9 @@ use lib.Dec.{leb, ltb}
 use lib.ListN.{length, getD, set, take, drop, length-set, List·getD-eq-default}
 use lib.Seq.{sets, set-comm, getD-set-same, getD-set-other, length-sets}
 use Rattle.ground.proofs.Listed.{length-listed, listed-ext, listed-part}
-use Rattle.contents.specs.Slots.{lengthAt, cleared, stored, roomFor, storedWithin}
+use Rattle.refusals.specs.declared.Verdict.the-variants.{Accepted, Refused}
+use Rattle.refusals.specs.declared.Refusal.the-variants.{Output}
+use Rattle.contents.specs.Slots.{lengthAt, cleared, stored, roomFor, slotVerdict, storedWithin}
 use Rattle.contents.specs.Contents.{bytesAt}
 
 -- ---- the n bytes from at on
@@ -82,6 +84,14 @@ module _ (size at n : ℕ) where
       either : (x : Bool) → (x && false) ≡ false
       either true = refl
       either false = refl
+
+  pub slot-served : roomFor size at n ≡ true → Accepted ≡ slotVerdict size at n
+  unfolding slotVerdict
+  slot-served e = rw e refl
+
+  pub slot-refused : roomFor size at n ≡ false → Refused Output ≡ slotVerdict size at n
+  unfolding slotVerdict
+  slot-refused e = rw e refl
 
   pub room-known : roomFor size at n ≡ true → (n < 65536) × (at + 2 + n ≤ size)
   room-known e = by (ltb n 65536) (leb (at + 2 + n) size) refl refl e

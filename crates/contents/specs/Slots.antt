@@ -6,6 +6,9 @@ use Prim.Native.Nat.{ℕ, zero, suc, _+_, _*_, _/_, _%_}
 use lib.Dec.{leb, ltb}
 use lib.ListN.{length, getD, set}
 use lib.Seq.{sets}
+use Rattle.refusals.specs.declared.Verdict.{Verdict}
+use Rattle.refusals.specs.declared.Verdict.the-variants.{Accepted, Refused}
+use Rattle.refusals.specs.declared.Refusal.the-variants.{Output}
 
 -- the length that stands in the slot at at
 abbrev pub lengthAt : List ℕ → ℕ → ℕ
@@ -24,6 +27,10 @@ stored s at b = sets s at ((length b % 256) ∷ (length b / 256) ∷ b)
 abbrev pub roomFor : ℕ → ℕ → ℕ → Bool
 roomFor size at n = ltb n 65536 && leb (at + 2 + n) size
 
--- a payload in the slot at at where there is room for it, else no byte changes
+-- refusal 26 where there is none
+unfoldable pub slotVerdict : ℕ → ℕ → ℕ → Verdict
+slotVerdict size at n = cond (roomFor size at n) Accepted (Refused Output)
+
+-- a payload in the slot at at; beside a refusal no byte changes
 unfoldable pub storedWithin : List ℕ → ℕ → List ℕ → List ℕ
 storedWithin s at b = cond (roomFor (length s) at (length b)) (stored s at b) s

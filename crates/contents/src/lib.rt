@@ -3,9 +3,11 @@
 ghost use mathlib.Core.Path.{_≡_};
 ghost use Prim.Native.Nat.{_+_, _≤_};
 ghost use lib.ListN.{length};
-ghost use Rattle.contents.specs.Slots.{lengthAt, roomFor, storedWithin};
+ghost use Rattle.contents.specs.Slots.{lengthAt, roomFor, slotVerdict, storedWithin};
 ghost use Rattle.contents.specs.Contents.{lengthFits};
 use places::Place;
+use refusals::Refusal;
+use refusals::Verdict;
 
 // The length that stands in the slot at `at`.
 pub fn slot_length(store: &[u8], at: usize) -> usize
@@ -39,17 +41,19 @@ pub fn length_fits(p: Place, n: usize) -> bool
     n <= p.slot as usize && (p.protection == 0 || n % 255 == 0)
 }
 
-// Puts a payload into the slot at `at`, where there is room for it. Its length is written last: a process that is killed before leaves the slot empty.
-pub fn put_slot(store: &mut [u8], at: usize, payload: &[u8])
-    ensures { λ r. ⌜ now (store .exit) ≡ storedWithin (now (store .entry)) at (now (payload .entry)) ⌝ }
+// Puts a payload into the slot at `at`. Its length is written last: a process that is killed before leaves the slot empty. Refused, and nothing written: 26 where
+// there is no room for it.
+pub fn put_slot(store: &mut [u8], at: usize, payload: &[u8]) -> Verdict
+    ensures { λ r. ⌜ (r ≡ slotVerdict (length (now (store .entry))) at (length (now (payload .entry)))) × (now (store .exit) ≡ storedWithin (now (store .entry)) at (now (payload .entry))) ⌝ }
 {
     let n = payload.len();
     if !has_room(store.len(), at, n) {
-        return;
+        return Verdict::Refused(Refusal::Output);
     }
     words::copy_in(store, at + 2, payload);
     store[at] = (n % 256) as u8;
     store[at + 1] = (n / 256) as u8;
+    Verdict::Accepted
 }
 
 // Whether a slot at `at` in a store of `size` bytes has room for `n`.

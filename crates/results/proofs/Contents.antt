@@ -13,4 +13,4 @@ pub length-fits-one : OneResult contents.length_fits.ended contents.length_fits.
 length-fits-one κs a r s d e p q = (equation p q, refl)
 
 pub put-slot-one : OneResult contents.put_slot.ended contents.put_slot.Reads.Learnt
-put-slot-one κs a r s d e p q = (refl, lent (equation p q) refl)
+put-slot-one κs a r s d e p q = (equation (p .0) (q .0), lent (equation (p .1) (q .1)) refl)

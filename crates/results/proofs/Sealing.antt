@@ -7,7 +7,7 @@ use Rattle.results.proofs.Lent.{lent}
 use Rattle.sealing.proofs as sealing
 
 pub seal-one : OneResult sealing.seal.ended sealing.seal.Reads.Learnt
-seal-one κs a r s d e p q = (refl, lent (equation p q) refl)
+seal-one κs a r s d e p q = (equation (p .0) (q .0), lent (equation (p .1) (q .1)) refl)
 
 pub agrees-one : OneResult sealing.agrees.ended sealing.agrees.Reads.Learnt
 agrees-one κs a r s d e p q = (equation p q, refl)

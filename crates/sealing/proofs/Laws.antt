@@ -9,11 +9,13 @@ use lib.Dec.{eqb}
 use lib.ListN.{length, take}
 use lib.Seq.{sets}
 use Rattle.ground.specs.Bits.{sum}
+use Rattle.refusals.specs.declared.Verdict.the-variants.{Accepted, Refused}
+use Rattle.refusals.specs.declared.Refusal.the-variants.{Output}
 use Rattle.crc.specs.Crc.{ones, crc32Of}
 use Rattle.crc.specs.Table.{Rule, feedBy}
 use Rattle.crc.proofs.Parts.{fed-more, fed-all}
 use Rattle.crc.proofs.Walk.{feed-by-table}
-use Rattle.sealing.specs.Sealing.{fourBytes, sealedAt, crcIn, agrees, crcAgrees}
+use Rattle.sealing.specs.Sealing.{fourBytes, sealVerdict, sealedAt, crcIn, agrees, crcAgrees}
 
 -- the header x goes in first, to the register at its start, then the payload y
 pub crc-fed : (t : List ℕ) → Rule 32 0x04C11DB7 32 t → (x y : List ℕ) (z r s : ℕ) → z ≡ ones 32
@@ -44,6 +46,10 @@ pub seal-told : (out : List ℕ) (n : ℕ) → n + 4 ≤ length out → sealedAt
 unfolding sealedAt
 seal-told out n h = rw (le-leb (n + 4) (length out) h) refl
 
-pub seal-without-room : (out : List ℕ) (n : ℕ) → length out < n + 4 → out ≡ sealedAt out n
-unfolding sealedAt
-seal-without-room out n h = rw (lt-leb (n + 4) (length out) h) refl
+pub seal-served : (room n : ℕ) → n + 4 ≤ room → Accepted ≡ sealVerdict room n
+unfolding sealVerdict
+seal-served room n h = rw (le-leb (n + 4) room h) refl
+
+pub seal-refused : (out : List ℕ) (n : ℕ) → length out < n + 4 → (Refused Output ≡ sealVerdict (length out) n) × (out ≡ sealedAt out n)
+unfolding sealVerdict sealedAt
+seal-refused out n h = rw (lt-leb (n + 4) (length out) h) (refl, refl)

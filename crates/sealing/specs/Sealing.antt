@@ -6,6 +6,9 @@ use Prim.Native.Nat.{ℕ, _+_, _-_, _*_, _/_, _%_}
 use lib.Dec.{eqb, leb}
 use lib.ListN.{length, getD, take}
 use lib.Seq.{sets}
+use Rattle.refusals.specs.declared.Verdict.{Verdict}
+use Rattle.refusals.specs.declared.Verdict.the-variants.{Accepted, Refused}
+use Rattle.refusals.specs.declared.Refusal.the-variants.{Output}
 use Rattle.crc.specs.Crc.{crc32Of}
 
 -- a number as four bytes, the most significant first
@@ -16,7 +19,11 @@ fourBytes v = (v / 16777216 % 256) ∷ (v / 65536 % 256) ∷ (v / 256 % 256) ∷
 unfoldable pub sealed : List ℕ → List ℕ
 sealed b = b ++ fourBytes (crc32Of b)
 
--- the CRC of the first n bytes, written behind them where there is room for it
+-- refusal 26 where there is no room behind the first n of `room` bytes
+unfoldable pub sealVerdict : ℕ → ℕ → Verdict
+sealVerdict room n = cond (leb (n + 4) room) Accepted (Refused Output)
+
+-- the CRC of the first n bytes, written behind them; beside a refusal nothing is
 unfoldable pub sealedAt : List ℕ → ℕ → List ℕ
 sealedAt out n = cond (leb (n + 4) (length out)) (sets out n (fourBytes (crc32Of (take n out)))) out
 

@@ -8,7 +8,7 @@ use borrow.Author.Needs.{needs}
 use borrow.Author.Tests.{not-true, not-false}
 use lib.ListN.{length, set, length-set}
 use Rattle.contents.specs.Slots.{roomFor}
-use Rattle.contents.proofs.Bytes.{room-known, stored-made, stored-within, stored-nowhere}
+use Rattle.contents.proofs.Bytes.{room-known, stored-made, stored-within, stored-nowhere, slot-served, slot-refused}
 use Rattle.contents.proofs.put_slot.Statement.{statement}
 use Rattle.contents.proofs.put_slot.Tie as tie
 
@@ -27,8 +27,10 @@ has-room-requires : tie.Need-has-room-requires
 has-room-requires c κs = tt
 
 returns : tie.Need-returns
-returns c = let a = c .before .before .before .before .args in
-    sym (stored-nowhere (a .store .now) (a .at) (a .payload .now) (sym (c .before .has-room .ensures) ∙ not-true _ (c .if1 .taken)))
+returns c =
+    let a = c .before .before .before .before .args in
+    let none = sym (c .before .has-room .ensures) ∙ not-true _ (c .if1 .taken) in
+    (slot-refused _ _ _ none, sym (stored-nowhere (a .store .now) (a .at) (a .payload .now) none))
 
 add-copy-in : tie.Need-add-copy-in
 add-copy-in c = omega (arith, room (c .before) .1)
@@ -56,11 +58,14 @@ same-length c = search needs
 
 returns-2 : tie.Need-returns-2
 returns-2 c =
-    let a = came (c .before .before .before .before) .args in
-    let n : ℕ = length (a .payload .now) in
-    ap (λ (l : List ℕ). set (set l (a .at) (n % 256)) (a .at + 1) (n / 256)) (c .before .before .copy-in .ensures)
-    ∙ stored-made (a .store .now) (a .at) (a .payload .now)
-    ∙ sym (stored-within (a .store .now) (a .at) (a .payload .now) (tested (c .before .before .before .before)))
+    let test = c .before .before .before .before in
+    let a = came test .args in
+    let n : ℕ = length (a .payload .now) in (
+      slot-served _ _ _ (tested test),
+      ap (λ (l : List ℕ). set (set l (a .at) (n % 256)) (a .at + 1) (n / 256)) (c .before .before .copy-in .ensures)
+          ∙ stored-made (a .store .now) (a .at) (a .payload .now)
+          ∙ sym (stored-within (a .store .now) (a .at) (a .payload .now) (tested test)),
+    )
 
 pub put-slot-spec : {M : Type 1} → statement M
 put-slot-spec =

@@ -68,7 +68,7 @@ returns-2 c =
     (body-stored (a .out .now) h b (a .size) n (sym e) r _ _
     (c .before .before .before .before .before .before .before .before .before .before .put-header .ensures ∙ ap₂ (λ (x y : ℕ). sets (a .out .now) 0 (headerFor g x (a .number) y)) (c .before .before .before .before .before .before .before .before .before .before .before .before .before .before .before .pre .1) e)
     (c .before .before .before .before .before .before .put-payload .ensures))
-    (c .before .before .seal .ensures))
+    (c .before .before .seal .ensures .1))
 
 pub put-packet-spec : {M : Type 1} → statement M
 put-packet-spec =

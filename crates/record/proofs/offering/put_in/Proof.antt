@@ -82,7 +82,7 @@ returns-3 c =
     let d = c .before .before .before .before .before in
     let a = came d .args in
     let w = told (put-empty (a .p) (a .store .now) (a .number) (a .payload .now) (a .agrees) (agreed d) _ (sym (slot-sum (a .p) (a .number))) _ (d .before .before .slot-length .ensures) (c .before .before .before .before .if3 .taken)) in
-    (w .0, c .before .before .put-slot .ensures ∙ taken d ∙ w .1)
+    (w .0, c .before .before .put-slot .ensures .1 ∙ taken d ∙ w .1)
 
 add-from : tie.Need-add-from
 add-from c = omega (arith, ends (c .before))
