@@ -16,7 +16,7 @@ use Rattle.opening.specs.Open.{openOf, Opens, closeOf}
 use Rattle.refusals.specs.Told.{verdictTold}
 use Rattle.record.specs.Offer.{offerOf}
 use Rattle.record.specs.Told.{offeredTold}
-use Rattle.readout.specs.Hand.{handOutOf}
+use Rattle.handing.specs.Hand.{handOutOf}
 use Rattle.face.specs.Layout.{recordIn, recordBytes}
 use Rattle.face.specs.Face.{answerOf, Says, Keeps, badRecord, openSays, closeSays, offerSays, handSays}
 

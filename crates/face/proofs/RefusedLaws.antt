@@ -32,10 +32,10 @@ use Rattle.record.specs.declared.Offered.the-variants.{Stored, Repeat}
 use Rattle.opening.specs.Open.{openOf, closedAt, closeOf}
 use Rattle.record.specs.Offer.{offerOf}
 use Rattle.record.specs.Told.{offeredTold}
-use Rattle.readout.specs.Hand.{handOutOf}
+use Rattle.handing.specs.Hand.{handOutOf}
 use Rattle.opening.proofs.OpenLaws.{refused-record, refused-store, refused-plan}
 use Rattle.record.proofs.OfferLaws.{offer-refused}
-use Rattle.readout.proofs.HandLaws.{hand-refused}
+use Rattle.handing.proofs.HandLaws.{hand-refused}
 use Rattle.code.specs.Code.{Bytes}
 use Rattle.face.specs.Layout.{recordIn, recordBytes}
 use Rattle.face.specs.Face.{Said, Kept, answerOf, badRecord, puts, putsIf, encodeSays, repairSays, readSays, packSays, openSays, closeSays, offerSays, handSays}

@@ -22,7 +22,7 @@ use Rattle.record.specs.Offer.{offerOf}
 use Rattle.record.specs.Told.{offeredTold}
 use Rattle.standing.specs.Status.{statusOf}
 use Rattle.standing.specs.Told.{standingTold}
-use Rattle.readout.specs.Hand.{handOutOf}
+use Rattle.handing.specs.Hand.{handOutOf}
 use Rattle.face.specs.Layout.{recordIn, recordBytes}
 
 -- values as one: 0 for none, v for one; for two, as of a Status with an empty slot, n + 2^24 · (i + 1)

@@ -29,14 +29,14 @@ use Rattle.contents.specs.Contents.{Slot as Content, wrong, holding, contents}
 use Rattle.contents.proofs.Places.{length-contents}
 use Rattle.opening.specs.Open.{Plan, refuse, take as taken, planOf, carriedOut, Opening, openOf}
 use Rattle.record.specs.Offer.{Offering, Judged, refuse as refuse-packet, put, judge, differs, offerJudged, offerOf, judgeBy}
-use Rattle.readout.specs.Hand.{Handing, handContents, handOutOf}
+use Rattle.handing.specs.Hand.{Handing, handContents, handOutOf}
 use Rattle.opening.proofs.PlanLaws.{Taking, taking, taking-plan, open-by}
 use Rattle.opening.proofs.OpenLaws.{open-named, open-own, open-empty, open-keeps, open-keeps-length, accepted-plan, refused-record, refused-store}
 use Rattle.opening.proofs.CloseLaws.{close-keeps-good}
 use Rattle.record.proofs.OfferCases.{offer-unread, offer-placed}
 use Rattle.record.proofs.OfferFacts.{read-resource}
 use Rattle.record.proofs.OfferLaws.{Placed, Sound, heldAfter, held-after, slots-kept, offer-sound, offer-holds, offer-length}
-use Rattle.readout.proofs.HandCases.{out-found}
+use Rattle.handing.proofs.HandCases.{out-found}
 use Rattle.promises.specs.Calls.{Call, State, step, run, names, about}
 use Rattle.promises.specs.Calls.Call.{packing, opening, offering, asking, handing, closing}
 use Rattle.promises.specs.Statements.{Protected, Copy, BringsNoOther, Fair, AllFair, Offers, Carries, HandsOut, Demand3}

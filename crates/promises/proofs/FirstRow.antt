@@ -28,7 +28,7 @@ use Rattle.contents.specs.Contents.{Slot as Content, wrong, holding, contents, 
 use Rattle.contents.proofs.Bytes.{length-stored}
 use Rattle.contents.proofs.Places.{reading-slots, storing-sets}
 use Rattle.contents.specs.Slots.{stored}
-use Rattle.readout.specs.Hand.{Handing, handRows, handJoined, handContents, handOutOf}
+use Rattle.handing.specs.Hand.{Handing, handRows, handJoined, handContents, handOutOf}
 use Rattle.refusals.specs.declared.Verdict.{Verdict}
 use Rattle.refusals.specs.Told.{acceptedWith, verdictTold}
 use Rattle.code.specs.Mend.{whole, behind}

@@ -20,8 +20,8 @@ use Rattle.sealing.specs.Sealing.{fourBytes}
 use Rattle.code.specs.Mend.{whole, behind, mendRows}
 use Rattle.record.specs.Mend.{mendedIn}
 use Rattle.sealing.specs.Sealing.{agrees}
-use Rattle.readout.specs.Hand.{handRows}
-use Rattle.readout.proofs.HandLaws.{rows-coded}
+use Rattle.handing.specs.Hand.{handRows}
+use Rattle.handing.proofs.HandLaws.{rows-coded}
 use Rattle.promises.proofs.Turned.{zero-row, wrong-row, wrong-near, wrong-bytes}
 use Rattle.promises.specs.Misreadings.{infoByRows, informationFirst, agreesBefore, keptIfFits, cutZeros}
 

@@ -25,9 +25,9 @@ use Rattle.record.specs.declared.Offered.{Offered}
 use Rattle.opening.specs.Open.{Plan, refuse, take, planOf, carriedOut, openOf, closedAt, closeOf}
 use Rattle.record.specs.Offer.{offerOf}
 use Rattle.record.specs.Told.{offeredTold}
-use Rattle.readout.specs.Hand.{handOutOf}
+use Rattle.handing.specs.Hand.{handOutOf}
 use Rattle.record.proofs.OfferLaws.{offer-unstored}
-use Rattle.readout.proofs.HandLaws.{hand-refused}
+use Rattle.handing.proofs.HandLaws.{hand-refused}
 use Rattle.promises.specs.Calls.{Call, State, step}
 use Rattle.promises.specs.Calls.Call.{packing, opening, offering, asking, handing, closing}
 use Rattle.promises.specs.Statements.{Unchanged, RefusalsChangeNothing}

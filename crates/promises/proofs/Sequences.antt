@@ -29,12 +29,12 @@ use Rattle.standing.specs.declared.Standing.{Standing}
 use Rattle.standing.specs.Status.{statusOf}
 use Rattle.standing.specs.Told.{standingTold}
 use Rattle.standing.proofs.StatusLaws.{status-same}
-use Rattle.readout.specs.Hand.{Handing, handOutOf}
+use Rattle.handing.specs.Hand.{Handing, handOutOf}
 use Rattle.opening.proofs.PlanLaws.{taking, open-by}
 use Rattle.opening.proofs.OpenLaws.{open-named, open-own, open-empty, open-keeps-length, refused-record, refused-store}
 use Rattle.opening.proofs.CloseLaws.{close-record, close-unknown, close-found, close-named}
 use Rattle.record.proofs.OfferLaws.{offer-length, alike-answer, alike-holds}
-use Rattle.readout.proofs.HandLaws.{hand-same}
+use Rattle.handing.proofs.HandLaws.{hand-same}
 use Rattle.promises.specs.Calls.{Call, telling, State, step, fresh, names, about}
 use Rattle.promises.specs.Calls.Call.{packing, opening, offering, asking, handing, closing}
 use Rattle.promises.specs.Statements.{Alike, answersAbout, TwoSequences}

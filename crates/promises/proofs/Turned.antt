@@ -32,8 +32,8 @@ use Rattle.opening.proofs.PlanLaws.{Taking, taking-plan, open-by}
 use Rattle.opening.proofs.OpenLaws.{open-empty}
 use Rattle.record.proofs.OfferCases.{payload-length}
 use Rattle.record.proofs.OfferFacts.{read-known}
-use Rattle.readout.specs.Hand.{Handing, handContents, handOutOf}
-use Rattle.readout.proofs.HandCases.{out-found}
+use Rattle.handing.specs.Hand.{Handing, handContents, handOutOf}
+use Rattle.handing.proofs.HandCases.{out-found}
 use Rattle.promises.specs.Calls.{Answer, telling, State, Outcome, step, fresh}
 use Rattle.promises.specs.Calls.Call.{opening, offering, asking}
 use Rattle.promises.specs.Statements.{WholeRows, MendsEachRow, Protected, Carries, FromFresh, placeAt, Held, slotsTold, StatusBySlots, Carried, Accepts, OffersBySlots}

@@ -18,9 +18,9 @@ use Rattle.pack.specs.Pack.{countOf, codedLength, sentOf, payloadOf}
 use Rattle.pack.proofs.Laws.{rows-positive, sent-coded, length-sent, payload-some}
 use Rattle.places.specs.Places.{placeOf}
 use Rattle.contents.specs.Contents.{Slot as Content, wrong, holding, joined}
-use Rattle.readout.specs.Hand.{refusing, handRows, handContents}
-use Rattle.readout.proofs.HandCases.{joined-rows}
-use Rattle.readout.proofs.HandLaws.{Carried, carried-joined, carried-hand, accepted, hand-coded}
+use Rattle.handing.specs.Hand.{refusing, handRows, handContents}
+use Rattle.handing.proofs.HandCases.{joined-rows}
+use Rattle.handing.proofs.HandLaws.{Carried, carried-joined, carried-hand, accepted, hand-coded}
 use Rattle.promises.specs.Statements.{Protected}
 
 rows-refused : (m : ℕ) (file : List ℕ) (n : ℕ) (out : List ℕ) → 0 < m → (tablesOf m n ≡ tablesOf m (length file) → ⊥) → handRows m (codedFile m file) n out ≡ refusing Size out

@@ -18,7 +18,7 @@ use Rattle.record.specs.Offer.{offerOf}
 use Rattle.record.specs.Told.{offeredTold}
 use Rattle.standing.specs.Status.{statusOf}
 use Rattle.standing.specs.Told.{standingTold}
-use Rattle.readout.specs.Hand.{handOutOf}
+use Rattle.handing.specs.Hand.{handOutOf}
 
 pub data Call : Type 0 where
   -- file, settings, packet number, output

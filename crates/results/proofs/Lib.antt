@@ -21,6 +21,7 @@ pub mod Contents
 pub mod Opening
 pub mod Record
 pub mod Standing
+pub mod Handing
 pub mod Readout
 pub mod Answers
 pub mod Face
