@@ -1,9 +1,9 @@
-// The refusals of document 01, section 6, one enum for all calls, and the verdict of a call that hands nothing else over.
+// The refusals of document 01, section 6, and of document 02, one enum for all calls, and the verdict of a call that hands nothing else over.
 ghost use mathlib.Core.Path.{_≡_};
 ghost use Rattle.refusals.specs.Refusals.{numberOf, valueOf};
 
-// By document 01's names; the extra value where one is named: of Repair the first row that has no coded row within eight bytes, of
-// Missing the lowest empty slot.
+// By the documents' names; the extra value where one is named: of Repair the first row that has no coded row within eight bytes, of
+// Missing the lowest empty slot, of Line the line that has a fault.
 pub enum Refusal {
     Short,
     Mark,
@@ -31,6 +31,8 @@ pub enum Refusal {
     Padding,
     Count,
     Output,
+    Line(u32),
+    Extra,
 }
 
 // What a call answers that hands nothing else over.
@@ -70,6 +72,8 @@ pub fn number(r: Refusal) -> u8
         Refusal::Padding => 24,
         Refusal::Count => 25,
         Refusal::Output => 26,
+        Refusal::Line(_) => 29,
+        Refusal::Extra => 30,
     }
 }
 
@@ -80,6 +84,7 @@ pub fn value(r: Refusal) -> u32
     match r {
         Refusal::Repair(row) => row,
         Refusal::Missing(slot) => slot,
+        Refusal::Line(line) => line,
         _ => 0,
     }
 }

@@ -8,13 +8,13 @@ use denote.Enum.Declared.{tagOf}
 use borrow.Author.Needs.{needs}
 use Rattle.refusals.specs.declared.Refusal.{Refusal}
 use Rattle.refusals.proofs.Refusal.{the-type}
-use Rattle.refusals.specs.declared.Refusal.the-variants.{Short, Mark, Length, «Type», Protection, Number, Rows, Resource, Record, Unknown, Other, Wide, Repair, Crc, Slot, Conflict, Field, Held, Full, Room, Missing, Shape, Size, Padding, Count, Output}
+use Rattle.refusals.specs.declared.Refusal.the-variants.{Short, Mark, Length, «Type», Protection, Number, Rows, Resource, Record, Unknown, Other, Wide, Repair, Crc, Slot, Conflict, Field, Held, Full, Room, Missing, Shape, Size, Padding, Count, Output, Line, Extra}
 use Rattle.refusals.specs.Refusals.{valueOf}
 use Rattle.refusals.proofs.value.Statement.{statement}
 use Rattle.refusals.proofs.value.Tie as tie
 
 abbrev bare : List ℕ
-bare = 0 ∷ 1 ∷ 2 ∷ 3 ∷ 4 ∷ 5 ∷ 6 ∷ 7 ∷ 8 ∷ 9 ∷ 10 ∷ 11 ∷ 13 ∷ 14 ∷ 15 ∷ 16 ∷ 17 ∷ 18 ∷ 19 ∷ 21 ∷ 22 ∷ 23 ∷ 24 ∷ 25 ∷ []
+bare = 0 ∷ 1 ∷ 2 ∷ 3 ∷ 4 ∷ 5 ∷ 6 ∷ 7 ∷ 8 ∷ 9 ∷ 10 ∷ 11 ∷ 13 ∷ 14 ∷ 15 ∷ 16 ∷ 17 ∷ 18 ∷ 19 ∷ 21 ∷ 22 ∷ 23 ∷ 24 ∷ 25 ∷ 27 ∷ []
 
 of-bare : (r : Refusal) → OneOf bare (tagOf the-type r) → 0 ≡ valueOf r
 of-bare Short k = refl
@@ -43,12 +43,17 @@ of-bare Size k = refl
 of-bare Padding k = refl
 of-bare Count k = refl
 of-bare Output k = refl
+of-bare (Line v) k = absurd (miss bare 26 tt k)
+of-bare Extra k = refl
 
 enum-known-r : tie.Need-enum-known-r
 enum-known-r c = search needs
 
 enum-known-r-2 : tie.Need-enum-known-r-2
 enum-known-r-2 c = search needs
+
+enum-known-r-3 : tie.Need-enum-known-r-3
+enum-known-r-3 c = search needs
 
 returns : tie.Need-returns
 returns c = sym (ap valueOf (c .before .r .given .1))
@@ -57,7 +62,10 @@ returns-2 : tie.Need-returns-2
 returns-2 c = sym (ap valueOf (c .before .r2 .given .1))
 
 returns-3 : tie.Need-returns-3
-returns-3 c = of-bare (c .before .args .r) (c .match .keys3)
+returns-3 c = sym (ap valueOf (c .before .r3 .given .1))
+
+returns-4 : tie.Need-returns-4
+returns-4 c = of-bare (c .before .args .r) (c .match .keys4)
 
 pub value-spec : {M : Type 1} → statement M
-value-spec = tie.close (tie.spec enum-known-r enum-known-r-2 returns returns-2 returns-3)
+value-spec = tie.close (tie.spec enum-known-r enum-known-r-2 enum-known-r-3 returns returns-2 returns-3 returns-4)

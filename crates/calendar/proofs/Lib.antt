@@ -1,0 +1,5 @@
+pub mod RangeLaws
+pub mod WrittenLaws
+pub mod DateLaws
+pub mod OrderLaws
+pub mod FormLaws

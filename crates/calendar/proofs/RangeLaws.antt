@@ -1,0 +1,74 @@
+-- Of a real time: its bounds, and back. And that no month has more than 31 days.
+-- Assumes nothing.
+use mathlib.Core.Path.{_≡_, refl, sym}
+use mathlib.Core.Bool.{Bool, true, false, cond, true≢false, _&&_, _||_}
+use Prim.Native.Nat.{ℕ, _≤_}
+use native.Mathlib.Omega.{arith}
+use borrow.Author.Tests.{leb-true, le-leb}
+use lib.Dec.{eqb, leb}
+use Rattle.ground.specs.Ranges.{between}
+use Rattle.calendar.specs.declared.Time.{Time}
+use Rattle.calendar.specs.Calendar.{leap, daysIn, real}
+use Rattle.calendar.specs.Range.{RealTime}
+use Rattle.calendar.specs.Written.{wrongTime}
+
+pub and-both : (a b : Bool) → (a && b) ≡ true → (a ≡ true) × (b ≡ true)
+and-both true b e = (refl, e)
+and-both false b e = absurd (true≢false (sym e))
+
+pub and-join : (a b : Bool) → a ≡ true → b ≡ true → (a && b) ≡ true
+and-join true b e f = f
+and-join false b e f = e
+
+pub between-bounds : (low high n : ℕ) → between low high n ≡ true → (low ≤ n) × (n ≤ high)
+between-bounds low high n e = let w = and-both (leb low n) (leb n high) e in (leb-true low n (w .0), leb-true n high (w .1))
+
+pub bounds-between : (low high n : ℕ) → low ≤ n → n ≤ high → between low high n ≡ true
+bounds-between low high n l h = and-join (leb low n) (leb n high) (le-leb low n l) (le-leb n high h)
+
+pub days-most : (y m : ℕ) → daysIn y m ≤ 31
+unfolding daysIn
+days-most y m = by (eqb m 2) (leap y) (eqb m 4 || (eqb m 6 || (eqb m 9 || eqb m 11)))
+  where
+    by : (a b c : Bool) → cond a (cond b 29 28) (cond c 30 31) ≤ 31
+    by true true c = omega arith
+    by true false c = omega arith
+    by false b true = omega arith
+    by false b false = omega arith
+
+pub real-range : (t : Time) → real t ≡ true → RealTime t
+unfolding real
+real-range t e =
+    let w = and-both (between 1 9999 (t .year)) _ e in
+    let x = and-both (between 1 12 (t .month)) _ (w .1) in
+    let y = and-both (between 1 (daysIn (t .year) (t .month)) (t .day)) _ (x .1) in
+    let z = and-both (leb (t .hour) 23) _ (y .1) in
+    let q = and-both (leb (t .minute) 59) (leb (t .second) 59) (z .1) in
+    let year = between-bounds 1 9999 (t .year) (w .0) in
+    let month = between-bounds 1 12 (t .month) (x .0) in
+    let day = between-bounds 1 (daysIn (t .year) (t .month)) (t .day) (y .0) in
+    record {
+      year-first = year .0;
+      year-last = year .1;
+      month-first = month .0;
+      month-last = month .1;
+      day-first = day .0;
+      day-last = day .1;
+      hour-last = leb-true (t .hour) 23 (z .0);
+      minute-last = leb-true (t .minute) 59 (q .0);
+      second-last = leb-true (t .second) 59 (q .1);
+    }
+
+pub range-real : (t : Time) → RealTime t → real t ≡ true
+unfolding real
+range-real t r =
+    and-join (between 1 9999 (t .year)) _ (bounds-between 1 9999 (t .year) (r .year-first) (r .year-last))
+    (and-join (between 1 12 (t .month)) _ (bounds-between 1 12 (t .month) (r .month-first) (r .month-last))
+    (and-join (between 1 (daysIn (t .year) (t .month)) (t .day)) _
+    (bounds-between 1 (daysIn (t .year) (t .month)) (t .day) (r .day-first) (r .day-last))
+    (and-join (leb (t .hour) 23) _ (le-leb (t .hour) 23 (r .hour-last))
+    (and-join (leb (t .minute) 59) (leb (t .second) 59) (le-leb (t .minute) 59 (r .minute-last)) (le-leb (t .second) 59 (r .second-last))))))
+
+pub wrong-not-real : real wrongTime ≡ false
+unfolding real
+wrong-not-real = refl

@@ -1,0 +1,4 @@
+pub mod DigitLaws
+pub mod NumberLaws
+pub mod ReadLaws
+pub mod WriteLaws

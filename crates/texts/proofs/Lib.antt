@@ -1,0 +1,2 @@
+pub mod BreakLaws
+pub mod Utf8Laws
