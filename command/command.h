@@ -13,6 +13,17 @@ void usage(const char *format, ...) __attribute__((noreturn, format(printf, 1, 2
 int refused(uint64_t answer, const char *what);
 const char *refusal_name(unsigned number);
 
+/* arguments.c: the words of a command line. */
+struct arguments {
+    const char *names[64]; /* what is no option, the command's own name left out */
+    int count;
+    long long resource, type, update, protection, rows, size, length, packets; /* -1 where it is not named */
+    const char *output;                                                        /* NULL where it is not named */
+    int json, each;
+};
+struct arguments parse(int argc, char **argv, const char *allowed);
+void want(int there, const char *command, const char *what);
+
 /* files.c: whole files in memory, and files that appear only when they are complete. */
 struct bytes {
     uint8_t *at;
