@@ -34,6 +34,12 @@ static const char help[] =
     "      writes the file of a resource, L bytes, once every packet is there\n"
     "  brithelva close ARCHIVE --resource N\n"
     "      gives a resource's place up\n"
+    "  brithelva describe TEXT [--json]\n"
+    "      what a description file (- for standard input) says: name, title, dates, kind, length and the rest\n"
+    "  brithelva description -o TEXT --service N --mode stream|file --resource N --update U --name S --kind N\n"
+    "                 [--length L | --file FILE] [--title S] [--summary S] [--keywords S] [--charset N] [--path S]\n"
+    "                 [--from TIME] [--until TIME] [--delete]\n"
+    "      writes a description file; a TIME is yyyy.mm.dd/hh:mm:ss, --file takes the length of FILE\n"
     "  brithelva --help | --version\n"
     "\n"
     "Exit status: 0 accepted, 1 refused, 2 usage or file trouble. A refusal is told by its number, as the library's\n"
@@ -362,6 +368,10 @@ int main(int argc, char **argv)
         {"status", "--resource --json", status},
         {"hand-out", "--resource --length -o", hand_out},
         {"close", "--resource", close_place},
+        {"describe", "--json", describe},
+        {"description",
+         "--service --mode --resource --update --name --kind --title --summary --keywords --charset --path --length --file --from --until --delete -o",
+         description},
     };
     if (argc < 2)
         usage("no command");
@@ -377,8 +387,9 @@ int main(int argc, char **argv)
         if (strcmp(argv[1], commands[k].name) == 0) {
             struct arguments a = parse(argc, argv, commands[k].allowed);
             int result = commands[k].run(&a);
-            if (fflush(stdout) != 0)
-                trouble("standard output: %s", strerror(errno));
+            errno = 0;
+            if (fflush(stdout) != 0 || ferror(stdout))
+                trouble("standard output: %s", errno != 0 ? strerror(errno) : "not all of it was written");
             return result;
         }
     usage("no command '%s'", argv[1]);
