@@ -261,17 +261,23 @@ static void several_offers(void)
 
 int LLVMFuzzerTestOneInput(const uint8_t *data, size_t size)
 {
-    static void (*const steps[32])(void) = {
+    static void (*const steps[40])(void) = {
         choose_settings, new_file, new_store, new_out, new_out, open_place, open_place, open_place, pack_one, pack_one, pack_one,
         spoil, spoil, offer_one, offer_one, offer_one, offer_one, read_one, read_one, status_one, status_one, hand_one, hand_one, hand_one,
-        close_one, row_one, disturb, several_offers, several_offers, several_offers, vary_settings, vary_settings};
+        close_one, row_one, disturb, several_offers, several_offers, several_offers, vary_settings, vary_settings,
+        describe_round, describe_round, describe_round, describe_one, compose_round, compose_round, compose_round, compose_one};
     static const uint8_t nothing[1];
     lend_all();
     choice = size ? data : nothing;
     choices = size;
     new_file(), new_store(), new_out(), choose_settings(), open_place();
+    /* an input that begins as a description does is one */
+    if (size >= 3 && memcmp(data, "01:", 3) == 0) {
+        describe_input(data, size);
+        return 0;
+    }
     while (choices > 0)
-        steps[pick() % 32]();
+        steps[pick() % 40]();
     return 0;
 }
 

@@ -42,4 +42,11 @@ int may(unsigned number, unsigned low, unsigned high, const char *others);
 /* what was lent is as it was, but for so many bytes of the output and what an accepted call may change */
 void judge(uint64_t answer, int allowed, size_t out_written, int store_may, int record_may);
 
+/* descriptions.c */
+void describe_one(void);
+void describe_round(void);
+void compose_one(void);
+void compose_round(void);
+void describe_input(const uint8_t *data, size_t size);
+
 #endif
