@@ -263,7 +263,7 @@ static void check_reading(void)
     static uint8_t back[PACKET_ROOM];
     length = 0;
     for (size_t i = 0; i < packet.n; i++)
-        if (packet.at[i] != '\r')
+        if (packet.at[i] != '\r' || i + 1 == packet.n || packet.at[i + 1] != '\n')
             add(packet.at + i, 1);
     check_range(values, packet.n);
     if (bh_write_description(values, THIRTY, packet.at, packet.n, back, sizeof back) != 256 * length || memcmp(back, text, length) != 0)
@@ -344,9 +344,13 @@ void compose_one(void)
 void describe_round(void)
 {
     new_text();
-    for (unsigned k = pick() % 3; k > 0; k--)
-        spoil_text();
     describe_one();
+    for (unsigned k = pick() % 4; k > 0; k--) {
+        if (pick() % 2)
+            new_text();
+        spoil_text();
+        describe_one();
+    }
     if (pick() % 4 == 0) {
         alter_value();
         compose_one();
