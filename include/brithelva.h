@@ -171,7 +171,7 @@ enum bh_attribute {
     BH_D_KEYWORDS_AT = 11,  /* line 09 */
     BH_D_KEYWORDS_LENGTH = 12,
     BH_D_CHARSET = 13,      /* line 10: 0 to 4 where the kind is 21; BH_NO_CHARSET, and not 0, for any other kind */
-    BH_D_PATH_AT = 14,      /* line 11: a text whose form is not judged */
+    BH_D_PATH_AT = 14,      /* line 11: a text whose form is not judged: it may lead anywhere */
     BH_D_PATH_LENGTH = 15,
     BH_D_FILE_LENGTH = 16,  /* line 12: 1 to 16777216 in mode 1; 0 for none in mode 0 */
     BH_D_START_YEAR = 17,   /* line 13: a real date of the Gregorian calendar, year 1 to 9999, and a time of day, seconds to 59; */
