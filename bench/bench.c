@@ -1,9 +1,10 @@
 /*
  * The library beside its peers, in one run on one core: libfec and ISA-L for rows and CRC, zlib for its CRC, memcpy for copying, and small
  * C loops (a bytewise CRC, slicing by eight) as engineers write them. Outputs are compared before anything is timed. Each figure is the
- * best of several rounds. Writes a line for each figure: NAME<tab>OURS<tab>PEER<tab>UNIT<tab>PEER'S NAME, and growth lines.
+ * best of several rounds. Writes a line for each figure: NAME<tab>OURS<tab>PEER<tab>UNIT<tab>PEER'S NAME<tab>WHAT IS ASKED, and growth lines.
  */
 #define _GNU_SOURCE
+#include "bench.h"
 #include "brithelva.h"
 
 #include <fec.h>
@@ -22,10 +23,9 @@ static double now(void)
     return (double)t.tv_sec + 1e-9 * (double)t.tv_nsec;
 }
 
-static volatile uint64_t sink;
+volatile uint64_t sink;
 
-/* the best of some rounds, seconds for one turn; `turn` is run often enough that a round takes a few milliseconds */
-static double best(void (*turn)(void *), void *with)
+double best(void (*turn)(void *), void *with)
 {
     double best_time = 1e9;
     uint64_t turns = 1;
@@ -48,7 +48,7 @@ static double best(void (*turn)(void *), void *with)
     return best_time;
 }
 
-static void must(int holds, const char *what)
+void must(int holds, const char *what)
 {
     if (!holds) {
         fprintf(stderr, "bench: outputs differ: %s\n", what);
@@ -114,10 +114,15 @@ static void eight_crc(void *w) { (void)w; sink += crc_eight(bytes, crc_length); 
 static void zlib_crc(void *w) { (void)w; sink += crc32(0, bytes, (unsigned)crc_length); }
 static void isal_crc(void *w) { (void)w; sink += crc32_ieee(0, bytes, crc_length); }
 
-static void tell(const char *name, double ours, double peer, const char *unit, const char *who)
+void tell_asked(const char *name, double ours, double peer, const char *unit, const char *who, const char *asked)
 {
-    printf("%s\t%.4g\t%.4g\t%s\t%s\n", name, ours, peer, unit, who);
+    printf("%s\t%.4g\t%.4g\t%s\t%s\t%s\n", name, ours, peer, unit, who, asked);
     fflush(stdout);
+}
+
+void tell(const char *name, double ours, double peer, const char *unit, const char *who)
+{
+    tell_asked(name, ours, peer, unit, who, "");
 }
 
 static void rows(void)
@@ -365,6 +370,7 @@ int main(void)
     rows();
     crcs();
     files();
+    descriptions();
     growth();
     return 0;
 }

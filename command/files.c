@@ -42,6 +42,22 @@ void release(struct bytes b)
     free(b.at);
 }
 
+uint64_t file_length(const char *path)
+{
+    struct stat about;
+    if (stat(path, &about) != 0)
+        trouble("%s: %s", path, strerror(errno));
+    if (!S_ISREG(about.st_mode))
+        trouble("%s: no plain file, so it has no length", path);
+    return (uint64_t)about.st_size;
+}
+
+int same_file(const char *one, const char *other)
+{
+    struct stat a, b;
+    return stat(one, &a) == 0 && stat(other, &b) == 0 && a.st_dev == b.st_dev && a.st_ino == b.st_ino;
+}
+
 struct output begin_output(const char *path)
 {
     struct output o = {path, NULL, STDOUT_FILENO};

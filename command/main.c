@@ -34,82 +34,16 @@ static const char help[] =
     "      writes the file of a resource, L bytes, once every packet is there\n"
     "  brithelva close ARCHIVE --resource N\n"
     "      gives a resource's place up\n"
+    "  brithelva describe TEXT [--json]\n"
+    "      what a description file (- for standard input) says: name, title, dates, kind, length and the rest\n"
+    "  brithelva description -o TEXT --service N --mode stream|file --resource N --update U --name S --kind N\n"
+    "                 [--length L | --file FILE] [--title S] [--summary S] [--keywords S] [--charset N]\n"
+    "                 [--path S] [--from TIME] [--until TIME] [--delete]\n"
+    "      writes a description file; a TIME is yyyy.mm.dd/hh:mm:ss, --file takes the length of FILE\n"
     "  brithelva --help | --version\n"
     "\n"
     "Exit status: 0 accepted, 1 refused, 2 usage or file trouble. A refusal is told by its number, as the library's\n"
     "documents list them. 'man brithelva' says more.\n";
-
-/* ---- arguments */
-
-struct arguments {
-    const char *names[64]; /* what is no option, the command's own name left out */
-    int count;
-    const char *output;
-    long long resource, type, update, protection, rows, size, length, packets;
-    int json, each;
-};
-
-static long long number_of(const char *option, const char *text, long long most)
-{
-    char *end;
-    errno = 0;
-    long long v = strtoll(text, &end, 10);
-    if (*text < '0' || *text > '9' || *end != '\0' || errno != 0 || v > most)
-        usage("%s takes a whole number from 0 to %lld, not '%s'", option, most, text);
-    return v;
-}
-
-static struct arguments parse(int argc, char **argv, const char *allowed)
-{
-    struct arguments a = {.resource = -1, .type = -1, .update = -1, .protection = -1, .rows = -1, .size = -1, .length = -1, .packets = -1};
-    const struct {
-        const char *name;
-        long long *number, most;
-        char letter;
-    } options[] = {
-        {"--resource", &a.resource, 65535, 'r'}, {"--type", &a.type, 255, 't'},
-        {"--update", &a.update, 255, 'u'}, {"--protection", &a.protection, 255, 'p'},
-        {"--rows", &a.rows, 255, 'm'}, {"--size", &a.size, BH_USABLE_STORE, 's'},
-        {"--length", &a.length, INT64_MAX, 'l'}, {"--count", &a.packets, UINT32_MAX, 'c'},
-        {"--json", NULL, 0, 'j'}, {"--each", NULL, 0, 'e'}, {"-o", NULL, 0, 'o'},
-    };
-    int plain = 0;
-    for (int i = 2; i < argc; i++) {
-        size_t k = 0;
-        if (plain || argv[i][0] != '-' || strcmp(argv[i], "-") == 0) {
-            if (a.count == (int)(sizeof a.names / sizeof *a.names))
-                usage("more than %d files", a.count);
-            a.names[a.count++] = argv[i];
-            continue;
-        }
-        if (strcmp(argv[i], "--") == 0) {
-            plain = 1;
-            continue;
-        }
-        while (k < sizeof options / sizeof *options && strcmp(argv[i], options[k].name) != 0)
-            k++;
-        if (k == sizeof options / sizeof *options || strchr(allowed, options[k].letter) == NULL)
-            usage("%s does not take %s", argv[1], argv[i]);
-        if (options[k].letter == 'j' || options[k].letter == 'e') {
-            *(options[k].letter == 'j' ? &a.json : &a.each) = 1;
-            continue;
-        }
-        if (i + 1 == argc)
-            usage("%s wants a value", argv[i]);
-        i++;
-        if (options[k].letter == 'o')
-            a.output = argv[i];
-        else
-            *options[k].number = number_of(argv[i - 1], argv[i], options[k].most);
-    }
-    return a;
-}
-
-static void want(int there, const char *command, const char *what)
-{
-    if (!there)
-        usage("%s wants %s", command, what);
-}
 
 /* the settings of pack and open: the house setting where none of protection, rows and size is named */
 struct settings {
@@ -427,8 +361,17 @@ int main(int argc, char **argv)
         const char *name, *allowed;
         int (*run)(const struct arguments *);
     } commands[] = {
-        {"pack", "rtupmso", pack}, {"new", "s", make}, {"open", "rtupmsc", open_place}, {"offer", "je", offer},
-        {"status", "rj", status}, {"hand-out", "rlo", hand_out}, {"close", "r", close_place},
+        {"pack", "--resource --type --update --protection --rows --size -o", pack},
+        {"new", "--size", make},
+        {"open", "--resource --type --update --protection --rows --size --count", open_place},
+        {"offer", "--json --each", offer},
+        {"status", "--resource --json", status},
+        {"hand-out", "--resource --length -o", hand_out},
+        {"close", "--resource", close_place},
+        {"describe", "--json", describe},
+        {"description",
+         "--service --mode --resource --update --name --kind --title --summary --keywords --charset --path --length --file --from --until --delete -o",
+         description},
     };
     if (argc < 2)
         usage("no command");
@@ -444,8 +387,9 @@ int main(int argc, char **argv)
         if (strcmp(argv[1], commands[k].name) == 0) {
             struct arguments a = parse(argc, argv, commands[k].allowed);
             int result = commands[k].run(&a);
-            if (fflush(stdout) != 0)
-                trouble("standard output: %s", strerror(errno));
+            errno = 0;
+            if (fflush(stdout) != 0 || ferror(stdout))
+                trouble("standard output: %s", errno != 0 ? strerror(errno) : "not all of it was written");
             return result;
         }
     usage("no command '%s'", argv[1]);

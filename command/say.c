@@ -37,11 +37,13 @@ static const struct {
     {"Padding", "a byte beyond the length is not 0, so the length is wrong"},
     {"Count", "the file would need more than 1048575 packets"},
     {"Output", "the output is too short"},
+    [BH_LINE] = {"Line", "a line of the description has a fault"},
+    [BH_EXTRA] = {"Extra", "bytes stand behind line 15 of the description"},
 };
 
 const char *refusal_name(unsigned number)
 {
-    return number < sizeof refusals / sizeof *refusals ? refusals[number].name : "?";
+    return number < sizeof refusals / sizeof *refusals && refusals[number].name != NULL ? refusals[number].name : "?";
 }
 
 static void say(const char *lead, const char *format, va_list words)
@@ -70,11 +72,19 @@ void usage(const char *format, ...)
     exit(EXIT_TROUBLE);
 }
 
+int refused_line(uint64_t answer, const char *what, const char *sentence)
+{
+    fprintf(stderr, "brithelva: %s refused: %u %s: line %02" PRIu64 ": %s\n", what, bh_number(answer), refusal_name(bh_number(answer)), bh_value(answer), sentence);
+    return EXIT_REFUSED;
+}
+
 int refused(uint64_t answer, const char *what)
 {
     unsigned number = bh_number(answer);
     if (number == BH_ACCEPTED)
         return EXIT_ACCEPTED;
+    if (number == BH_LINE)
+        return refused_line(answer, what, line_words(bh_value(answer)));
     fprintf(stderr, "brithelva: %s refused: %u %s: %s", what, number, refusal_name(number), refusals[number].sentence);
     if (number == BH_MISSING)
         fprintf(stderr, " (the lowest is number %" PRIu64 ")", bh_value(answer));

@@ -1,5 +1,5 @@
 /*
- * brithelva.h: packets, rows and collected files of the data service of FM digital radio.
+ * brithelva.h: packets, rows, collected files and description files of the data service of FM digital radio.
  *
  * Every function takes any bytes and any numbers, ends, and does exactly what is written here: each is proved to. Nothing is
  * allocated, nothing is kept between calls, and no byte is read or written beyond the lengths that are given. A pointer may be
@@ -32,7 +32,10 @@ enum bh_limit {
     BH_PLACES = 8,
     BH_LARGEST_FILE = 16777216,
     BH_USABLE_STORE = 16777216, /* only so many bytes of a longer store are used */
-    BH_LARGEST_COUNT = 1048575
+    BH_LARGEST_COUNT = 1048575,
+    BH_DESCRIPTION_VALUES = 30, /* numbers of a description's attributes, enum bh_attribute below */
+    BH_DESCRIPTION_FIXED = 122, /* with the lengths of its five texts, room that a description always fits */
+    BH_NO_CHARSET = 255         /* stands for an empty line 10 */
 };
 
 enum bh_refusal {
@@ -62,7 +65,9 @@ enum bh_refusal {
     BH_SIZE = 23,       /* the file's length is 0 or above the limit, or is not the one that came */
     BH_PADDING = 24,    /* a position beyond the file's length is not 0 */
     BH_COUNT = 25,      /* the file would need more than 1048575 packets */
-    BH_OUTPUT = 26      /* the output is too short */
+    BH_OUTPUT = 26,     /* the output is too short */
+    BH_LINE = 29,       /* a line of a description has a fault; value: the line, 1 to 15 */
+    BH_EXTRA = 30       /* bytes stand behind line 15 of a description */
 };
 
 static inline unsigned bh_number(uint64_t answer) { return (unsigned)(answer & 255); }
@@ -143,6 +148,67 @@ uint64_t bh_hand_out(const uint8_t *record, size_t rn, const uint8_t *store, siz
 /* Closes a resource's place: all its fields become 0. The store is only read; its room serves later openings.
  * Refusals: 9; 10. */
 uint64_t bh_close(uint8_t *record, size_t rn, const uint8_t *store, size_t sn, uint16_t resource);
+
+/* ---- description files
+ *
+ * A description file tells fifteen attributes of a file or a stream: fifteen lines, each its two-digit number, a colon and the value, in
+ * order, ended by LF. Texts are bytes of UTF-8; they have no NUL at their end, and may hold any character but CR and LF, NUL too. */
+
+/* The attributes as thirty numbers. A text is told as a part: where it begins in the text that was lent to that call, and its length in
+ * bytes. So the parts that a reading gives speak of the text that was read, and of no copy that has moved or changed. */
+enum bh_attribute {
+    BH_D_SERVICE = 0,       /* line 01: 9000 to 9999 */
+    BH_D_MODE = 1,          /* line 02: 0 a stream, 1 a file */
+    BH_D_RESOURCE = 2,      /* line 03: 1 to 65535 */
+    BH_D_UPDATE = 3,        /* line 04: 0 to 15 */
+    BH_D_NAME_AT = 4,       /* line 05: a text, never empty */
+    BH_D_NAME_LENGTH = 5,
+    BH_D_KIND = 6,          /* line 06: 0 to 4, 21 to 24, 41 to 44 or 61 in mode 1; 128 to 131 in mode 0; the others are reserved */
+    BH_D_TITLE_AT = 7,      /* line 07: a text; length 0 where there is none, as in lines 08, 09 and 11 */
+    BH_D_TITLE_LENGTH = 8,
+    BH_D_SUMMARY_AT = 9,    /* line 08 */
+    BH_D_SUMMARY_LENGTH = 10,
+    BH_D_KEYWORDS_AT = 11,  /* line 09 */
+    BH_D_KEYWORDS_LENGTH = 12,
+    BH_D_CHARSET = 13,      /* line 10: 0 to 4 where the kind is 21; BH_NO_CHARSET, and not 0, for any other kind */
+    BH_D_PATH_AT = 14,      /* line 11: a text whose form is not judged: it may lead anywhere */
+    BH_D_PATH_LENGTH = 15,
+    BH_D_FILE_LENGTH = 16,  /* line 12: 1 to 16777216 in mode 1; 0 for none in mode 0 */
+    BH_D_START_YEAR = 17,   /* line 13: a real date of the Gregorian calendar, year 1 to 9999, and a time of day, seconds to 59; */
+    BH_D_START_MONTH = 18,  /*          all six are 0 where there is none */
+    BH_D_START_DAY = 19,
+    BH_D_START_HOUR = 20,
+    BH_D_START_MINUTE = 21,
+    BH_D_START_SECOND = 22,
+    BH_D_END_YEAR = 23,     /* line 14: likewise, and not before the start where both are given */
+    BH_D_END_MONTH = 24,
+    BH_D_END_DAY = 25,
+    BH_D_END_HOUR = 26,
+    BH_D_END_MINUTE = 27,
+    BH_D_END_SECOND = 28,
+    BH_D_DELETE = 29        /* line 15: 1 the file is to be deleted, 0 it is not */
+};
+
+/* Reads a description of n bytes: the thirty numbers of enum bh_attribute, written to the start of `values`; numbers behind them stay.
+ * room counts numbers, not bytes. The text is only read, and may have any length. A line may also end in CR LF; a CR anywhere else is a
+ * fault, as are leading zeros, a byte order mark and a last line without LF. A text that is empty has length 0, and stands where its
+ * line's value would stand.
+ * Refusals, the first that applies: 29 where some line has a fault (it is missing, misnumbered, has no colon, or its value is none that
+ * it may have), value: the lowest such line; what two lines have wrong between them (kind and mode, charset and kind, length and mode,
+ * end and start) is a fault of the later; 30 where bytes stand behind line 15, an empty line too; 26 where room is below 30. */
+uint64_t bh_read_description(const uint8_t *text, size_t n, uint64_t *values, size_t room);
+
+/* Writes the description of thirty numbers to the start of `out`; bytes behind it stay. Value: its length. The five texts are parts of
+ * `text`, which has n bytes; they may overlap, repeat and stand in any order. Every line ends in LF. What is written, bh_read_description
+ * takes, and gives the same numbers and the same texts: only where the texts begin is told of what was written.
+ * BH_DESCRIPTION_FIXED and the lengths of the five texts together are room that always suffices; in texts that overlap a byte counts as
+ * often as it is named, so n says nothing of it.
+ * What stands for 'none' is BH_NO_CHARSET, a length of 0 and six zeros: charset 0 is a charset, and refused for any kind but 21; a time
+ * with year 0 and any other number not 0 is refused.
+ * Refusals, the first that applies: 17 where count is not 30; 29 where an attribute cannot stand in its line, value: the lowest such line (a
+ * number out of its range; a part that begins or ends beyond the lent text, an empty one too; a text that is no valid UTF-8 or holds CR
+ * or LF; what two lines have wrong between them, of the later); 26 where the description does not fit room. */
+uint64_t bh_write_description(const uint64_t *values, size_t count, const uint8_t *text, size_t n, uint8_t *out, size_t room);
 
 #ifdef __cplusplus
 }

@@ -1,4 +1,4 @@
-/* The cases that need more memory than the program `cases` has: the largest file, and stores longer than their usable part.
+/* The cases that need more memory than the program `cases` has: the largest file, stores longer than their usable part, and long descriptions.
    limits packets: writes every packet of the largest protected file to standard output instead, for reference/largest.py. */
 #include "brithelva.h"
 
@@ -62,6 +62,61 @@ static void largest(uint8_t *file, uint8_t *store, uint8_t *out)
     expect("byte for byte", 0, (uint64_t)(memcmp(file, out, length) != 0));
 }
 
+/* a description with that title, its other texts short; the length of what was written */
+static size_t describe(uint8_t *text, const uint8_t *title, size_t n)
+{
+    static const char before[] = "01:9999\n02:1\n03:65535\n04:15\n05:n\n06:21\n07:";
+    static const char behind[] = "\n08:\n09:k\n10:4\n11:.\\p\n12:16777216\n13:0001.01.01/00:00:00\n14:9999.12.31/23:59:59\n15:1\n";
+    memcpy(text, before, sizeof before - 1);
+    memcpy(text + sizeof before - 1, title, n);
+    memcpy(text + sizeof before - 1 + n, behind, sizeof behind - 1);
+    return sizeof before - 1 + n + sizeof behind - 1;
+}
+
+/* a title of 16 MiB is read and written back; a byte of it that is wrong is found; the room that always suffices is not too large */
+static void descriptions(uint8_t *text, uint8_t *title, uint8_t *out)
+{
+    size_t n = 16 << 20;
+    uint64_t values[BH_DESCRIPTION_VALUES + 1], before[BH_DESCRIPTION_VALUES + 1];
+    for (size_t i = 0; i + 4 <= n; i += 4)
+        memcpy(title + i, i % 64 == 0 ? "\xF0\x90\x80\x80" : i % 20 == 0 ? "a\xE6\x96\x87" : i % 8 == 0 ? "\xC3\xA9 \x7F" : "line", 4);
+    memset(values, 0x77, sizeof values);
+    memcpy(before, values, sizeof values);
+    size_t length = describe(text, title, n), at = 42;
+    expect("a title of 16 MiB", 0, bh_read_description(text, length, values, BH_DESCRIPTION_VALUES + 1));
+    expect("where it begins", at, values[BH_D_TITLE_AT]);
+    expect("its length", n, values[BH_D_TITLE_LENGTH]);
+    expect("a number behind the thirty", before[30], values[30]);
+    expect("written into a byte too little", BH_OUTPUT, bh_write_description(values, 30, text, length, out, length - 1));
+    expect("written back", 256 * (uint64_t)length, bh_write_description(values, 30, text, length, out, length));
+    expect("byte for byte", 0, (uint64_t)(memcmp(text, out, length) != 0));
+    expect("the room that always suffices", BH_DESCRIPTION_FIXED + n + values[BH_D_NAME_LENGTH] + values[BH_D_KEYWORDS_LENGTH] + values[BH_D_PATH_LENGTH], length);
+    expect("a byte behind it", BH_EXTRA, bh_read_description(text, length + 1, values, BH_DESCRIPTION_VALUES));
+    expect("a byte less", 256 * 15 + BH_LINE, bh_read_description(text, length - 1, values, BH_DESCRIPTION_VALUES));
+    text[at + n - 1] = 0xC3;
+    expect("a character cut off at its end", 256 * 7 + BH_LINE, bh_read_description(text, length, before, BH_DESCRIPTION_VALUES));
+    text[at + n - 1] = '\r';
+    expect("CR LF", 0, bh_read_description(text, length, before, BH_DESCRIPTION_VALUES));
+    expect("a byte shorter", n - 1, before[BH_D_TITLE_LENGTH]);
+    text[at + n / 2] = '\r';
+    expect("CR in the middle", 256 * 7 + BH_LINE, bh_write_description(values, 30, text, length, out, length));
+}
+
+/* no bytes at all, and a pointer to none */
+static void nothing(void)
+{
+    uint64_t values[BH_DESCRIPTION_VALUES] = {0};
+    uint8_t out[1] = {7};
+    expect("an empty text", 256 * 1 + BH_LINE, bh_read_description(NULL, 0, NULL, 0));
+    expect("a line feed alone", 256 * 1 + BH_LINE, bh_read_description((const uint8_t *)"\n", 1, values, BH_DESCRIPTION_VALUES));
+    expect("no values", BH_FIELD, bh_write_description(NULL, 0, NULL, 0, NULL, 0));
+    expect("zeros", 256 * 1 + BH_LINE, bh_write_description(values, BH_DESCRIPTION_VALUES, NULL, 0, out, 1));
+    values[BH_D_SERVICE] = 9000;
+    values[BH_D_RESOURCE] = 1;
+    expect("a name of no text", 256 * 5 + BH_LINE, bh_write_description(values, BH_DESCRIPTION_VALUES, NULL, 0, out, 1));
+    expect("nothing written", 7, out[0]);
+}
+
 /* one row a packet, in 276 tables of 255 */
 static int packets(const uint8_t *file)
 {
@@ -92,6 +147,8 @@ int main(int count, char **words)
     packing(file);
     stores(store);
     largest(file, store, out);
+    descriptions(file, store, out);
+    nothing();
     printf("limits: %d cases, %d wrong\n", told, wrong);
     return wrong != 0;
 }
