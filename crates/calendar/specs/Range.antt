@@ -1,6 +1,6 @@
 -- A real time as plain bounds: what a crate above may know of one.
 -- Assumes nothing.
-use Prim.Native.Nat.{ℕ, _≤_}
+use Prim.Native.Nat.{_≤_}
 use Rattle.calendar.specs.declared.Time.{Time}
 use Rattle.calendar.specs.Calendar.{daysIn}
 

@@ -5,7 +5,7 @@ use mathlib.Core.Bool.{Bool, true, false, not, _&&_, _||_, or-true}
 use mathlib.Core.Logic.{_⊎_, inl, inr, ⊎-elim}
 use mathlib.Core.List.{List, [], _∷_, _++_, append-nil, append-assoc}
 use Prim.Native.Nat.{ℕ, zero, suc, _+_, _-_, _*_, _/_, _%_, _^_, _≤_, _<_}
-use native.Mathlib.Nat.{pow-suc}
+use native.Mathlib.Nat.{pow-suc, pow-succ', pow-le-pow-right, mul-assoc}
 use native.Mathlib.Omega.{arith}
 use borrow.Author.Tests.{le-leb, leb-true, eq-eqb, ne-eqb, eqb-true, eqb-false, not-true}
 use lib.Dec.{leb, eqb}
@@ -62,6 +62,21 @@ number-some v h = by (isNumber v) refl
     by true e = refl
     by false e = absurd (omega (arith, number-none v e))
 
+-- a number has at most eight digits
+value-small : (s : List ℕ) (n m : ℕ) → allDigits s ≡ true → n < m → valueFrom n s < m * 10 ^ length s
+value-small [] n m a h = omega arith
+value-small (b ∷ s) n m a h =
+    let p = and-both (isDigit b) (allDigits s) a in
+    let r = digit-range b (p .0) in
+    let e : m * 10 * 10 ^ length s ≡ m * 10 ^ suc (length s) = mul-assoc m 10 (10 ^ length s) ∙ ap (λ (x : ℕ). m * x) (sym (pow-succ' 10 (length s))) in
+    rw e at (value-small s (n * 10 + (b - 48)) (m * 10) (p .1) (omega arith))
+
+pub number-small : (v : List ℕ) → isNumber v ≡ true → numberIn v < 100000000
+number-small v e =
+    let n = number-parts v e in
+    let p : 10 ^ length v ≤ 10 ^ 8 = pow-le-pow-right {n = 10} (omega arith) {i = length v} {j = 8} (n .most) in
+    omega (arith, number-value v e, value-small v 0 1 (n .every) (omega arith))
+
 -- ---- the digits of a number write it
 value-last : (s : List ℕ) (n b : ℕ) → valueFrom n (s ++ (b ∷ [])) ≡ valueFrom n s * 10 + (b - 48)
 value-last [] n b = refl
@@ -100,7 +115,8 @@ by-back (b ∷ s) k n h a =
     ∙ ap (λ (y : List ℕ). y ++ s) (by-more k x (omega arith) ∙ (λ i. digitsBy k (d i) ++ (l i ∷ [])))
     ∙ append-assoc (digitsBy k n) (b ∷ []) s
 
-by-number : (m : ℕ) (v : List ℕ) → 1 ≤ length v → length v ≤ m → allDigits v ≡ true → (length v ≡ 1) ⊎ (getD v 0 0 ≡ 48 → ⊥) → digitsBy m (valueFrom 0 v) ≡ v
+by-number : (m : ℕ) (v : List ℕ) → 1 ≤ length v → length v ≤ m → allDigits v ≡ true → (length v ≡ 1) ⊎ (getD v 0 0 ≡ 48 → ⊥)
+    → digitsBy m (valueFrom 0 v) ≡ v
 by-number m [] o h a f = absurd (omega arith)
 by-number zero (b ∷ s) o h a f = absurd (omega arith)
 by-number (suc m) (b ∷ []) o h a f =

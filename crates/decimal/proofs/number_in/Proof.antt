@@ -1,4 +1,5 @@
--- Bytes that are not one to eight, or start with a 0 and are several, write no number; nor do those among which one is no digit. Else each digit is added behind those before it.
+-- Bytes that are not one to eight, or start with a 0 and are several, write no number; nor do those among which one is no digit. Else each digit is
+-- added behind those before it.
 -- Invariant: what is left, read behind the value so far, says what all the bytes say, `Reading`. The measure is what is left.
 use mathlib.Core.Path.{sym, _∙_}
 use Prim.Native.Nat.{_-_}
@@ -31,10 +32,13 @@ wide-requires : tie.Need-wide-requires Inv-loop μ-loop
 wide-requires c κs = tt
 
 returns-2 : tie.Need-returns-2 Inv-loop μ-loop
-returns-2 c = let e = c .before .wide .ensures .0 in reading-low _ _ _ (c .before .before .before .before .loop .inv) (c .before .before .before .loop-test .taken) (omega (arith, c .if2 .taken))
+returns-2 c =
+    let e = c .before .wide .ensures .0 in
+    reading-low _ _ _ (c .before .before .before .before .loop .inv) (c .before .before .before .loop-test .taken) (omega (arith, c .if2 .taken))
 
 returns-3 : tie.Need-returns-3 Inv-loop μ-loop
-returns-3 c = let e = c .before .before .wide .ensures .0 in
+returns-3 c =
+    let e = c .before .before .wide .ensures .0 in
     reading-high _ _ _ (c .before .before .before .before .before .loop .inv) (c .before .before .before .before .loop-test .taken) (omega (arith, c .if3 .taken))
 
 mul-value : tie.Need-mul-value Inv-loop μ-loop
@@ -51,8 +55,8 @@ loop-less c = omega arith
 
 loop-again : tie.Need-loop-again Inv-loop μ-loop
 loop-again c =
-    reading-more _ _ _ (c .before .before .before .before .before .loop .inv) (c .before .before .before .before .loop-test .taken) _ _ (c .before .before .wide .ensures .0)
-    (omega arith) (omega arith) (omega arith)
+    reading-more _ _ _ (c .before .before .before .before .before .loop .inv) (c .before .before .before .before .loop-test .taken) _ _
+    (c .before .before .wide .ensures .0) (omega arith) (omega arith) (omega arith)
 
 returns-4 : tie.Need-returns-4 Inv-loop μ-loop
 returns-4 c = reading-end _ _ _ (c .before .loop .inv) (c .loop-test .left)
