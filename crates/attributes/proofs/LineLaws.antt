@@ -64,7 +64,7 @@ module _ (t : List ℕ) (k at : ℕ) (v s : List ℕ) (here : drop at t ≡ labe
         let a : same (take 3 (drop at t)) (label k) ≡ true = ap (λ (l : List ℕ). same (take 3 l) (label k)) here ∙ same-self (label k) in
         let n : length (drop (at + 3) t) ≡ length v + suc (length s) = ap length value-here ∙ length-append v (LF ∷ s) in
         let b : ltb (untilLf (drop (at + 3) t)) (length (drop (at + 3) t)) ≡ true
-            = ap₂ ltb until-here n ∙ lt-ltb (length v) (length v + suc (length s)) (omega arith) in
+        = ap₂ ltb until-here n ∙ lt-ltb (length v) (length v + suc (length s)) (omega arith) in
         ap₂ _&&_ a b
 
     without-here : withoutCr (drop (at + 3) t) (untilLf (drop (at + 3) t)) ≡ length v

@@ -76,8 +76,8 @@ module _ (t : List ℕ) (k at : ℕ) (line : isLine t k at ≡ true) where
           let h : 1 ≤ untilLf s = leb-true 1 (untilLf s) e in
           let m : suc (untilLf s - 1) ≡ untilLf s = omega arith in
           let g : take (untilLf s) s ≡ take (untilLf s - 1) s ++ (CR ∷ [])
-              = ap (λ (n : ℕ). take n s) (sym m) ∙ take-suc s (untilLf s - 1) 0 (omega (arith, ended))
-              ∙ ap (λ (x : ℕ). take (untilLf s - 1) s ++ (x ∷ [])) (eqb-true (getD s (untilLf s - 1) 0) CR f) in
+          = ap (λ (n : ℕ). take n s) (sym m) ∙ take-suc s (untilLf s - 1) 0 (omega (arith, ended))
+          ∙ ap (λ (x : ℕ). take (untilLf s - 1) s ++ (x ∷ [])) (eqb-true (getD s (untilLf s - 1) 0) CR f) in
           ap plain (parted ∙ ap (λ (l : List ℕ). l ++ (LF ∷ rest)) g ∙ append-assoc (take (untilLf s - 1) s) (CR ∷ []) (LF ∷ rest))
           ∙ plain-behind (take (untilLf s - 1) s) (CR ∷ (LF ∷ rest)) u
       by true false e f u = ap plain parted ∙ plain-behind (take (untilLf s) s) (LF ∷ rest) u
@@ -91,8 +91,10 @@ lines-plain t k (suc n) at e u = by (isLine t k at) refl e u (lines-plain t (suc
   where
     more : Found
     more = linesFrom t (suc k) n (behindLine t at)
+
     all : Bool → Found
     all c = cond c (before (valueAt t at) more) (alone at)
+
     by : (c : Bool) → isLine t k at ≡ c → length (all c .parts) ≡ suc n → allUnbroken (valuesIn t (all c .parts)) ≡ true
         → (length (more .parts) ≡ n → allUnbroken (valuesIn t (more .parts)) ≡ true
         → plain (drop (behindLine t at) t) ≡ linesText (suc k) (valuesIn t (more .parts)) ++ plain (drop (more .next) t))

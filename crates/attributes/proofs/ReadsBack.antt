@@ -164,6 +164,7 @@ module _ (a : Attributes) (r : InRange a) where
     where
       fault : faultOf w ≡ lower (lowest (rules w (descriptionIn w ps))) (suc (length ps))
       fault = ap (λ (f : Found). lower (lowest (rules w (descriptionIn w (f .parts)))) (suc (length (f .parts)))) found-in
+
       no-fault : 15 < faultOf w
       no-fault = omega (arith, fault ∙ ap₂ lower (ap lowest rules-same ∙ e) (ap suc (parts-count 0 (values a))))
 
@@ -185,10 +186,12 @@ accepted t d out n e = by (leb (lowest (rules t d)) 15) (ltb (length out) (lengt
   where
     x : List ℕ
     x = textOf (attributesOf t d)
+
     outcome : Bool → Bool → Writing
     outcome b c =
         cond b (record { answer = Refused (Line (lowest (rules t d))); out = out })
         (cond c (record { answer = Refused Output; out = out }) (record { answer = Text (length x); out = sets out 0 x }))
+
     by : (b c : Bool) → leb (lowest (rules t d)) 15 ≡ b → ltb (length out) (length x) ≡ c → composeOf t d out ≡ outcome b c → Accepted t d out n
     by true c f g h = let z : _≡_ {A = ℕ} 0 1 = cc (ap (λ (w : Writing). w .answer) h) in absurd (omega arith)
     by false true f g h = let z : _≡_ {A = ℕ} 0 1 = cc (ap (λ (w : Writing). w .answer) h) in absurd (omega arith)
@@ -203,16 +206,21 @@ reads-back t d out n e = record { found = descriptionIn (textOf a) (partsAt 0 (v
   where
     a : Attributes
     a = attributesOf t d
+
     ok : Accepted t d out n
     ok = accepted t d out n e
+
     here : take n (composeOf t d out .out) ≡ textOf a
     here =
         let c : n ≡ length (textOf a) = ok .count in
         let m : length (textOf a) ≤ length out = omega (arith, ok .room) in
         ap₂ take c (ok .written ∙ sets-front out (textOf a) m) ∙ take-at (textOf a) (drop (length (textOf a)) out) (length (textOf a)) refl
+
     kept : (i : ℕ) → i < 15 → getD (rulesOf a) i false ≡ true
     kept i h = both-all (placed t d) (rulesOf a) i (lowest-before (rules t d) i (omega (arith, ok .sound))) .1
+
     r : InRange a
     r = sound-range a kept
+
     all : lowest (rulesOf a) ≡ 16
     all = lowest-all (rulesOf a) (λ i h. kept i (omega (arith, rules-length a))) ∙ ap suc (rules-length a)

@@ -107,6 +107,7 @@ order-fact a b e = by (or-either (notGiven a) (notGiven b || notAfter a b) e)
     then : (notGiven b ≡ true) ⊎ (notAfter a b ≡ true) → (b ≡ noTime) ⊎ (notAfter a b ≡ true)
     then (inl g) = inl (not-given b g)
     then (inr r) = inr r
+
     by : (notGiven a ≡ true) ⊎ ((notGiven b || notAfter a b) ≡ true) → (a ≡ noTime) ⊎ ((b ≡ noTime) ⊎ (notAfter a b ≡ true))
     by (inl g) = inl (not-given a g)
     by (inr r) = inr (then (or-either (notGiven b) (notAfter a b) r))

@@ -64,6 +64,7 @@ time-value-written v h = by (eqb (length v) 0) refl h
     when (inl w) (inl n) = absurd (omega (arith, ap (λ (x : Time). x .month) (sym w ∙ n)))
     when (inl w) (inr r) = absurd (omega (arith, ap (λ (x : Time). x .year) w, r .year-first))
     when (inr r) h = ap (λ (c : Bool). cond c [] (timeText (timeIn v))) (real-given (timeIn v) (real-range (timeIn v) r)) ∙ written-time v r
+
     by : (b : Bool) → eqb (length v) 0 ≡ b → (cond b noTime (timeIn v) ≡ noTime) ⊎ RealTime (cond b noTime (timeIn v)) → timeValue (cond b noTime (timeIn v)) ≡ v
     by true e h = empty v (eqb-true (length v) 0 e)
     by false e h = when (time-real v) h
@@ -112,14 +113,19 @@ writes-back t d e = ap (λ (x : Description). linesText 1 (values (attributesOf 
   where
     ok : Taken t d
     ok = taken t d e
+
     ps : List Part
     ps = linesOf t .parts
+
     same : d ≡ descriptionIn t ps
     same = ok .parts
+
     r : InRange (attributesOf t (descriptionIn t ps))
     r = rw same at (reading-in-range t d e)
+
     all : values (attributesOf t (descriptionIn t ps)) ≡ valuesIn t ps
     all = values-written t ps r ∙ values-listed t ps 15 (ok .fifteen)
+
     text : plain t ≡ linesText 1 (valuesIn t ps)
     text =
         lines-plain t 1 15 0 (ok .fifteen) (sym (ap allUnbroken all) ∙ values-unbroken (attributesOf t (descriptionIn t ps)) r)

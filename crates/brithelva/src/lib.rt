@@ -6,12 +6,17 @@ ghost use Rattle.crc.specs.Crc.{crc32Of};
 ghost use Rattle.settings.specs.Settings.{house};
 ghost use Rattle.face.specs.Layout.{recordBytes};
 ghost use Rattle.face.specs.Face.{answerOf, Says, Keeps, encodeSays, repairSays, readSays, packSays, openSays, offerSays, statusSays, handSays, closeSays};
+ghost use Rattle.listing.specs.Listing.{describeSays, composeSays};
+use attributes::Described;
 use opening::Kept;
 use packet::Reading;
 use settings::Settings;
 
 // Record's number, for bytes lent as a record that are not 128.
 const NO_RECORD: u64 = 9;
+
+// Field's number, for a description that is not thirty numbers.
+const NOT_THIRTY: u64 = 17;
 
 // The CRC-32 of the bytes.
 #[no_mangle]
@@ -209,4 +214,28 @@ pub extern "C" fn bh_close(held: &mut [u8], store: &[u8], resource: u16) -> u64
     }
     let kept = opening::close(face::record_in(held), store, resource);
     put_kept(held, kept)
+}
+
+// The attributes of a description file as thirty numbers, at the start of `values`.
+#[no_mangle]
+pub extern "C" fn bh_read_description(text: &[u8], values: &mut [u64]) -> u64
+    ensures { λ r. ⌜ Says (describeSays (now (text .entry)) (now (values .entry))) r (now (values .exit)) ⌝ }
+{
+    match description::read(text) {
+        Described::Attributes(d) => listing::put_numbers(d, values),
+        Described::Refused(r) => answers::refused(r),
+    }
+}
+
+// The description file of thirty numbers whose texts are parts of `text`, at the start of `out`. The value is its length.
+#[no_mangle]
+pub extern "C" fn bh_write_description(values: &[u64], text: &[u8], out: &mut [u8]) -> u64
+    ensures { λ r. ⌜ Says (composeSays (now (values .entry)) (now (text .entry)) (now (out .entry))) r (now (out .exit)) ⌝ }
+{
+    if values.len() != 30 {
+        return NOT_THIRTY;
+    }
+    let d = listing::description_of(values);
+    let composed = composing::write(text, d, out);
+    listing::composed_as(composed)
 }

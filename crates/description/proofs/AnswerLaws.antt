@@ -24,8 +24,7 @@ lower-second a b h = sym (ap (λ (c : Bool). cond c a b) (lt-leb a b h))
 
 -- with what was found: the attributes, their lowest fault, the number of lines and where they end
 module _ (t : List ℕ) (d : Description) (low count next fault : ℕ) (attributes : d ≡ descriptionIn t (linesOf t .parts))
-  (judged : low ≡ lowest (rules t d)) (counted : count ≡ length (linesOf t .parts)) (ended : next ≡ linesOf t .next) (lowered : fault ≡ lower low (count + 1)) where
-
+    (judged : low ≡ lowest (rules t d)) (counted : count ≡ length (linesOf t .parts)) (ended : next ≡ linesOf t .next) (lowered : fault ≡ lower low (count + 1)) where
   is-fault : fault ≡ faultOf t
   unfolding faultOf
   is-fault =

@@ -132,7 +132,7 @@ module _ (t starts lengths : List ℕ) (k at : ℕ) (s : Splitting t starts leng
   ended : linesFrom t (suc k) (15 - k) at ≡ alone at → Split t starts lengths k at
   ended e =
       let all : linesOf t ≡ record { parts = s .found; next = at }
-          = s .rest ∙ ap (onto (s .found)) e ∙ (λ i. record { parts = append-nil (s .found) i; next = at }) in
+      = s .rest ∙ ap (onto (s .found)) e ∙ (λ i. record { parts = append-nil (s .found) i; next = at }) in
       let ps : s .found ≡ linesOf t .parts = ap (λ (f : Found). f .parts) (sym all) in
       record {
         parted = rw ps at (s .parted);
@@ -166,9 +166,9 @@ module _ (t starts lengths : List ℕ) (k at : ℕ) (s : Splitting t starts leng
     splitting-more there f e =
         let y : next ≡ behindLine t at = e .behind f in
         let a : (i : ℕ) → getD (set starts k (at + 3)) i 0 ≡ getD (s .found ++ (p ∷ [])) i nowhere .at
-            = rw (s .count) at (grown (λ q. q .at) refl starts (s .found) p (omega (arith, s .starts-long, s .count)) (s .parted .at)) in
+        = rw (s .count) at (grown (λ q. q .at) refl starts (s .found) p (omega (arith, s .starts-long, s .count)) (s .parted .at)) in
         let b : (i : ℕ) → getD (set lengths k n) i 0 ≡ getD (s .found ++ (p ∷ [])) i nowhere .length
-            = rw (s .count) at (grown (λ q. q .length) refl lengths (s .found) p (omega (arith, s .lengths-long, s .count)) (s .parted .length)) in
+        = rw (s .count) at (grown (λ q. q .length) refl lengths (s .found) p (omega (arith, s .lengths-long, s .count)) (s .parted .length)) in
         record {
           most = omega arith;
           far = e .fits f .1;
@@ -188,5 +188,6 @@ module _ (t starts lengths : List ℕ) (k at : ℕ) (s : Splitting t starts leng
       where
         p : Part
         p = record { at = at + 3; length = n }
+
         more : ℕ → ℕ → Found
         more j x = linesFrom t j (15 - (k + 1)) x

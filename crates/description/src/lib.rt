@@ -5,7 +5,9 @@ ghost use lib.ListN.{length, take, drop};
 ghost use Rattle.decimal.specs.Decimal.{numberIn};
 ghost use Rattle.attributes.specs.Describe.{optionalIn, givenTime, lower, describeOf};
 ghost use Rattle.description.specs.Inner.{ReadOf, Within};
+
 mod lines;
+
 use attributes::Described;
 use attributes::Description;
 use attributes::Part;
@@ -63,13 +65,28 @@ fn attributes_in(text: &[u8], s: [usize; 15], n: [usize; 15]) -> Description
         mode: number_at(text, s[1], n[1]),
         resource: number_at(text, s[2], n[2]),
         update: number_at(text, s[3], n[3]),
-        name: Part { at: s[4], length: n[4] },
+        name: Part {
+            at: s[4],
+            length: n[4],
+        },
         kind: number_at(text, s[5], n[5]),
-        title: Part { at: s[6], length: n[6] },
-        summary: Part { at: s[7], length: n[7] },
-        keywords: Part { at: s[8], length: n[8] },
+        title: Part {
+            at: s[6],
+            length: n[6],
+        },
+        summary: Part {
+            at: s[7],
+            length: n[7],
+        },
+        keywords: Part {
+            at: s[8],
+            length: n[8],
+        },
         charset: optional_at(text, s[9], n[9], 255),
-        path: Part { at: s[10], length: n[10] },
+        path: Part {
+            at: s[10],
+            length: n[10],
+        },
         size: optional_at(text, s[11], n[11], 0),
         begins: time_at(text, s[12], n[12]),
         ends: time_at(text, s[13], n[13]),

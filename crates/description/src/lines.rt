@@ -62,7 +62,11 @@ fn ending(rest: &[u8]) -> End
     ensures { λ r. ⌜ (r .found ≡ ltb (untilLf (now (rest .entry))) (length (now (rest .entry)))) × (r .before ≡ untilLf (now (rest .entry))) × (r .length ≡ withoutCr (now (rest .entry)) (untilLf (now (rest .entry)))) ⌝ }
 {
     let n = texts::until_lf(rest);
-    End { found: n < rest.len(), before: n, length: value_length(rest, n) }
+    End {
+        found: n < rest.len(),
+        before: n,
+        length: value_length(rest, n),
+    }
 }
 
 // Line k at `at`.
@@ -71,13 +75,25 @@ fn line_at(text: &[u8], k: usize, at: usize) -> Step
     ensures { λ r. ⌜ Stepped (now (text .entry)) k at (r .there) (r .length) (r .next) ⌝ }
 {
     if !labelled(text, k, at) {
-        return Step { there: false, length: 0, next: at };
+        return Step {
+            there: false,
+            length: 0,
+            next: at,
+        };
     }
     let end = ending(&text[at + 3..]);
     if !end.found {
-        return Step { there: false, length: 0, next: at };
+        return Step {
+            there: false,
+            length: 0,
+            next: at,
+        };
     }
-    Step { there: true, length: end.length, next: at + 3 + end.before + 1 }
+    Step {
+        there: true,
+        length: end.length,
+        next: at + 3 + end.before + 1,
+    }
 }
 
 // The fifteen lines, or as many as stand in order at the front.
@@ -91,12 +107,22 @@ pub(crate) fn split(text: &[u8]) -> Lines
     while k < 15 {
         let step = line_at(text, k + 1, at);
         if !step.there {
-            return Lines { starts, lengths, count: k, next: at };
+            return Lines {
+                starts,
+                lengths,
+                count: k,
+                next: at,
+            };
         }
         starts[k] = at + 3;
         lengths[k] = step.length;
         at = step.next;
         k += 1;
     }
-    Lines { starts, lengths, count: k, next: at }
+    Lines {
+        starts,
+        lengths,
+        count: k,
+        next: at,
+    }
 }

@@ -185,7 +185,7 @@ zero-at zero j = refl
 zero-at (suc n) zero = refl
 zero-at (suc n) (suc j) = zero-at n j
 
-over-zeros : (n : ℕ) (b : List ℕ) → length b ≤ n → (j : ℕ) → getD (sets (zeros n) 0 b) j 0 ≡ getD b j 0
+pub over-zeros : (n : ℕ) (b : List ℕ) → length b ≤ n → (j : ℕ) → getD (sets (zeros n) 0 b) j 0 ≡ getD b j 0
 over-zeros n b h j = by (le-or-lt (length b) j)
   where
     by : (length b ≤ j) ⊎ (j < length b) → getD (sets (zeros n) 0 b) j 0 ≡ getD b j 0

@@ -28,7 +28,7 @@ use Rattle.packet.specs.Told.{fieldList}
 use Rattle.face.specs.Face.{Said, Says, answerOf, puts, putsIf, encodeSays, repairSays, readingSays, readSays}
 
 -- the same said in another way
-says-as : {p q : Said} {r : ℕ} {out : List ℕ} → p ≡ q → Says p r out → Says q r out
+pub says-as : {p q : Said} {r : ℕ} {out : List ℕ} → p ≡ q → Says p r out → Says q r out
 says-as e s = record { answers = s .answers ∙ ap (λ (x : Said). x .answer) e; leaves = s .leaves ∙ ap (λ (x : Said). x .output) e }
 
 module _ (b out : List ℕ) where
@@ -42,7 +42,7 @@ module _ (b out : List ℕ) where
       let t : ltb (length out) (length b) ≡ false = le-ltb (length out) (length b) h in
       record { answers = rw t; leaves = rw t (e ∙ sets-front out b h) }
 
-refused-puts : (z : Refusal) (b out : List ℕ) (r : ℕ) → r ≡ answerOf (refusedAs z) → Says (putsIf (refusedAs z) b out) r out
+pub refused-puts : (z : Refusal) (b out : List ℕ) (r : ℕ) → r ≡ answerOf (refusedAs z) → Says (putsIf (refusedAs z) b out) r out
 unfolding putsIf
 refused-puts z b out r e = let t : eqb (numberOf z) 0 ≡ false = ne-eqb (numberOf z) 0 (number-not-0 z) in record { answers = rw t e; leaves = rw t }
 

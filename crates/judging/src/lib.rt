@@ -1,4 +1,4 @@
-// Whether the attributes of a description may stand in their lines: by the fifteen rules that reader and writer share (crate attributes, specs/Rules.antt). 
+// Whether the attributes of a description may stand in their lines: by the fifteen rules that reader and writer share (crate attributes, specs/Rules.antt).
 ghost use mathlib.Core.Bool.{cond, _&&_};
 ghost use mathlib.Core.Path.{_≡_};
 ghost use lib.Dec.{eqb, leb};

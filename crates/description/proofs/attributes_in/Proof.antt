@@ -134,7 +134,7 @@ returns : tie.Need-returns
 unfolding descriptionIn
 returns c ps p =
     let e : (i : ℕ) → take (getD (c .before .before .before .before .before .before .before .before .before .before .before .args .t3) i 0) (drop (getD (c .before .before .before .before .before .before .before .before .before .before .before .args .t2) i 0) (c .before .before .before .before .before .before .before .before .before .before .before .args .text .now)) ≡ partOf (c .before .before .before .before .before .before .before .before .before .before .before .args .text .now) (getD ps i nowhere)
-        = λ i. ap₂ (λ (x y : ℕ). take y (drop x (c .before .before .before .before .before .before .before .before .before .before .before .args .text .now))) (p .at i) (p .length i) in
+    = λ i. ap₂ (λ (x y : ℕ). take y (drop x (c .before .before .before .before .before .before .before .before .before .before .before .args .text .now))) (p .at i) (p .length i) in
     λ j. record {
       service = (c .before .before .before .before .before .before .before .before .before .number-at .ensures ∙ ap numberIn (e 0)) j;
       mode = (c .before .before .before .before .before .before .before .before .number-at2 .ensures ∙ ap numberIn (e 1)) j;
