@@ -163,7 +163,7 @@ class Run:
         family, seed = numbers(words)[:2]
         self.bytes = damaged(self.bytes, family, seed)
 
-    # lines of bytes, counted from 1
+    # lines of bytes, counted from 1; 0 is taken as 1
     def line_at(self, k):
         """Where line k begins; the end where there are fewer."""
         lines = re.findall(rb"[^\n]*\n|[^\n]+", self.bytes)
@@ -180,7 +180,7 @@ class Run:
         self.put_line(self.line_at(numbers(words[:1])[0]), words[1:])
 
     def do_drop(self, words):
-        k = numbers(words[:1])[0]
+        k = max(numbers(words[:1])[0], 1)
         self.set("bytes", self.bytes[: self.line_at(k)] + self.bytes[self.line_at(k + 1) :])
 
     def do_swap(self, words):
