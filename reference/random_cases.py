@@ -7,6 +7,7 @@ Steps know what is open, so that most packets belong to something and every refu
 import random, sys
 
 from cases import Case, Run
+from random_descriptions import Descriptions
 from receiver import MARK, PLACE, header_of, place_of, up
 
 FIELDS = ["resource", "type", "update", "protection", "rows", "size"]
@@ -28,6 +29,7 @@ class Writer:
 
     def __init__(self, seed):
         self.random, self.run, self.lines, self.senders = random.Random(seed), Run(), [], {}
+        self.descriptions = Descriptions(self.random)
         self.step, self.named = 0, 0
 
     def say(self, line):
@@ -364,6 +366,55 @@ class Writer:
         self.call("crc")
         self.some_bytes_of_out()
 
+    # ---- steps: description files
+
+    def say_text(self, text):
+        """In bytes, which takes no more than its limit."""
+        self.say("bytes " + hexes(text) if text else "cut 0")
+
+    def show_values(self):
+        self.say("out 0 256")
+        self.say("show-values")
+        self.case("out")
+
+    def step_describe(self):
+        if self.often(0.03):
+            self.say(f"random {self.below(1 << 32)} {self.below(100)}")
+        else:
+            self.say_text(self.descriptions.any())
+        if self.call(f"describe {self.pick(30, 30, 30, 30, 31, 32, 29, 0)}"):
+            self.show_values()
+
+    def step_edit_lines(self):
+        """Lines put in and taken away, and what is then read."""
+        self.say_text(self.descriptions.joined(self.descriptions.sound()))
+        if self.often(0.1):
+            self.say(f"grow {self.pick(8190, 8192)}")
+        for _ in range(self.pick(1, 1, 2, 3)):
+            k, text = self.pick(0, 16, 17, *range(1, 16)), self.pick("", "01:9000", "05:a b  c", "07:", "12:5", "15:1", "no line")
+            self.say(self.pick(f"drop {k}", f"insert {k} {text}", f"swap {k} {text}", f"swap {k} {k:02d}:1", f"line {text}"))
+        self.case("packet")
+        self.call("describe 30")
+
+    def step_compose(self):
+        """A description read, some numbers altered, and written; what is written is read back."""
+        text = self.descriptions.joined(self.descriptions.sound())
+        self.say_text(text)
+        self.call("describe 30")
+        for _ in range(self.pick(0, 1, 1, 1, 2)):
+            i, n = self.descriptions.spoil_number(self.run.values, len(text))
+            self.say(f"value {i} {self.wrapped(n, 1 << 64)}")
+        if self.often(0.05):
+            self.say(f"value {self.pick(0, 28, 31, 32)} 1 2 3")
+        if self.often(0.1):
+            self.say(f"cut {self.below(len(text))}")
+        self.say(f"out {self.below(256)} {self.pick(1000, 1000, 1000, len(text), len(text) - 1, 0)}")
+        if self.call(f"compose {self.pick(30, 30, 30, 30, 30, 30, 29, 31, 0)}"):
+            self.case("out")
+            self.say(f"take {self.run.answer.value}")
+            self.call("describe 30")
+            self.show_values()
+
     def some_bytes_of_out(self):
         if len(self.run.out):
             at = self.below(min(len(self.run.out), 40))
@@ -372,7 +423,7 @@ class Writer:
     # ---- all together
 
     WEIGHTS = {"fresh": 3, "open": 16, "close": 3, "offer": 26, "offer_made": 7, "offer_noise": 3, "status": 5, "hand": 7, "complete": 6, "poke": 5,
-               "fill_slots": 3, "place": 6, "pack": 8, "pack_many": 1, "read": 9, "encode": 2, "repair": 4, "crc": 2}
+               "fill_slots": 3, "place": 6, "pack": 8, "pack_many": 1, "read": 9, "encode": 2, "repair": 4, "crc": 2, "describe": 12, "edit_lines": 2, "compose": 8}
 
     def look(self):
         """Now and then all that is at hand, or a part of it."""

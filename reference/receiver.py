@@ -1,16 +1,18 @@
-"""A second receiver and packer, written from documents 01, 001 and 000 alone, to compare with.
+"""A second receiver and packer, written from documents 01, 02, 001 and 000 alone, to compare with.
 
 It shares nothing with the library: no table, no code, and other methods where another is natural. Products and CRC go bit by bit, checks come from
-the matrix of the code, repair is by Euclid's algorithm, fields are cut from one long number, tables are filled by a plain loop. Plain on purpose."""
+the matrix of the code, repair is by Euclid's algorithm, fields are cut from one long number, tables are filled by a plain loop, lines of a
+description are taken by regular expressions, its texts and dates by the standard library. Plain on purpose."""
 
-import functools, itertools
+import datetime, functools, itertools, re
 
 LIMIT = 16_777_216
+REFUSALS = (*range(1, 27), 29, 30)
 GENERATOR = [1, 59, 13, 104, 189, 68, 209, 30, 8, 163, 65, 41, 229, 98, 50, 36, 59]
 
 
 class Refused(Exception):
-    """A refusal by its number (document 01, section 6), with the extra value where one is named."""
+    """A refusal by its number (document 01, section 6, and document 02), with the extra value where one is named."""
 
     def __init__(self, number, value=0):
         super().__init__(f"{number} {value}")
@@ -476,3 +478,121 @@ def undo_tables(sent, m, length):
     if any(whole[length:]):
         raise Refused(24)
     return bytes(whole[:length])
+
+
+# ---- description files, document 02, R-4, and 001, section 7.2. An attribute a line, by the line's number: a text as its bytes, a number, a time as
+# six numbers, or None where a number or a time is not given. Of the thirty numbers outside, each line has its share
+
+NUMBERS_OF_LINE = {1: 1, 2: 1, 3: 1, 4: 1, 5: 2, 6: 1, 7: 2, 8: 2, 9: 2, 10: 1, 11: 2, 12: 1, 13: 6, 14: 6, 15: 1}
+TEXTS, TIMES = (5, 7, 8, 9, 11), (13, 14)
+RANGES = {1: range(9000, 10000), 2: range(2), 3: range(1, 65536), 4: range(16), 15: range(2)}
+FILE_KINDS = {0, 1, 2, 3, 4, 21, 22, 23, 24, 41, 42, 43, 44, 61}
+STREAM_KINDS = {128, 129, 130, 131}
+TEXT_KIND, NO_CHARSET, NO_LENGTH, NO_TIME = 21, 255, 0, (0, 0, 0, 0, 0, 0)
+
+
+def is_text(data):
+    """Valid UTF-8 without CR or LF."""
+    try:
+        return not set("\r\n") & set(data.decode("utf-8"))
+    except UnicodeDecodeError:
+        return False
+
+
+def is_real(time):
+    """A Gregorian date of year 1 to 9999, and a time of day."""
+    try:
+        return bool(datetime.datetime(*time))
+    except (ValueError, OverflowError):
+        return False
+
+
+def stands(k, a):
+    """Whether attribute k can be what it is, beside those of the lines before it."""
+    it = a[k]
+    if k in TEXTS:
+        return it is not None and is_text(it) and (k != 5 or it != b"")
+    if k == 6:
+        return it in (FILE_KINDS if a[2] else STREAM_KINDS)
+    if k == 10:
+        return it in range(5) if a[6] == TEXT_KIND else it is None
+    if k == 12:
+        return it in range(1, LIMIT + 1) if a[2] else it is None
+    if k in TIMES:
+        return it is None or is_real(it) and (k == 13 or a[13] is None or a[13] <= it)
+    return it in RANGES[k]
+
+
+def time_read(value):
+    """A value that is no time gives one that is not real."""
+    found = re.fullmatch(rb"([0-9]{4})\.([0-9]{2})\.([0-9]{2})/([0-9]{2}):([0-9]{2}):([0-9]{2})", value)
+    return tuple(int(digits) for digits in found.groups()) if found else NO_TIME
+
+
+def number_read(value):
+    """A number as str writes it; -1, which stands nowhere, for what is none or has more than nine digits."""
+    return int(value) if re.fullmatch(rb"[0-9]{1,9}", value) and str(int(value)).encode() == value else -1
+
+
+def attribute_read(k, value):
+    if k in TEXTS:
+        return value
+    if value == b"":
+        return None
+    return time_read(value) if k in TIMES else number_read(value)
+
+
+def numbers_told(k, attribute, at):
+    """The numbers of line k, whose value stands at that position."""
+    if k in TEXTS:
+        return at, len(attribute)
+    if attribute is None:
+        return {10: (NO_CHARSET,), 12: (NO_LENGTH,)}.get(k, NO_TIME)
+    return attribute if k in TIMES else (attribute,)
+
+
+def read_description(text):
+    """The thirty numbers; refusals 29, 30."""
+    at, a, told = 0, {}, []
+    for k in NUMBERS_OF_LINE:
+        line = re.compile(rb"%02d:([^\r\n]*)\r?\n" % k).match(text, at)
+        if line:
+            a[k] = attribute_read(k, line[1])
+        if not line or not stands(k, a):
+            raise Refused(29, k)
+        told.extend(numbers_told(k, a[k], line.start(1)))
+        at = line.end()
+    if at < len(text):
+        raise Refused(30)
+    return told
+
+
+def attribute_given(k, numbers, text):
+    """The attribute of these numbers; None for a part that lies beyond the text, and as a text stands nowhere."""
+    if k in TEXTS:
+        at, length = numbers
+        return text[at : at + length] if at + length <= len(text) else None
+    if k in TIMES:
+        return None if numbers == NO_TIME else numbers
+    return None if numbers[0] == {10: NO_CHARSET, 12: NO_LENGTH}.get(k) else numbers[0]
+
+
+def attribute_written(k, attribute):
+    if k in TEXTS:
+        return attribute
+    if attribute is None:
+        return b""
+    return b"%04d.%02d.%02d/%02d:%02d:%02d" % attribute if k in TIMES else b"%d" % attribute
+
+
+def write_description(values, text):
+    """The description of thirty numbers whose texts are parts of this one; refusals 17, 29."""
+    if len(values) != 30:
+        raise Refused(17)
+    left, a, lines = iter(values), {}, []
+    for k, share in NUMBERS_OF_LINE.items():
+        a[k] = attribute_given(k, tuple(itertools.islice(left, share)), bytes(text))
+        if not stands(k, a):
+            raise Refused(29, k)
+        lines.append(b"%02d:%s\n" % (k, attribute_written(k, a[k])))
+    return b"".join(lines)

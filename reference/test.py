@@ -1,9 +1,9 @@
 #!/usr/bin/env python3
-"""The second program's own tests: published values of the CRC and of RS(255,239), the values of document 01, section 8, a second decoder
-beside the first, files sent and handed out, every refusal by a case written by hand, and that compare sees a changed byte.
-The last line says how many checks passed."""
+"""The second program's own tests: published values of the CRC, of RS(255,239) and of UTF-8, the values of document 01, section 8, a second decoder
+beside the first, files sent and handed out, descriptions read and written, every refusal by a case written by hand, and that compare sees a changed
+byte. The last line says how many checks passed."""
 
-import concurrent.futures, os, pathlib, random, subprocess, sys, tempfile, zlib
+import concurrent.futures, itertools, os, pathlib, random, re, subprocess, sys, tempfile, zlib
 
 import cases, random_cases
 import receiver as r
@@ -353,6 +353,183 @@ def test_files():
         send(settings(9, 2, 1, 0, 0, size), some(length), lambda p: p)
 
 
+# ---- description files
+
+DESCRIPTION = ["9001", "1", "300", "3", "forecast.txt", "21", "天气预报", "Rain in the north", "weather", "3", ".\\aaa\\ddd", "2048", "2024.02.29/06:30:00", "2024.03.01/06:30:00", "0"]
+NUMBERS = [9001, 1, 300, 3, 28, 12, 21, 50, 12, 66, 17, 87, 7, 3, 103, 9, 2048, 2024, 2, 29, 6, 30, 0, 2024, 3, 1, 6, 30, 0, 0]
+
+
+def described(values=DESCRIPTION, end="\n"):
+    """The text of fifteen values; one may be bytes."""
+    return b"".join(b"%02d:" % k + (v if isinstance(v, bytes) else v.encode()) + end.encode() for k, v in enumerate(values, 1))
+
+
+def with_line(k, value, values=DESCRIPTION):
+    return values[: k - 1] + [value] + values[k:]
+
+
+def is_taken(k, *values):
+    """Whether line k may have this value, and the lines behind it these; what else is wrong is a fault of the test."""
+    lines = DESCRIPTION
+    for i, value in enumerate(values):
+        lines = with_line(k + i, value, lines)
+    try:
+        return len(r.read_description(described(lines))) == 30
+    except r.Refused as no:
+        same(no.number == 29 and no.value in range(k, k + len(values)), True)
+        return False
+
+
+def test_descriptions():
+    text = described()
+    same(r.read_description(text), NUMBERS)
+    same(r.write_description(NUMBERS, text), text)
+    crlf = described(end="\r\n")
+    told = r.read_description(crlf)
+    same((told[:6], told[27:]), (NUMBERS[:4] + [32, 12], [30, 0, 0]))
+    same(r.write_description(told, crlf), text)
+    stream = described(["9999", "0", "65535", "15", "news", "128", "", "", "", "", "", "", "", "", "1"])
+    same(r.read_description(stream), [9999, 0, 65535, 15, 31, 4, 128, 46, 0, 50, 0, 54, 0, 255, 62, 0] + [0] * 13 + [1])
+    same(r.write_description(r.read_description(stream), stream), stream)
+    for k in range(1, 16):
+        lines = text.splitlines(keepends=True)
+        refused(29, k, r.read_description, b"".join(lines[: k - 1] + lines[k:]))
+        refused(29, k, r.read_description, b"".join(lines[: k - 1]) + lines[k - 1][:-1])
+        refused(*((29, k + 1) if k < 15 else (30, 0)), r.read_description, b"".join(lines[:k] + lines[k - 1 :]))
+    for extra in (b"\n", b"\r", b"\0", b"16:\n"):
+        refused(30, 0, r.read_description, text + extra)
+
+
+def test_numbers_of_lines():
+    """Every value of the small ranges, and the ends of the others; a number of thousands of digits ends nothing."""
+    taken = lambda k, numbers: [n for n in numbers if is_taken(k, str(n))]
+    same(taken(1, [0, 8999, 9000, 9999, 10000]), [9000, 9999])
+    same([taken(k, range(300)) for k in (4, 15)], [list(range(16)), [0, 1]])
+    same(taken(3, [0, 1, 65535, 65536]), [1, 65535])
+    same(taken(12, [0, 1, 16777216, 16777217, 10**40]), [1, 16777216])
+    same([n for n in range(300) if is_taken(2, str(n), "300", "3", "a", "22", "", "", "", "", "", "5")], [1])
+    same([n for n in range(300) if is_taken(2, str(n), "300", "3", "a", "129", "", "", "", "", "", "")], [0])
+    for k in (1, 2, 3, 4, 6, 10, 12, 15):
+        good = DESCRIPTION[k - 1]
+        same([v for v in ("", "0" + good, "+" + good, " " + good, good + " ", good + "\0", "9" * 5000, "0" * 5000) if is_taken(k, v)], [])
+
+
+def test_kinds():
+    """001, table 3, line by line: the kinds of files and of streams; what is between them is reserved."""
+    files = [0, 1, 2, 3, 4, *range(21, 25), *range(41, 45), 61]
+    same([n for n in range(300) if is_taken(6, str(n), "", "", "", "3" if n == 21 else "")], files)
+    stream = with_line(2, "0", with_line(12, ""))
+    same([n for n in range(300) if n in (128, 129, 130, 131)], [n for n in range(300) if reads(with_line(6, str(n), with_line(10, "", stream)))])
+    same([c for c in map(str, range(300)) if is_taken(10, c)], ["0", "1", "2", "3", "4"])
+    same([reads(with_line(6, "22", with_line(10, c))) for c in ("", "0", "3", "255")], [True, False, False, False])
+
+
+def reads(lines):
+    try:
+        return len(r.read_description(described(lines))) == 30
+    except r.Refused:
+        return False
+
+
+# Unicode, table 3-7: the well-formed sequences of bytes
+WELL_FORMED = [["00-7f"], ["c2-df", "80-bf"], ["e0-e0", "a0-bf", "80-bf"], ["e1-ec", "80-bf", "80-bf"], ["ed-ed", "80-9f", "80-bf"], ["ee-ef", "80-bf", "80-bf"],
+               ["f0-f0", "90-bf", "80-bf", "80-bf"], ["f1-f3", "80-bf", "80-bf", "80-bf"], ["f4-f4", "80-8f", "80-bf", "80-bf"]]
+
+
+SEQUENCES = re.compile("(?:%s)*" % "|".join("".join(r"[\x%s-\x%s]" % tuple(span.split("-")) for span in row) for row in WELL_FORMED))
+
+
+def by_table(data):
+    """By the table, with its bytes as letters; without CR and LF."""
+    return SEQUENCES.fullmatch(data.decode("latin-1")) is not None and not {10, 13} & set(data)
+
+
+def test_utf_8():
+    """RFC 3629, section 7; Unicode, tables 3-8 to 3-11, whose sequences are ill-formed; and the whole of table 3-7 at its edges."""
+    for good in ("41 e2 89 a2 ce 91 2e", "ed 95 9c ea b5 ad ec 96 b4", "e6 97 a5 e6 9c ac e8 aa 9e", "ef bb bf f0 a3 8e b4", "4d d0 b0 e4 ba 8c f0 90 8c 82", "00", "7f", ""):
+        same((r.is_text(bytes.fromhex(good)), by_table(bytes.fromhex(good))), (True, True))
+    for bad in ("c0 af", "e0 80 bf", "f0 81 82 41", "c0 af e0 80 bf f0 81 82 41", "ed a0 80 ed bf bf ed af 41", "f4 91 92 93 ff 41 80 bf 42", "e1 80 e2 f0 91 92 f1 bf 41", "c0 80", "ed a1 8c ed be b4"):
+        same((r.is_text(bytes.fromhex(bad)), by_table(bytes.fromhex(bad))), (False, False))
+    edges = [0x00, 0x0A, 0x0D, 0x41, 0x7F, 0x80, 0x8F, 0x90, 0x9F, 0xA0, 0xBF, 0xC0, 0xC1, 0xC2, 0xDF, 0xE0, 0xE1, 0xEC, 0xED, 0xEE, 0xEF, 0xF0, 0xF1, 0xF3, 0xF4, 0xF5, 0xFF]
+    behind = [0x41, 0x7F, 0x80, 0xBF, 0xC0]
+    for bytes_at in ([range(256)], [range(256)] * 2, [edges] * 3, [edges[14:], edges, behind, behind]):
+        same([d for d in map(bytes, itertools.product(*bytes_at)) if r.is_text(d) != by_table(d)], [])
+
+
+def test_texts_of_lines():
+    for k in (5, 7, 8, 9, 11):
+        same([is_taken(k, v) for v in ("a", ":", "\0", "\u2028", "天", " ", b"\xc0\x80", b"\xff", b"a\rb", b"\r\r")], [True] * 6 + [False] * 4)
+        same(is_taken(k, ""), k != 5)
+    refused(29, 8, r.read_description, described(with_line(7, "a\nb")))
+    refused(29, 1, r.read_description, b"\xef\xbb\xbf" + described())
+    same(r.read_description(described(with_line(7, b"abc\r")))[7:9], [50, 3])
+
+
+def days_of(year, month):
+    """By the rule: every fourth year is a leap year, except every hundredth, except every four hundredth."""
+    leap = year % 4 == 0 and (year % 100 != 0 or year % 400 == 0)
+    return {2: 29 if leap else 28, 4: 30, 6: 30, 9: 30, 11: 30}.get(month, 31) if 1 <= year <= 9999 and 1 <= month <= 12 else 0
+
+
+def test_dates():
+    for year in (0, 1, 4, 100, 400, 1582, 1600, 1700, 1900, 1996, 2000, 2023, 2024, 2100, 2400, 9999, 10000, 1 << 40):
+        for month in (*range(15), 1 << 64):
+            same([d for d in (*range(35), 256, 1 << 63) if r.is_real((year, month, d, 0, 0, 0))], list(range(1, days_of(year, month) + 1)))
+    same([t for t in itertools.product((0, 23, 24, 25), (0, 59, 60), (0, 59, 60, 61)) if r.is_real((2024, 2, 29, *t))], list(itertools.product((0, 23), (0, 59), (0, 59))))
+    for k in (13, 14):
+        good = "2024.02.29/23:59:59"
+        wrong = ["24.02.29/23:59:59", good + " ", good + "\0", "2024.2.29/23:59:59", "2024-02-29/23:59:59", "2024.02.29T23:59:59", "0000.00.00/00:00:00", "２024.02.29/23:59:59", "2023.02.29/00:00:00"]
+        same([v for v in wrong if is_taken(k, v)], [])
+        same(is_taken(k, ""), True)
+    same([is_taken(13, a, b) for a, b in (("2000.01.01/00:00:00", "2000.01.01/00:00:00"), ("2000.01.01/00:00:01", "2000.01.01/00:00:00"), ("1999.12.31/23:59:59", "2000.01.01/00:00:00"), ("2000.01.01/00:00:00", ""), ("", "0001.01.01/00:00:00"))],
+         [True, False, True, True, True])
+
+
+def refused_number(line, i, *values):
+    """Each of these as number i is a fault of that line."""
+    for v in values:
+        refused(29, line, r.write_description, NUMBERS[:i] + [v] + NUMBERS[i + 1 :], described())
+
+
+def test_written_numbers():
+    large = (1 << 32, (1 << 64) - 1)
+    for line, i, values in ((1, 0, (8999, 10000)), (2, 1, (2,)), (3, 2, (0, 65536)), (4, 3, (16,)), (6, 6, (5, 128, 255, 256)), (10, 13, (5, 254, 255, 256)), (12, 16, (0, 16777217)), (15, 29, (2,)),
+                            (13, 17, (0, 10000)), (13, 18, (0, 13)), (13, 19, (0, 30)), (13, 20, (24,)), (13, 21, (60,)), (13, 22, (60,)), (14, 23, (0, 2023, 10000)), (14, 24, (2, 13)), (14, 28, (60,))):
+        refused_number(line, i, *values, *large)
+    length = len(described())
+    for line, i in ((5, 4), (7, 7), (8, 9), (9, 11), (11, 14)):
+        refused_number(line, i, length, *large)
+        refused_number(line, i + 1, length, *large)
+        empty = NUMBERS[:i] + [length, 0] + NUMBERS[i + 2 :]
+        if line == 5:
+            refused(29, 5, r.write_description, empty, described())
+        else:
+            same(r.write_description(empty, described()), described(with_line(line, "")))
+        refused(29, line, r.write_description, NUMBERS[:i] + [length + 1, 0] + NUMBERS[i + 2 :], described())
+        refused(29, line, r.write_description, NUMBERS[:i] + [0, 8] + NUMBERS[i + 2 :], described())
+    for count in (0, 29, 31):
+        refused(17, 0, r.write_description, (NUMBERS + [0])[:count], b"")
+    same(r.write_description(NUMBERS[:17] + [0] * 13, described()), described(with_line(13, "", with_line(14, ""))))
+
+
+def test_read_back():
+    """What is written reads back as the same attributes, and is written again as the same text."""
+    random_ones = random_cases.Descriptions(RANDOM)
+    for _ in range(300):
+        text = random_ones.joined(random_ones.sound())
+        told = r.read_description(text)
+        written = r.write_description(told, text)
+        same(written, text.replace(b"\r\n", b"\n"))
+        again = r.read_description(written)
+        same([attributes(told, text), r.write_description(again, written)], [attributes(again, written), written])
+
+
+def attributes(told, text):
+    """The numbers, with the bytes of each text in place of its part."""
+    parts = (4, 7, 9, 11, 14)
+    return [text[n : n + told[i + 1]] if i in parts else n for i, n in enumerate(told) if i - 1 not in parts]
+
+
 # ---- the language of cases
 
 # every refusal in turn, what is expected written by hand
@@ -532,6 +709,47 @@ case last accepted 19
 file 1 0
 pack 0
 case nothing-to-pack refused 23
+# descriptions: 29, 30, 26, 17
+cut 0
+line 01:9000
+line 02:0
+line 03:1
+line 04:0
+line 05:news of the day
+line 06:131
+line 07:
+line 08:
+line 09:
+line 10:
+line 11:
+line 12:
+line 13:
+line 14:
+line 15:0
+describe 30
+case stream-described accepted
+out 170 45
+show-values
+case stream-name-part bytes 32 00 00 00 00 00 00 00 1a 00 00 00 00 00
+out 170 86
+compose 30
+case composed accepted 86
+out 170 85
+compose 30
+case composed-into-too-little refused 26
+compose 29
+case composed-of-29 refused 17
+value 29 2
+compose 30
+case composed-with-a-wrong-mark refused 29 15
+describe 29
+case described-into-too-little refused 26
+line 16:
+describe 30
+case described-with-more refused 30
+swap 3 03:0
+describe 29
+case described-with-a-fault refused 29 3
 """
 
 
@@ -539,7 +757,7 @@ def test_every_refusal():
     lines = EVERY.split("\n")
     out = cases.checked(lines)
     same([line for line in out[:-1] if line.endswith(" wrong")], [])
-    same({n for n in range(1, 27) if any(f" got refused {n} " in line for line in out)}, set(range(1, 27)))
+    same({n for n in range(100) if any(f" got refused {n} " in line for line in out)}, set(r.REFUSALS))
     same(cases.computed(lines), out)
     spoilt = [line.replace("refused", "accepted") for line in lines]
     same(cases.computed(spoilt), out)
@@ -571,6 +789,14 @@ def test_commands():
     same(at_hand("out", "held 128", "place 0 65541 257 2 3 1 5 255 9", "show-held 0 16").hex(), "05000102030000000105ff0009000000")
     same(at_hand("out", "store 3 5", "show-store 3 9"), b"\3\3")
     same(at_hand("out", "out 3 2", "nonsense 5", "file_put 1 00"), b"\3\3")
+    same(at_hand("bytes", "line", "line ", "line a  b ", "bytes 41", "line c", "line caf\xe9"), b"Ac\ncaf\xe9\n")
+    lines = ["line a", "line b", "line c", "cut 5"]
+    same([at_hand("bytes", *lines, edit) for edit in ("drop 0", "drop 1", "drop 2", "drop 3", "drop 4")], [b"b\nc"] * 2 + [b"a\nc", b"a\nb\n", b"a\nb\nc"])
+    same([at_hand("bytes", *lines, f"insert {k} d e") for k in range(5)], [b"d e\na\nb\nc"] * 2 + [b"a\nd e\nb\nc", b"a\nb\nd e\nc", b"a\nb\ncd e\n"])
+    same([at_hand("bytes", *lines, edit) for edit in ("swap 2 d", "swap 3 d", "swap 9 d", "swap 1")], [b"a\nd\nc", b"a\nb\nd\n", b"a\nb\ncd\n", b"\nb\nc"])
+    same([len(at_hand("bytes", "fill 97 8191", edit)) for edit in ("line b", "insert 1 b", "swap 1 b")], [8192, 8192, 2])
+    same(at_hand("out", "out 9 20", "value 1 5 18446744073709551617", "value 31 1 2", "value 32 7", "value 2", "show-values"), bytes(15) + b"\5" + bytes(4))
+    same(at_hand("out", "out 9 257", "value 1 5 18446744073709551617", "value 31 258", "show-values"), bytes(15) + b"\5" + bytes(7) + b"\1" + bytes(230) + b"\1\2\x09")
 
 
 def test_damage():
@@ -597,7 +823,11 @@ def test_send():
 
 def test_random_files():
     lines = random_cases.written(3, 2000)
-    same([n for n in range(1, 27) if not any(f" refused {n} " in line + " " for line in lines)], [])
+    same([n for n in r.REFUSALS if not any(f" refused {n} " in line + " " for line in lines)], [])
+    for call in ("describe", "compose"):
+        answers = {answer.split(" ", 2)[2] for line, answer in zip(lines, lines[1:]) if line.startswith(call + " ")}
+        same({f"refused 29 {k}" for k in range(1, 16)} <= answers, True)
+        same({"describe": "refused 30", "compose": "refused 17"}[call] in answers and "refused 26" in answers, True)
     lines = random_cases.written(4, 200)
     same(random_cases.written(4, 200), lines)
     same(cases.checked(lines)[-1].endswith(" cases, 0 wrong"), True)

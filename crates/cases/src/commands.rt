@@ -27,54 +27,70 @@ pub(crate) const SEAL: u8 = 11;
 
 pub(crate) const DAMAGE: u8 = 12;
 
-pub(crate) const OUT: u8 = 13;
+pub(crate) const LINE: u8 = 13;
 
-pub(crate) const STORE: u8 = 14;
+pub(crate) const INSERT: u8 = 14;
 
-pub(crate) const POKE: u8 = 15;
+pub(crate) const DROP: u8 = 15;
 
-pub(crate) const HELD: u8 = 16;
+pub(crate) const SWAP: u8 = 16;
 
-pub(crate) const PLACE: u8 = 17;
+pub(crate) const OUT: u8 = 17;
 
-pub(crate) const SETTINGS: u8 = 18;
+pub(crate) const STORE: u8 = 18;
 
-pub(crate) const SHOW_HELD: u8 = 19;
+pub(crate) const POKE: u8 = 19;
 
-pub(crate) const SHOW_STORE: u8 = 20;
+pub(crate) const HELD: u8 = 20;
 
-pub(crate) const CRC: u8 = 21;
+pub(crate) const PLACE: u8 = 21;
 
-pub(crate) const ENCODE: u8 = 22;
+pub(crate) const SETTINGS: u8 = 22;
 
-pub(crate) const REPAIR: u8 = 23;
+pub(crate) const SHOW_HELD: u8 = 23;
 
-pub(crate) const READ: u8 = 24;
+pub(crate) const SHOW_STORE: u8 = 24;
 
-pub(crate) const PACK: u8 = 25;
+pub(crate) const VALUE: u8 = 25;
 
-pub(crate) const PACK_HOUSE: u8 = 26;
+pub(crate) const SHOW_VALUES: u8 = 26;
 
-pub(crate) const OPEN: u8 = 27;
+pub(crate) const DESCRIBE: u8 = 27;
 
-pub(crate) const OPEN_HOUSE: u8 = 28;
+pub(crate) const COMPOSE: u8 = 28;
 
-pub(crate) const OFFER: u8 = 29;
+pub(crate) const CRC: u8 = 29;
 
-pub(crate) const STATUS: u8 = 30;
+pub(crate) const ENCODE: u8 = 30;
 
-pub(crate) const HAND: u8 = 31;
+pub(crate) const REPAIR: u8 = 31;
 
-pub(crate) const CLOSE: u8 = 32;
+pub(crate) const READ: u8 = 32;
 
-pub(crate) const SEND: u8 = 33;
+pub(crate) const PACK: u8 = 33;
 
-pub(crate) const CASE: u8 = 34;
+pub(crate) const PACK_HOUSE: u8 = 34;
+
+pub(crate) const OPEN: u8 = 35;
+
+pub(crate) const OPEN_HOUSE: u8 = 36;
+
+pub(crate) const OFFER: u8 = 37;
+
+pub(crate) const STATUS: u8 = 38;
+
+pub(crate) const HAND: u8 = 39;
+
+pub(crate) const CLOSE: u8 = 40;
+
+pub(crate) const SEND: u8 = 41;
+
+pub(crate) const CASE: u8 = 42;
 
 // The command that a line names; a number above all of these if it names none.
 pub(crate) fn command_of(line: &[u8]) -> u8 {
     words::order(
         words::word(line, 0),
-        b"file file-put bytes random fill put flip cut grow take append seal damage out store poke held place settings show-held show-store crc encode repair read pack pack-house open open-house offer status hand close send case",
+        b"file file-put bytes random fill put flip cut grow take append seal damage line insert drop swap out store poke held place settings show-held show-store value show-values describe compose crc encode repair read pack pack-house open open-house offer status hand close send case",
     )
 }

@@ -6,9 +6,11 @@ use settings::Settings;
 
 mod calls;
 mod commands;
+mod describing;
 mod digests;
 mod generator;
 mod judging;
+mod lines;
 mod memory;
 mod setting;
 mod transmission;
@@ -109,6 +111,24 @@ fn call(
     )
 }
 
+// What a line does with description files.
+fn describe(
+    command: u8,
+    line: &[u8],
+    bytes: &[u8],
+    out: &mut [u8],
+    values: &mut [u64],
+    s: State,
+) -> State {
+    let l = s.lengths;
+    let b = memory::fit(l.bytes, bytes);
+    let o = memory::fit(l.out, out);
+    let mut next = s;
+    let answer = describing::obey(command, line, &bytes[..b], &mut out[..o], values, s.answer);
+    next.answer = answer;
+    next
+}
+
 // What a line judges.
 fn judge(
     command: u8,
@@ -166,11 +186,13 @@ fn obey(
     store: &mut [u8],
     bytes: &mut [u8],
     out: &mut [u8],
+    values: &mut [u64],
     s: State,
 ) -> State {
     let command = commands::command_of(line);
     let next = set(command, line, file, held, store, bytes, out, s);
-    act(command, line, file, held, store, bytes, out, next)
+    let described = describe(command, line, bytes, out, values, next);
+    act(command, line, file, held, store, bytes, out, described)
 }
 
 // All lines of the first n bytes of the text.
@@ -182,6 +204,7 @@ fn run(
     store: &mut [u8],
     bytes: &mut [u8],
     out: &mut [u8],
+    values: &mut [u64],
 ) -> Tally {
     let size = memory::fit(n, text);
     let lines = &text[..size];
@@ -191,7 +214,16 @@ fn run(
         let end = words::next(lines, at, b'\n');
         let from = at;
         at = words::after(lines, at, end);
-        state = obey(&lines[from..end], file, held, store, bytes, out, state);
+        state = obey(
+            &lines[from..end],
+            file,
+            held,
+            store,
+            bytes,
+            out,
+            values,
+            state,
+        );
     }
     state.tally
 }
@@ -204,9 +236,10 @@ fn run_input(
     store: &mut [u8; 262144],
     bytes: &mut [u8; 8192],
     out: &mut [u8; 131072],
+    values: &mut [u64; 32],
 ) -> Tally {
     let n = io::read_full(0, text);
-    run(text, n, file, held, store, bytes, out)
+    run(text, n, file, held, store, bytes, out, values)
 }
 
 fn main() {
@@ -216,6 +249,7 @@ fn main() {
     let mut store = [0u8; 262144];
     let mut bytes = [0u8; 8192];
     let mut out = [0u8; 131072];
+    let mut values = [0u64; 32];
     let tally = run_input(
         &mut text,
         &mut file,
@@ -223,6 +257,7 @@ fn main() {
         &mut store,
         &mut bytes,
         &mut out,
+        &mut values,
     );
     io::print_decimal(1, tally.cases);
     io::write_all(1, b" cases, ");

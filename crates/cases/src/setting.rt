@@ -1,6 +1,7 @@
 // The commands that set what is at hand. Each `set_` function knows the commands for one thing, leaves it alone under any other, and answers its length.
 use crate::commands;
 use crate::generator;
+use crate::lines;
 use crate::memory;
 use crate::words;
 use settings::Settings;
@@ -147,11 +148,8 @@ fn grow(line: &[u8], bytes: &mut [u8], length: usize) -> usize {
 
 // The first bytes of the output, as many as word 1 says, behind those that are there.
 fn append(line: &[u8], bytes: &mut [u8], length: usize, out: &[u8], size: usize) -> usize {
-    let from = memory::fit(length, bytes);
     let n = memory::fit(memory::least(words::number(line, 1) as usize, size), out);
-    let to = from + memory::least(n, bytes.len() - from);
-    memory::copy(&out[..n], &mut bytes[from..to]);
-    to
+    memory::put(&out[..n], bytes, length)
 }
 
 // The CRC of the bytes before the last four, in the last four.
@@ -215,6 +213,12 @@ pub(crate) fn set_bytes(
     }
     if command == commands::APPEND {
         return append(line, bytes, l.bytes, out, l.out);
+    }
+    if command == commands::LINE {
+        return lines::insert(words::rest(line, 0), bytes, l.bytes, l.bytes);
+    }
+    if commands::LINE < command && command <= commands::SWAP {
+        return lines::edit(command, line, bytes, l.bytes);
     }
     let n = memory::fit(l.bytes, bytes);
     alter(command, line, &mut bytes[..n]);

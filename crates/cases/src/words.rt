@@ -50,10 +50,18 @@ pub(crate) fn word(line: &[u8], k: u8) -> &[u8] {
     &line[from..to]
 }
 
-// Which of the names it is, counted from 0; 40 if it is none of the first 40.
+// All that stands behind word k, as it stands.
+pub(crate) fn rest(line: &[u8], k: u8) -> &[u8]
+    requires { ⌜ k < 8 ⌝ }
+{
+    let from = start(line, k + 1);
+    &line[from..]
+}
+
+// Which of the names it is, counted from 0; 50 if it is none of the first 50.
 pub(crate) fn order(name: &[u8], names: &[u8]) -> u8 {
     let mut k: u8 = 0;
-    while k < 40 {
+    while k < 50 {
         if check::same(word(names, k), name) {
             return k;
         }

@@ -1,4 +1,4 @@
--- Forty turns.
+-- Fifty turns.
 use Prim.Native.Nat.{_-_}
 use native.Mathlib.Omega.{arith}
 use Rattle.cases.proofs.words.order.Statement.{statement}
@@ -8,7 +8,7 @@ abbrev Inv-loop : tie.InvT-loop
 Inv-loop name names k₀ k = Unit {0}
 
 abbrev μ-loop : tie.MeasureT-loop
-μ-loop name names k₀ k = 40 - k
+μ-loop name names k₀ k = 50 - k
 
 loop-holds : tie.Need-loop-holds Inv-loop μ-loop
 loop-holds c = tt
