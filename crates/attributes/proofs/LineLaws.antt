@@ -9,6 +9,7 @@ use borrow.Author.Tests.{eqb-true, leb-true, ltb-true, ltb-false, eq-eqb, ne-eqb
 use lib.Dec.{eqb, leb, ltb}
 use lib.ListN.{length, getD, take, drop, length-append, length-drop, List·getD-append}
 use lib.Seq.{drop-drop, take-at, drop-at, length-take-le, getD-drop}
+use Rattle.ground.proofs.Truth.{and-both}
 use Rattle.words.specs.Words.{same}
 use Rattle.words.proofs.SameLaws.{same-self, same-equal}
 use Rattle.texts.specs.Breaks.{LF, CR, untilLf, unbroken}
@@ -17,10 +18,6 @@ use Rattle.attributes.specs.declared.Part.{Part}
 use Rattle.attributes.specs.Attributes.{partOf}
 use Rattle.attributes.specs.Lines.{label, linesText, isLine, withoutCr, valueAt, behindLine, Found, alone, before, linesFrom}
 use Rattle.attributes.specs.Describe.{nowhere}
-
-and-both : (a b : Bool) → (a && b) ≡ true → (a ≡ true) × (b ≡ true)
-and-both true b e = (refl, e)
-and-both false b e = absurd (true≢false (sym e))
 
 -- ---- values without CR or LF
 

@@ -9,11 +9,11 @@ use borrow.Author.Tests.{eqb-true, leb-true, ltb-true}
 use lib.Dec.{eqb, leb, ltb}
 use lib.ListN.{length, getD, take, drop, take-append-drop}
 use lib.Seq.{drop-drop, take-suc}
+use Rattle.ground.proofs.Truth.{and-both}
 use Rattle.words.specs.Words.{same}
 use Rattle.words.proofs.SameLaws.{same-equal}
 use Rattle.texts.specs.Breaks.{LF, CR, untilLf, unbroken}
 use Rattle.texts.proofs.BreakLaws.{unbroken-by, until-lf-part}
-use Rattle.calendar.proofs.RangeLaws.{and-both}
 use Rattle.attributes.specs.declared.Part.{Part}
 use Rattle.attributes.specs.Attributes.{partOf}
 use Rattle.attributes.specs.Lines.{label, linesText, isLine, withoutCr, valueAt, behindLine, Found, alone, before, linesFrom}

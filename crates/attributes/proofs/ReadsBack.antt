@@ -10,6 +10,7 @@ use borrow.Author.Tests.{eqb-true, leb-true, leb-false, ltb-true, ltb-false, eq-
 use lib.Dec.{eqb, leb, ltb}
 use lib.ListN.{length, getD, take, drop}
 use lib.Seq.{sets, take-at}
+use Rattle.ground.proofs.Truth.{and-join}
 use Rattle.ground.proofs.Writing.{sets-front}
 use Rattle.ground.proofs.Listed.{le-or-lt}
 use Rattle.content.specs.declared.Content.the-variants.{File, Stream, Reserved}
@@ -21,15 +22,16 @@ use Rattle.decimal.proofs.NumberLaws.{number-digits}
 use Rattle.calendar.specs.declared.Time.{Time}
 use Rattle.calendar.specs.Range.{RealTime}
 use Rattle.calendar.specs.Written.{timeText, timeIn}
-use Rattle.calendar.proofs.RangeLaws.{and-join, range-real}
+use Rattle.calendar.proofs.RangeLaws.{range-real}
 use Rattle.calendar.proofs.WrittenLaws.{time-long, time-written}
 use Rattle.refusals.specs.declared.Refusal.the-variants.{Line, Output}
+use Rattle.calendar.specs.Calendar.{noTime, notGiven}
 use Rattle.attributes.specs.declared.Part.{Part}
 use Rattle.attributes.specs.declared.Description.{Description}
 use Rattle.attributes.specs.declared.Described.the-variants as described
 use Rattle.attributes.specs.declared.Composed.{Composed}
 use Rattle.attributes.specs.declared.Composed.the-variants.{Text, Refused}
-use Rattle.attributes.specs.Attributes.{Attributes, attributesOf, partOf, noCharset, noSize, noTime, notGiven, optionalText, timeValue, values}
+use Rattle.attributes.specs.Attributes.{Attributes, attributesOf, partOf, noCharset, noSize, optionalText, timeValue, values}
 use Rattle.attributes.specs.Rules.{rulesOf, inside, placed, rules, both, lowest}
 use Rattle.attributes.specs.Lines.{linesText, linesFrom, linesOf, Found}
 use Rattle.attributes.specs.Describe.{nowhere, optionalIn, givenTime, descriptionIn, lower, faultOf, describeOf}
@@ -134,7 +136,7 @@ module _ (a : Attributes) (r : InRange a) where
   unfolding textOf values
   part-inside i h =
       let b = parts-inside 1 0 i (values a) h in
-      and-join (leb (getD ps i nowhere .at) (length w)) (leb (getD ps i nowhere .length) (length w - getD ps i nowhere .at))
+      and-join
       (le-leb (getD ps i nowhere .at) (length w) (omega arith))
       (le-leb (getD ps i nowhere .length) (length w - getD ps i nowhere .at) (omega arith))
 
@@ -193,8 +195,8 @@ accepted t d out n e = by (leb (lowest (rules t d)) 15) (ltb (length out) (lengt
         (cond c (record { answer = Refused Output; out = out }) (record { answer = Text (length x); out = sets out 0 x }))
 
     by : (b c : Bool) → leb (lowest (rules t d)) 15 ≡ b → ltb (length out) (length x) ≡ c → composeOf t d out ≡ outcome b c → Accepted t d out n
-    by true c f g h = let z : _≡_ {A = ℕ} 0 1 = cc (ap (λ (w : Writing). w .answer) h) in absurd (omega arith)
-    by false true f g h = let z : _≡_ {A = ℕ} 0 1 = cc (ap (λ (w : Writing). w .answer) h) in absurd (omega arith)
+    by true c f g h = let z : _≡_ {A = ℕ} 0 1 = cc in absurd (omega arith)
+    by false true f g h = let z : _≡_ {A = ℕ} 0 1 = cc in absurd (omega arith)
     by false false f g h =
         let m : n ≡ length x = cc in
         let l = ltb-false (length out) (length x) g in

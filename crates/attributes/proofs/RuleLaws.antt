@@ -10,6 +10,8 @@ use borrow.Author.Tests.{eqb-true, eqb-false, leb-true}
 use lib.Dec.{eqb, leb}
 use lib.ListN.{length, getD}
 use Rattle.ground.specs.Ranges.{between}
+use Rattle.ground.proofs.Truth.{and-both, either}
+use Rattle.ground.proofs.RangeLaws.{between-bounds}
 use Rattle.words.proofs.SameLaws.{same-equal}
 use Rattle.texts.specs.Utf8.{wellFormed}
 use Rattle.texts.specs.Breaks.{unbroken}
@@ -20,12 +22,12 @@ use Rattle.content.specs.declared.Content.{Content}
 use Rattle.content.specs.declared.Content.the-variants.{File, Stream, Reserved}
 use Rattle.content.specs.Content.{contentOf}
 use Rattle.calendar.specs.declared.Time.{Time}
-use Rattle.calendar.specs.Calendar.{fields, real, notAfter}
+use Rattle.calendar.specs.Calendar.{fields, real, notAfter, noTime, notGiven}
 use Rattle.calendar.specs.Range.{RealTime}
 use Rattle.calendar.specs.Written.{timeText}
-use Rattle.calendar.proofs.RangeLaws.{and-both, between-bounds, real-range}
+use Rattle.calendar.proofs.RangeLaws.{real-range}
 use Rattle.calendar.proofs.WrittenLaws.{time-long, time-bytes}
-use Rattle.attributes.specs.Attributes.{Attributes, noCharset, noSize, noTime, notGiven, optionalText, timeValue, values}
+use Rattle.attributes.specs.Attributes.{Attributes, noCharset, noSize, optionalText, timeValue, values}
 use Rattle.attributes.specs.Rules.{isText, fitsMode, timeFits, ordered, rulesOf, both, lowest}
 use Rattle.attributes.specs.Statements.{InRange}
 use Rattle.attributes.proofs.LineLaws.{allUnbroken}
@@ -77,10 +79,6 @@ both-join (x ∷ xs) (y ∷ ys) (suc i) e f = both-join xs ys i e f
 
 -- ---- each rule as a fact
 
-or-either : (a b : Bool) → (a || b) ≡ true → (a ≡ true) ⊎ (b ≡ true)
-or-either true b e = inl refl
-or-either false b e = inr e
-
 -- a time of zeros is not given
 pub not-given : (t : Time) → notGiven t ≡ true → t ≡ noTime
 not-given t e =
@@ -95,14 +93,14 @@ not-given t e =
     }
 
 time-fact : (t : Time) → timeFits t ≡ true → (t ≡ noTime) ⊎ RealTime t
-time-fact t e = by (or-either (notGiven t) (real t) e)
+time-fact t e = by (either (notGiven t) (real t) e)
   where
     by : (notGiven t ≡ true) ⊎ (real t ≡ true) → (t ≡ noTime) ⊎ RealTime t
     by (inl g) = inl (not-given t g)
     by (inr r) = inr (real-range t r)
 
 order-fact : (a b : Time) → ordered a b ≡ true → (a ≡ noTime) ⊎ ((b ≡ noTime) ⊎ (notAfter a b ≡ true))
-order-fact a b e = by (or-either (notGiven a) (notGiven b || notAfter a b) e)
+order-fact a b e = by (either (notGiven a) (notGiven b || notAfter a b) e)
   where
     then : (notGiven b ≡ true) ⊎ (notAfter a b ≡ true) → (b ≡ noTime) ⊎ (notAfter a b ≡ true)
     then (inl g) = inl (not-given b g)
@@ -110,7 +108,7 @@ order-fact a b e = by (or-either (notGiven a) (notGiven b || notAfter a b) e)
 
     by : (notGiven a ≡ true) ⊎ ((notGiven b || notAfter a b) ≡ true) → (a ≡ noTime) ⊎ ((b ≡ noTime) ⊎ (notAfter a b ≡ true))
     by (inl g) = inl (not-given a g)
-    by (inr r) = inr (then (or-either (notGiven b) (notAfter a b) r))
+    by (inr r) = inr (then (either (notGiven b) (notAfter a b) r))
 
 kind-fact : (c : Content) (mode : ℕ) → fitsMode c mode ≡ true → ((c ≡ File) × (mode ≡ 1)) ⊎ ((c ≡ Stream) × (mode ≡ 0))
 kind-fact File mode e = inl (refl, eqb-true mode 1 e)

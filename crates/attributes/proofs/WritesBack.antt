@@ -15,14 +15,14 @@ use Rattle.ground.proofs.Listed.{length-listed, getD-listed-0}
 use Rattle.decimal.specs.Decimal.{digits, numberIn, noNumber}
 use Rattle.decimal.proofs.NumberLaws.{digits-back}
 use Rattle.calendar.specs.declared.Time.{Time}
-use Rattle.calendar.specs.Calendar.{real}
+use Rattle.calendar.specs.Calendar.{real, noTime, notGiven}
 use Rattle.calendar.specs.Range.{RealTime}
 use Rattle.calendar.specs.Written.{timeText, timeIn, wrongTime}
 use Rattle.calendar.proofs.RangeLaws.{real-range}
 use Rattle.calendar.proofs.WrittenLaws.{written-time, time-real}
 use Rattle.attributes.specs.declared.Part.{Part}
 use Rattle.attributes.specs.declared.Description.{Description}
-use Rattle.attributes.specs.Attributes.{Attributes, attributesOf, partOf, noCharset, noSize, noTime, notGiven, optionalText, timeValue, values}
+use Rattle.attributes.specs.Attributes.{Attributes, attributesOf, partOf, noCharset, noSize, optionalText, timeValue, values}
 use Rattle.attributes.specs.Lines.{linesText, linesFrom, linesOf, Found}
 use Rattle.attributes.specs.Describe.{nowhere, optionalIn, givenTime, descriptionIn}
 use Rattle.attributes.specs.Compose.{textOf}

@@ -5,10 +5,9 @@ use mathlib.Core.List.{List, [], _∷_}
 use Prim.Native.Nat.{ℕ}
 use lib.Dec.{eqb}
 use lib.ListN.{length, take, drop}
-use Rattle.words.specs.Words.{same}
 use Rattle.decimal.specs.Decimal.{digits}
 use Rattle.calendar.specs.declared.Time.{Time}
-use Rattle.calendar.specs.Calendar.{fields}
+use Rattle.calendar.specs.Calendar.{notGiven}
 use Rattle.calendar.specs.Written.{timeText}
 use Rattle.attributes.specs.declared.Part.{Part}
 use Rattle.attributes.specs.declared.Description.{Description}
@@ -31,18 +30,12 @@ pub record Attributes : Type 0 where
   pub ends : Time
   pub delete : ℕ
 
--- what stands for an attribute that is not given
+-- what stands for a number that is not given; for a time it is `noTime` (crate calendar)
 abbrev pub noCharset : ℕ
 noCharset = 255
 
 abbrev pub noSize : ℕ
 noSize = 0
-
-abbrev pub noTime : Time
-noTime = record { year = 0; month = 0; day = 0; hour = 0; minute = 0; second = 0 }
-
-abbrev pub notGiven : Time → Bool
-notGiven t = same (fields t) (fields noTime)
 
 -- the bytes of a part
 abbrev pub partOf : List ℕ → Part → List ℕ

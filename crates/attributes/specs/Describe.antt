@@ -9,11 +9,12 @@ use Rattle.decimal.specs.Decimal.{numberIn, noNumber}
 use Rattle.calendar.specs.declared.Time.{Time}
 use Rattle.calendar.specs.Written.{timeIn}
 use Rattle.refusals.specs.declared.Refusal.the-variants.{Line, Extra}
+use Rattle.calendar.specs.Calendar.{noTime}
 use Rattle.attributes.specs.declared.Part.{Part}
 use Rattle.attributes.specs.declared.Description.{Description}
 use Rattle.attributes.specs.declared.Described.{Described}
 use Rattle.attributes.specs.declared.Described.the-variants.{«Attributes», Refused}
-use Rattle.attributes.specs.Attributes.{noCharset, noSize, noTime, partOf}
+use Rattle.attributes.specs.Attributes.{noCharset, noSize, partOf}
 use Rattle.attributes.specs.Rules.{rules, lowest}
 use Rattle.attributes.specs.Lines.{Found, linesOf}
 

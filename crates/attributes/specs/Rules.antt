@@ -12,10 +12,10 @@ use Rattle.content.specs.declared.Content.{Content}
 use Rattle.content.specs.declared.Content.the-variants.{File, Stream, Reserved}
 use Rattle.content.specs.Content.{contentOf}
 use Rattle.calendar.specs.declared.Time.{Time}
-use Rattle.calendar.specs.Calendar.{real, notAfter}
+use Rattle.calendar.specs.Calendar.{real, notAfter, notGiven}
 use Rattle.attributes.specs.declared.Part.{Part}
 use Rattle.attributes.specs.declared.Description.{Description}
-use Rattle.attributes.specs.Attributes.{Attributes, attributesOf, noCharset, noSize, notGiven}
+use Rattle.attributes.specs.Attributes.{Attributes, attributesOf, noCharset, noSize}
 
 -- valid UTF-8 without CR or LF
 abbrev pub isText : List ℕ → Bool

@@ -12,12 +12,12 @@ use Rattle.refusals.specs.declared.Refusal.the-variants.{Line, Extra}
 use Rattle.content.specs.declared.Content.the-variants.{File, Stream}
 use Rattle.content.specs.Content.{contentOf}
 use Rattle.calendar.specs.declared.Time.{Time}
-use Rattle.calendar.specs.Calendar.{notAfter}
+use Rattle.calendar.specs.Calendar.{notAfter, noTime}
 use Rattle.calendar.specs.Range.{RealTime}
 use Rattle.attributes.specs.declared.Description.{Description}
 use Rattle.attributes.specs.declared.Described.the-variants as described
 use Rattle.attributes.specs.declared.Composed.the-variants as composed
-use Rattle.attributes.specs.Attributes.{Attributes, attributesOf, noCharset, noSize, noTime}
+use Rattle.attributes.specs.Attributes.{Attributes, attributesOf, noCharset, noSize}
 use Rattle.attributes.specs.Rules.{isText, rules}
 use Rattle.attributes.specs.Lines.{linesOf}
 use Rattle.attributes.specs.Describe.{descriptionIn, describeOf}

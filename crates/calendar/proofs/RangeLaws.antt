@@ -1,30 +1,18 @@
 -- Of a real time: its bounds, and back. And that no month has more than 31 days.
 -- Assumes nothing.
-use mathlib.Core.Path.{_≡_, refl, sym}
-use mathlib.Core.Bool.{Bool, true, false, cond, true≢false, _&&_, _||_}
+use mathlib.Core.Path.{_≡_, refl}
+use mathlib.Core.Bool.{Bool, true, false, cond, _||_}
 use Prim.Native.Nat.{ℕ, _≤_}
 use native.Mathlib.Omega.{arith}
 use borrow.Author.Tests.{leb-true, le-leb}
 use lib.Dec.{eqb, leb}
 use Rattle.ground.specs.Ranges.{between}
+use Rattle.ground.proofs.Truth.{and-both, and-join}
+use Rattle.ground.proofs.RangeLaws.{between-bounds, bounds-between}
 use Rattle.calendar.specs.declared.Time.{Time}
 use Rattle.calendar.specs.Calendar.{leap, daysIn, real}
 use Rattle.calendar.specs.Range.{RealTime}
 use Rattle.calendar.specs.Written.{wrongTime}
-
-pub and-both : (a b : Bool) → (a && b) ≡ true → (a ≡ true) × (b ≡ true)
-and-both true b e = (refl, e)
-and-both false b e = absurd (true≢false (sym e))
-
-pub and-join : (a b : Bool) → a ≡ true → b ≡ true → (a && b) ≡ true
-and-join true b e f = f
-and-join false b e f = e
-
-pub between-bounds : (low high n : ℕ) → between low high n ≡ true → (low ≤ n) × (n ≤ high)
-between-bounds low high n e = let w = and-both (leb low n) (leb n high) e in (leb-true low n (w .0), leb-true n high (w .1))
-
-pub bounds-between : (low high n : ℕ) → low ≤ n → n ≤ high → between low high n ≡ true
-bounds-between low high n l h = and-join (leb low n) (leb n high) (le-leb low n l) (le-leb n high h)
 
 pub days-most : (y m : ℕ) → daysIn y m ≤ 31
 unfolding daysIn
@@ -62,12 +50,12 @@ real-range t e =
 pub range-real : (t : Time) → RealTime t → real t ≡ true
 unfolding real
 range-real t r =
-    and-join (between 1 9999 (t .year)) _ (bounds-between 1 9999 (t .year) (r .year-first) (r .year-last))
-    (and-join (between 1 12 (t .month)) _ (bounds-between 1 12 (t .month) (r .month-first) (r .month-last))
-    (and-join (between 1 (daysIn (t .year) (t .month)) (t .day)) _
+    and-join (bounds-between 1 9999 (t .year) (r .year-first) (r .year-last))
+    (and-join (bounds-between 1 12 (t .month) (r .month-first) (r .month-last))
+    (and-join
     (bounds-between 1 (daysIn (t .year) (t .month)) (t .day) (r .day-first) (r .day-last))
-    (and-join (leb (t .hour) 23) _ (le-leb (t .hour) 23 (r .hour-last))
-    (and-join (leb (t .minute) 59) (leb (t .second) 59) (le-leb (t .minute) 59 (r .minute-last)) (le-leb (t .second) 59 (r .second-last))))))
+    (and-join (le-leb (t .hour) 23 (r .hour-last))
+    (and-join (le-leb (t .minute) 59 (r .minute-last)) (le-leb (t .second) 59 (r .second-last))))))
 
 pub wrong-not-real : real wrongTime ≡ false
 unfolding real

@@ -16,7 +16,9 @@ use Rattle.calendar.specs.declared.Time.{Time}
 use Rattle.calendar.specs.Calendar.{daysIn, real}
 use Rattle.calendar.specs.Range.{RealTime}
 use Rattle.calendar.specs.Written.{two, timeText, form, formed, twoAt, timeAt, wrongTime, timeIn}
-use Rattle.calendar.proofs.RangeLaws.{and-both, and-join, between-bounds, bounds-between, days-most, real-range, wrong-not-real}
+use Rattle.ground.proofs.Truth.{and-both, and-join}
+use Rattle.ground.proofs.RangeLaws.{between-bounds, bounds-between}
+use Rattle.calendar.proofs.RangeLaws.{days-most, real-range, wrong-not-real}
 
 -- ---- what is written
 
@@ -87,7 +89,7 @@ text-at t r =
 -- what is read from bytes of the form
 pub read-real : (v : List ℕ) → formed form v ≡ true → real (timeAt v) ≡ true → timeIn v ≡ timeAt v
 unfolding timeIn
-read-real v f r = ap (λ (b : Bool). cond b (timeAt v) wrongTime) (and-join (formed form v) (real (timeAt v)) f r)
+read-real v f r = ap (λ (b : Bool). cond b (timeAt v) wrongTime) (and-join f r)
 
 pub time-written : (t : Time) → real t ≡ true → timeIn (timeText t) ≡ t
 time-written t e =

@@ -5,6 +5,7 @@ use mathlib.Core.List.{List, [], _∷_}
 use Prim.Native.Nat.{ℕ, _%_}
 use lib.Dec.{eqb, leb, ltb}
 use Rattle.ground.specs.Ranges.{between}
+use Rattle.words.specs.Words.{same}
 use Rattle.calendar.specs.declared.Time.{Time}
 
 -- every fourth year, of the centuries every fourth
@@ -26,6 +27,13 @@ real t =
 -- year, month, day, hour, minute, second
 abbrev pub fields : Time → List ℕ
 fields t = (t .year) ∷ (t .month) ∷ (t .day) ∷ (t .hour) ∷ (t .minute) ∷ (t .second) ∷ []
+
+-- a time that is not given is told by zeros, which are no date
+abbrev pub noTime : Time
+noTime = record { year = 0; month = 0; day = 0; hour = 0; minute = 0; second = 0 }
+
+abbrev pub notGiven : Time → Bool
+notGiven t = same (fields t) (fields noTime)
 
 -- the first field in which two differ decides; the same are not after each other
 abbrev pub notAfterBy : List ℕ → List ℕ → Bool

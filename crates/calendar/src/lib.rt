@@ -4,9 +4,10 @@ ghost use mathlib.Core.Path.{_≡_};
 ghost use Prim.Native.Nat.{_+_, _-_, _/_, _%_, _<_};
 ghost use lib.Dec.{eqb};
 ghost use lib.ListN.{length};
-ghost use Rattle.ground.specs.Ranges.{between, isDigit};
-ghost use Rattle.calendar.specs.Calendar.{leap, daysIn, real, notAfter};
+ghost use Rattle.ground.specs.Ranges.{isDigit};
+ghost use Rattle.calendar.specs.Calendar.{leap, daysIn, real, notGiven, notAfter};
 ghost use Rattle.calendar.specs.Written.{timeText, form, formed, twoAt, timeAt, timeIn};
+use words::within;
 
 // A date and a time of day, real or not.
 pub struct Time {
@@ -32,7 +33,7 @@ fn leap(year: u64) -> bool
 }
 
 // The days of a month.
-pub fn days_in(year: u64, month: u64) -> u64
+fn days_in(year: u64, month: u64) -> u64
     ensures { λ r. ⌜ r ≡ daysIn year month ⌝ }
 {
     if month == 2 {
@@ -45,13 +46,6 @@ pub fn days_in(year: u64, month: u64) -> u64
         return 30;
     }
     31
-}
-
-// Whether a number lies between two, both of them allowed.
-fn within(low: u64, high: u64, n: u64) -> bool
-    ensures { λ r. ⌜ r ≡ between low high n ⌝ }
-{
-    low <= n && n <= high
 }
 
 // Whether it is a date of the calendar, from year 1 to 9999, with a time of day.
@@ -74,6 +68,14 @@ pub fn is_real(t: Time) -> bool
         return false;
     }
     t.second <= 59
+}
+
+// Whether a time is not given: all its numbers are 0.
+pub fn not_given(t: Time) -> bool
+    ensures { λ r. ⌜ r ≡ notGiven t ⌝ }
+{
+    (t.year == 0)
+        & ((t.month == 0) & ((t.day == 0) & ((t.hour == 0) & ((t.minute == 0) & (t.second == 0)))))
 }
 
 // Whether `a` is not after `b`.

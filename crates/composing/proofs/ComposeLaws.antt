@@ -1,27 +1,25 @@
 -- The lines that are written are those of the attributes, and what writing answers in each of its three cases. Assumes nothing.
 use mathlib.Core.Path.{_≡_, refl, sym, ap, ap₂, _∙_}
-use mathlib.Core.Bool.{Bool, true, false, true≢false, cond, _&&_}
+use mathlib.Core.Bool.{Bool, true, false, true≢false, _&&_}
 use mathlib.Core.List.{List, [], _∷_, _++_, append-assoc, append-nil, map}
 use Prim.Native.Nat.{ℕ, zero, suc, _+_, _-_, _<_, _≤_}
 use native.Mathlib.Numerals.{add-one}
 use native.Mathlib.Omega.{arith}
 use borrow.Author.Tests.{leb-true, le-leb, lt-leb}
 use lib.Dec.{leb, ltb}
-use lib.ListN.{length, getD, take, drop, length-append}
+use lib.ListN.{length, getD, length-append}
 use lib.Seq.{sets}
-use Rattle.texts.specs.Breaks.{LF}
 use Rattle.decimal.specs.Decimal.{digits}
-use Rattle.calendar.proofs.RangeLaws.{and-both}
+use Rattle.ground.proofs.Truth.{and-both}
 use Rattle.refusals.specs.declared.Refusal.the-variants.{Line, Output}
 use Rattle.attributes.specs.declared.Part.{Part}
 use Rattle.attributes.specs.declared.Description.{Description}
-use Rattle.attributes.specs.declared.Composed.{Composed}
 use Rattle.attributes.specs.declared.Composed.the-variants.{Text, Refused}
 use Rattle.attributes.specs.Attributes.{attributesOf, partOf, noCharset, noSize, optionalText, timeValue, values}
 use Rattle.attributes.specs.Rules.{inside, placed, rulesOf, rules, lowest}
-use Rattle.attributes.specs.Lines.{label, linesText}
+use Rattle.attributes.specs.Lines.{linesText}
 use Rattle.attributes.specs.Describe.{nowhere}
-use Rattle.attributes.specs.Compose.{textOf, Writing, composeOf}
+use Rattle.attributes.specs.Compose.{textOf, composeOf}
 use Rattle.attributes.proofs.RuleLaws.{both-all, lowest-before}
 use Rattle.composing.specs.Inner.{Piece, own, pieces, pieceOf, lineOf, sizeOf, linesBy, sizeBy, lies, Placed}
 use Rattle.composing.proofs.LineLaws.{fifteen, line-long}

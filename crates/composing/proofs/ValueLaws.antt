@@ -1,12 +1,11 @@
 -- The values of the lines as the code holds them, at the front of nineteen bytes. Assumes nothing.
-use mathlib.Core.Path.{_≡_, refl, sym, ap, subst, _∙_}
+use mathlib.Core.Path.{_≡_, sym, ap, subst, _∙_}
 use mathlib.Core.Bool.{Bool, true, false, cond}
-use mathlib.Core.List.{List, [], _∷_, _++_, append-assoc}
-use Prim.Native.Nat.{ℕ, suc, _+_, _-_, _<_, _≤_}
+use mathlib.Core.List.{List, [], _++_, append-assoc}
+use Prim.Native.Nat.{ℕ, suc, _+_, _-_, _≤_}
 use native.Mathlib.Omega.{arith}
 use borrow.Author.Tests.{eq-eqb, ne-eqb}
-use lib.Dec.{eqb}
-use lib.ListN.{length, getD, take, drop, replicate, length-append, length-replicate}
+use lib.ListN.{length, take, drop, replicate, length-append, length-replicate}
 use lib.Seq.{sets, take-at, take-all}
 use Rattle.ground.proofs.Writing.{sets-front}
 use Rattle.decimal.specs.Decimal.{digits}
@@ -14,11 +13,12 @@ use Rattle.decimal.proofs.DigitLaws.{digits-long}
 use Rattle.calendar.specs.declared.Time.{Time}
 use Rattle.calendar.specs.Written.{timeText}
 use Rattle.calendar.proofs.WrittenLaws.{time-long}
+use Rattle.calendar.specs.Calendar.{notGiven}
 use Rattle.attributes.specs.declared.Description.{Description}
-use Rattle.attributes.specs.Attributes.{notGiven, optionalText, timeValue}
+use Rattle.attributes.specs.Attributes.{optionalText, timeValue}
 use Rattle.attributes.specs.Describe.{nowhere}
 use Rattle.composing.specs.declared.Value.{Value}
-use Rattle.composing.specs.Inner.{own, lent, pieces, pieceOf, Holds}
+use Rattle.composing.specs.Inner.{own, lent, pieceOf, Holds}
 
 -- the digits lie in eight bytes, which are written over the first of nineteen
 pub number-holds : (n k : ℕ) (eight zeros bytes : List ℕ) → k ≡ length (digits n) → eight ≡ digits n ++ replicate (8 - length (digits n)) 0

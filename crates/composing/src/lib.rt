@@ -5,7 +5,7 @@ ghost use lib.Dec.{ltb};
 ghost use lib.ListN.{length};
 ghost use lib.Seq.{sets};
 ghost use Rattle.decimal.specs.Decimal.{digits};
-ghost use Rattle.attributes.specs.Attributes.{notGiven, optionalText, timeValue};
+ghost use Rattle.attributes.specs.Attributes.{optionalText, timeValue};
 ghost use Rattle.attributes.specs.Lines.{label};
 ghost use Rattle.attributes.specs.Compose.{composeOf};
 ghost use Rattle.composing.specs.Inner.{own, lent, pieces, pieceOf, pieceIn, Holds, lineOf, linesBy, sizeBy, lies, Placed};
@@ -13,11 +13,17 @@ use attributes::Composed;
 use attributes::Description;
 use attributes::Part;
 use calendar::Time;
+use calendar::not_given;
 use calendar::time_text;
 use decimal::digits_of;
 use judging::lowest_fault;
 use refusals::Refusal;
 use words::copy_in;
+
+// What stands for a charset and a size that are not given.
+const NO_CHARSET: u64 = 255;
+
+const NO_SIZE: u64 = 0;
 
 // A line's value: at most nineteen bytes at the front of `bytes`, then a part of the text. One of the two has no bytes.
 struct Value {
@@ -62,14 +68,6 @@ fn optional(none: u64, n: u64) -> Value
     number(n)
 }
 
-// Whether a time is not given.
-fn not_given(t: Time) -> bool
-    ensures { λ r. ⌜ r ≡ notGiven t ⌝ }
-{
-    (t.year == 0)
-        & ((t.month == 0) & ((t.day == 0) & ((t.hour == 0) & ((t.minute == 0) & (t.second == 0)))))
-}
-
 // A time's nineteen bytes, none where it is not given.
 fn time(t: Time) -> Value
     ensures { λ r. ⌜ Holds (own (timeValue t)) r ⌝ }
@@ -85,7 +83,7 @@ fn time(t: Time) -> Value
     }
 }
 
-// The value of line k.
+// The value of line k, the first counted 0.
 fn value_of(d: Description, k: usize) -> Value
     requires { ⌜ k < 15 ⌝ }
     ensures { λ r. ⌜ Holds (pieceOf d k) r ⌝ }
@@ -100,9 +98,9 @@ fn value_of(d: Description, k: usize) -> Value
         6 => text_part(d.title),
         7 => text_part(d.summary),
         8 => text_part(d.keywords),
-        9 => optional(255, d.charset),
+        9 => optional(NO_CHARSET, d.charset),
         10 => text_part(d.path),
-        11 => optional(0, d.size),
+        11 => optional(NO_SIZE, d.size),
         12 => time(d.begins),
         13 => time(d.ends),
         _ => number(d.delete),

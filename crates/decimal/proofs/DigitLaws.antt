@@ -11,6 +11,8 @@ use borrow.Author.Tests.{lt-ltb, le-ltb, le-leb, leb-true}
 use lib.Dec.{leb}
 use lib.ListN.{length, getD, length-append, List·getD-append}
 use Rattle.ground.proofs.Numbers.{lt-or-ge}
+use Rattle.ground.proofs.Truth.{and-both}
+use Rattle.ground.proofs.RangeLaws.{between-bounds, bounds-between}
 use Rattle.ground.specs.Ranges.{isDigit}
 use Rattle.decimal.specs.Decimal.{allDigits, digitsBy, digits}
 
@@ -64,15 +66,11 @@ digits-count j n low high h = sym (by-count j 7 n low high h)
 
 -- ---- each a digit of ASCII
 
-pub and-both : (a b : Bool) → (a && b) ≡ true → (a ≡ true) × (b ≡ true)
-and-both true b e = (refl, e)
-and-both false b e = absurd (true≢false (sym e))
-
 pub digit-yes : (b : ℕ) → 48 ≤ b → b ≤ 57 → isDigit b ≡ true
-digit-yes b l h = rw (le-leb 48 b l, le-leb b 57 h)
+digit-yes b l h = bounds-between 48 57 b l h
 
 pub digit-range : (b : ℕ) → isDigit b ≡ true → (48 ≤ b) × (b ≤ 57)
-digit-range b e = let p = and-both (leb 48 b) (leb b 57) e in (leb-true 48 b (p .0), leb-true b 57 (p .1))
+digit-range b e = between-bounds 48 57 b e
 
 all-last : (s : List ℕ) (b : ℕ) → allDigits s ≡ true → isDigit b ≡ true → allDigits (s ++ (b ∷ [])) ≡ true
 all-last [] b a e = rw e

@@ -12,8 +12,9 @@ use lib.Dec.{leb, eqb}
 use lib.ListN.{length, getD}
 use Rattle.ground.proofs.Numbers.{lt-or-ge}
 use Rattle.ground.specs.Ranges.{between, isDigit}
+use Rattle.ground.proofs.Truth.{and-both}
 use Rattle.decimal.specs.Decimal.{allDigits, isNumber, valueFrom, numberIn, digitsBy, digits}
-use Rattle.decimal.proofs.DigitLaws.{and-both, by-one, by-more, digit-range, digits-long, digits-some, digits-all, digits-first}
+use Rattle.decimal.proofs.DigitLaws.{by-one, by-more, digit-range, digits-long, digits-some, digits-all, digits-first}
 
 -- ---- a number by its parts
 pub record Number (v : List ℕ) : Type 0 where

@@ -12,8 +12,9 @@ use lib.Dec.{leb, eqb}
 use lib.ListN.{length, getD, drop, drop-of-length-le}
 use lib.Seq.{drop-cons}
 use Rattle.ground.specs.Ranges.{between, isDigit}
+use Rattle.ground.proofs.Truth.{and-both}
 use Rattle.decimal.specs.Decimal.{allDigits, isNumber, valueFrom, numberIn}
-use Rattle.decimal.proofs.DigitLaws.{and-both, digit-yes}
+use Rattle.decimal.proofs.DigitLaws.{digit-yes}
 use Rattle.decimal.proofs.NumberLaws.{number-value, number-none}
 
 -- ---- counting

@@ -15,7 +15,7 @@ use Rattle.decimal.specs.Decimal.{numberIn, noNumber}
 use Rattle.calendar.specs.declared.Time.{Time}
 use Rattle.calendar.specs.Written.{timeIn}
 use Rattle.texts.specs.Breaks.{CR}
-use Rattle.attributes.specs.Attributes.{noTime}
+use Rattle.calendar.specs.Calendar.{noTime}
 use Rattle.attributes.specs.Lines.{label, withoutCr}
 use Rattle.attributes.specs.Describe.{optionalIn, givenTime}
 

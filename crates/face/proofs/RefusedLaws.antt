@@ -44,13 +44,13 @@ use Rattle.face.proofs.LayoutLaws.{bytes-again}
 
 -- ---- what is said of the definitions is said of every result that a contract allows
 
-abbrev SaidKept : Said → List ℕ → Type 0
+abbrev pub SaidKept : Said → List ℕ → Type 0
 SaidKept p out = (numberIn (p .answer) ≡ 0 → ⊥) → p .output ≡ out
 
 abbrev AllKept : Kept → List ℕ → List ℕ → Type 0
 AllKept p h s = (numberIn (p .answer) ≡ 0 → ⊥) → (p .held ≡ h) × (p .store ≡ s)
 
-output-kept : (p : Said) (out : List ℕ) → SaidKept p out → OutputKept p out
+pub output-kept : (p : Said) (out : List ℕ) → SaidKept p out → OutputKept p out
 output-kept p out k r left s d = s .leaves ∙ k (λ e. d (ap numberIn (s .answers) ∙ e))
 
 record-kept : (p : Kept) (h s : List ℕ) → AllKept p h s → RecordKept p h s
@@ -68,7 +68,7 @@ put-kept b out = by (ltb (length out) (length b))
     by true d = refl
     by false d = absurd (d refl)
 
-put-if-kept : (t : Told) (b out : List ℕ) → SaidKept (putsIf t b out) out
+pub put-if-kept : (t : Told) (b out : List ℕ) → SaidKept (putsIf t b out) out
 unfolding putsIf
 put-if-kept t b out = by (eqb (t .number) 0)
   where

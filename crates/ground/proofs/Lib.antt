@@ -1,4 +1,6 @@
 pub mod Numbers
+pub mod Truth
+pub mod RangeLaws
 pub mod Sums
 pub mod Sweep
 pub mod OneResult

@@ -5,12 +5,14 @@ ghost use lib.Dec.{eqb, leb};
 ghost use lib.ListN.{length};
 ghost use Rattle.ground.specs.Ranges.{between};
 ghost use Rattle.content.specs.Content.{contentOf};
-ghost use Rattle.attributes.specs.Attributes.{partOf, notGiven};
+ghost use Rattle.attributes.specs.Attributes.{partOf};
 ghost use Rattle.attributes.specs.Rules.{isText, fitsMode, timeFits, ordered, inside, rules, lowest};
 use attributes::Description;
 use attributes::Part;
 use calendar::Time;
+use calendar::not_given;
 use content::Content;
+use words::within;
 
 // What stands for a charset and a size that are not given.
 const NO_CHARSET: u64 = 255;
@@ -19,13 +21,6 @@ const NO_SIZE: u64 = 0;
 
 // The kind of texts, the only one that has a charset.
 const TEXT: u64 = 21;
-
-// Whether a number lies between two, both of them allowed.
-fn within(low: u64, high: u64, n: u64) -> bool
-    ensures { λ r. ⌜ r ≡ between low high n ⌝ }
-{
-    (low <= n) & (n <= high)
-}
 
 // Whether a number that is asked for lies between two; one that is not asked for must be `none`.
 fn given_where(asked: bool, low: u64, high: u64, none: u64, n: u64) -> bool
@@ -69,26 +64,18 @@ fn kind_fits(kind: u64, mode: u64) -> bool
     }
 }
 
-// Whether a time is not given.
-fn left_out(t: Time) -> bool
-    ensures { λ r. ⌜ r ≡ notGiven t ⌝ }
-{
-    (t.year == 0)
-        & ((t.month == 0) & ((t.day == 0) & ((t.hour == 0) & ((t.minute == 0) & (t.second == 0)))))
-}
-
 // Whether a time is left out or real.
 fn time_fits(t: Time) -> bool
     ensures { λ r. ⌜ r ≡ timeFits t ⌝ }
 {
-    left_out(t) | calendar::is_real(t)
+    not_given(t) | calendar::is_real(t)
 }
 
 // Whether a validity may end so: at no time, or at a real one that the start is not after.
 fn end_fits(begins: Time, ends: Time) -> bool
     ensures { λ r. ⌜ r ≡ (timeFits ends && ordered begins ends) ⌝ }
 {
-    time_fits(ends) & (left_out(begins) | (left_out(ends) | calendar::not_after(begins, ends)))
+    time_fits(ends) & (not_given(begins) | (not_given(ends) | calendar::not_after(begins, ends)))
 }
 
 // Whether each of the fifteen lines may hold its attribute.

@@ -1,1 +1,3 @@
 pub mod ListingLaws
+pub mod RefusedLaws
+pub mod Apart

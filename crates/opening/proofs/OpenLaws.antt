@@ -23,7 +23,7 @@ use Rattle.places.proofs.Facts.{usable-limit, usable-within}
 use Rattle.places.proofs.Holders.{unused-at, unused-none, named-new, named-other}
 use Rattle.places.proofs.Named.{names-yes}
 use Rattle.places.proofs.Opened.{placed-end, opened-good}
-use Rattle.places.proofs.Truth.{and-both}
+use Rattle.ground.proofs.Truth.{and-both}
 use Rattle.places.proofs.Starts.{Free, free-is, clear-apart, lowest-free, lowest-least, lowest-none, none-lowest}
 use Rattle.contents.specs.Slots.{cleared}
 use Rattle.contents.specs.Contents.{holding, contents}

@@ -9,7 +9,7 @@ use borrow.Author.Tests.{eq-eqb, ne-eqb, le-leb, lt-leb, leb-true, leb-false, eq
 use lib.Dec.{eqb, leb}
 use Rattle.places.specs.declared.Place.{Place}
 use Rattle.places.specs.Places.{inUse, endOf, meets, agree}
-use Rattle.places.proofs.Truth.{differ, either, neither, or-right}
+use Rattle.ground.proofs.Truth.{differ, either, neither, or-right}
 
 eqb-sym : (a b : ℕ) → eqb a b ≡ eqb b a
 eqb-sym a b = by (eqb a b) refl

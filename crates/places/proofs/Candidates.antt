@@ -14,7 +14,7 @@ use Rattle.places.specs.declared.Place.{Place}
 use Rattle.places.specs.declared.Found.the-variants.{At, Nothing}
 use Rattle.places.specs.Places.{unused, inUse, usable, endOf, all}
 use Rattle.places.specs.Room.{clear, free, lowestStart}
-use Rattle.places.proofs.Truth.{differ, neither, fails}
+use Rattle.ground.proofs.Truth.{differ, neither, fails}
 use Rattle.places.proofs.Starts.{clear-apart, free-is, free-lowest, none-lowest}
 
 -- a place that is met at t and not at t + 1 is in use and ends at t + 1

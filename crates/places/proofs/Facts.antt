@@ -15,7 +15,7 @@ use Rattle.settings.proofs.Laws.{SettingsFacts, settings-facts}
 use Rattle.places.specs.declared.Place.{Place}
 use Rattle.places.specs.declared.Found.the-variants.{At}
 use Rattle.places.specs.Places.{unused, inUse, names, usable, endOf, settingsIn, countFits, rangesFit, fits, good, placeNamed}
-use Rattle.places.proofs.Truth.{and-both}
+use Rattle.ground.proofs.Truth.{and-both}
 use Rattle.places.proofs.Searches.{first-is}
 use Rattle.places.proofs.Named.{names-in-use, names-resource}
 use Rattle.places.proofs.Agreeing.{agree-apart, agree-other}

@@ -11,7 +11,7 @@ use lib.Seq.{getD-set-same, getD-set-other}
 use Rattle.places.specs.declared.Place.{Place}
 use Rattle.places.specs.declared.Found.the-variants.{At, Nothing}
 use Rattle.places.specs.Places.{unused, inUse, names, good, placeNamed, firstUnused}
-use Rattle.places.proofs.Truth.{fails}
+use Rattle.ground.proofs.Truth.{fails}
 use Rattle.places.proofs.Searches.{first-is, none-passes, first-none, first-only, first-set}
 use Rattle.places.proofs.Named.{names-no, names-unused, names-one}
 use Rattle.places.proofs.Keeping.{at-set}

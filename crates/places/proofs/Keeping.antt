@@ -11,7 +11,7 @@ use lib.ListN.{length, getD, drop, set, length-set}
 use lib.Seq.{getD-set-same, getD-set-other}
 use Rattle.places.specs.declared.Place.{Place}
 use Rattle.places.specs.Places.{unused, freshRecord, inUse, usable, endOf, all, rangesFit, agree, fits, good}
-use Rattle.places.proofs.Truth.{and-both, and-join}
+use Rattle.ground.proofs.Truth.{and-both, and-join}
 use Rattle.places.proofs.Steps.{all-at, all-of, good-yes}
 use Rattle.places.proofs.Agreeing.{agree-sym, agree-left}
 

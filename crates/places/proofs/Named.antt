@@ -6,7 +6,7 @@ use Prim.Native.Nat.{ℕ}
 use borrow.Author.Tests.{eq-eqb, ne-eqb, eqb-true, eqb-false, not-true}
 use Rattle.places.specs.declared.Place.{Place}
 use Rattle.places.specs.Places.{inUse, names}
-use Rattle.places.proofs.Truth.{and-both, and-join, not-yes, not-no, fails}
+use Rattle.ground.proofs.Truth.{and-both, and-join, not-yes, not-no, fails}
 
 -- a place is in use exactly if its resource is not 0
 pub use-not : (p : Place) → inUse p ≡ true → p .resource ≡ 0 → ⊥

@@ -16,7 +16,7 @@ use Rattle.places.specs.declared.Place.{Place}
 use Rattle.places.specs.declared.Found.the-variants.{At, Nothing}
 use Rattle.places.specs.Places.{unused, freshRecord, inUse, names, usable, coverOf, endOf, settingsIn, placeOf, countFits, rangesFit, fits, agree, good, placeNamed}
 use Rattle.places.specs.Room.{clear, free, lowestStart}
-use Rattle.places.proofs.Truth.{differ, and-join, or-right, fails}
+use Rattle.ground.proofs.Truth.{differ, and-join, or-right, fails}
 use Rattle.places.proofs.Named.{in-use, names-yes}
 use Rattle.places.proofs.Agreeing.{agree-right, agree-before, agree-behind}
 use Rattle.places.proofs.Keeping.{good-set}

@@ -13,7 +13,7 @@ use Rattle.places.specs.declared.Place.{Place}
 use Rattle.places.specs.declared.Found.the-variants.{At, Nothing}
 use Rattle.places.specs.Places.{unused, inUse, usable, endOf, all}
 use Rattle.places.specs.Room.{clear, free, lowestFrom, lowestStart}
-use Rattle.places.proofs.Truth.{differ, and-both, and-join, either, fails}
+use Rattle.ground.proofs.Truth.{differ, and-both, and-join, either, fails}
 use Rattle.places.proofs.Steps.{all-at, all-of}
 
 -- ---- the first number at which a test passes

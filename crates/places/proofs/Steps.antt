@@ -11,7 +11,7 @@ use lib.Seq.{drop-cons}
 use Rattle.places.specs.declared.Place.{Place}
 use Rattle.places.specs.declared.Found.the-variants.{At, Nothing}
 use Rattle.places.specs.Places.{unused, all, agree, fits, good, firstFrom}
-use Rattle.places.proofs.Truth.{and-both, and-join}
+use Rattle.ground.proofs.Truth.{and-both, and-join}
 
 -- the length of an array of structs, from what owning it tells: `search (needs, mapped-length)`
 pub mapped-length : (X Y : Type 0) (f : X → Y) (l : List X) (n : ℕ) → length (map f l) ≡ n → length l ≡ n

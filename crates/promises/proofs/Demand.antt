@@ -24,7 +24,7 @@ use Rattle.pack.proofs.Laws.{fieldsOf}
 use Rattle.places.specs.declared.Place.{Place}
 use Rattle.places.specs.declared.Found.the-variants.{At, Nothing}
 use Rattle.places.specs.Places.{unused, good, placeNamed, placeOf}
-use Rattle.places.proofs.Truth.{and-both}
+use Rattle.ground.proofs.Truth.{and-both}
 use Rattle.contents.specs.Contents.{Slot as Content, wrong, holding, contents}
 use Rattle.contents.proofs.Places.{length-contents}
 use Rattle.opening.specs.Open.{Plan, refuse, take as taken, planOf, carriedOut, Opening, openOf}

@@ -16,7 +16,7 @@ use Rattle.packet.proofs.Laws.{SentFacts}
 use Rattle.pack.specs.Pack.{countOf, payloadOf, packetOf}
 use Rattle.pack.proofs.Laws.{fieldsOf, packet-payload, packet-front, packet-crc, packet-sent, packet-reads, payload-most, payload-coded}
 use Rattle.places.specs.Places.{placeOf}
-use Rattle.places.proofs.Truth.{and-join}
+use Rattle.ground.proofs.Truth.{and-join}
 use Rattle.record.specs.Mend.{payloadIn}
 use Rattle.sealing.specs.Sealing.{crcIn, agrees}
 use Rattle.record.specs.Offer.{put, judge, differs}

@@ -14,7 +14,7 @@ use Rattle.settings.specs.declared.Settings.{Settings}
 use Rattle.pack.specs.Pack.{countOf, payloadOf}
 use Rattle.pack.proofs.Laws.{fieldsOf, rows-positive, sent-coded, joined-payloads}
 use Rattle.places.specs.Places.{placeOf}
-use Rattle.places.proofs.Truth.{differ}
+use Rattle.ground.proofs.Truth.{differ}
 use Rattle.record.specs.Offer.{judge}
 use Rattle.promises.specs.Calls.{Call, names}
 use Rattle.promises.specs.Calls.Call.{offering}

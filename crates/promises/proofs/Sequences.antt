@@ -18,7 +18,7 @@ use Rattle.places.specs.declared.Record.{Record}
 use Rattle.places.specs.declared.Found.{Found}
 use Rattle.places.specs.declared.Found.the-variants.{At, Nothing}
 use Rattle.places.specs.Places.{unused, good, placeNamed, placeOf}
-use Rattle.places.proofs.Truth.{differ, and-both}
+use Rattle.ground.proofs.Truth.{differ, and-both}
 use Rattle.contents.specs.Contents.{contents}
 use Rattle.opening.specs.declared.Kept.{Kept as Record-kept}
 use Rattle.opening.specs.Open.{Plan, refuse, take, planOf, carriedOut, Opening, openOf, closedAt, closeOf}

@@ -21,7 +21,7 @@ use Rattle.places.specs.declared.Place.{Place}
 use Rattle.places.specs.declared.Found.{Found}
 use Rattle.places.specs.declared.Found.the-variants.{At, Nothing}
 use Rattle.places.specs.Places.{unused, inUse, names as holds, good, endOf, placeNamed}
-use Rattle.places.proofs.Truth.{differ, fails}
+use Rattle.ground.proofs.Truth.{differ, fails}
 use Rattle.places.proofs.Searches.{first-only}
 use Rattle.places.proofs.Named.{names-in-use}
 use Rattle.places.proofs.Facts.{named-facts, good-apart, one-holder}

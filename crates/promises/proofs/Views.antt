@@ -12,7 +12,7 @@ use Rattle.places.specs.declared.Record.{Record}
 use Rattle.places.specs.declared.Found.{Found}
 use Rattle.places.specs.declared.Found.the-variants.{At, Nothing}
 use Rattle.places.specs.Places.{unused, inUse, good, placeNamed}
-use Rattle.places.proofs.Truth.{differ, and-join}
+use Rattle.ground.proofs.Truth.{differ, and-join}
 use Rattle.places.proofs.Named.{names-in-use, names-resource}
 use Rattle.places.proofs.Holders.{found-names, unused-at}
 use Rattle.contents.specs.Contents.{contents}

@@ -17,7 +17,7 @@ use Rattle.packet.specs.declared.Reading.the-variants.{Sent, Refused}
 use Rattle.packet.specs.Packet.{resourceIn, fieldsIn, marked, badProtection, badNumber, badRows, judged, readOf}
 use Rattle.packet.proofs.Laws.{resource-in}
 use Rattle.places.specs.declared.Place.{Place}
-use Rattle.places.proofs.Truth.{neither}
+use Rattle.ground.proofs.Truth.{neither}
 use Rattle.places.proofs.Facts.{PlaceFacts}
 use Rattle.contents.specs.Contents.{slotAt}
 use Rattle.contents.proofs.Slots.{slot-within}

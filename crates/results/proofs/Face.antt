@@ -54,3 +54,9 @@ bh-hand-out-one κs a r s d e p q = (equation (p .answers) (q .answers), after 4
 
 pub bh-close-one : OneResult brithelva.bh_close.ended brithelva.bh_close.Reads.Learnt
 bh-close-one κs a r s d e p q = (equation (p .answers) (q .answers), lent (equation (p .holds) (q .holds)) refl)
+
+pub bh-read-description-one : OneResult brithelva.bh_read_description.ended brithelva.bh_read_description.Reads.Learnt
+bh-read-description-one κs a r s d e p q = (equation (p .answers) (q .answers), after 1 (lent (equation (p .leaves) (q .leaves)) refl))
+
+pub bh-write-description-one : OneResult brithelva.bh_write_description.ended brithelva.bh_write_description.Reads.Learnt
+bh-write-description-one κs a r s d e p q = (equation (p .answers) (q .answers), after 2 (lent (equation (p .leaves) (q .leaves)) refl))

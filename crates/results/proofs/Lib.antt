@@ -23,5 +23,6 @@ pub mod Record
 pub mod Standing
 pub mod Handing
 pub mod Readout
+pub mod Descriptions
 pub mod Answers
 pub mod Face

@@ -23,3 +23,6 @@ copy-in-one κs a r s d e p q = (refl, lent (equation p q) refl)
 
 pub same-one : OneResult words.same.ended words.same.Reads.Learnt
 same-one κs a r s d e p q = (equation p q, refl)
+
+pub within-one : OneResult words.within.ended words.within.Reads.Learnt
+within-one κs a r s d e p q = (equation p q, refl)

@@ -1,8 +1,9 @@
-// Bytes as numbers of a wider type, the bytes of a word, and bytes copied and compared. A wider number asks of a caller no more than the byte: that it is below 256 is known of
+// Bytes as numbers of a wider type, the bytes of a word, bytes copied and compared, and numbers in a range. A wider number asks of a caller no more than the byte: that it is below 256 is known of
 // the result.
 ghost use mathlib.Core.Path.{_≡_};
 ghost use Prim.Native.Nat.{_+_, _<_, _≤_};
 ghost use lib.Seq.{sets};
+ghost use Rattle.ground.specs.Ranges.{between};
 ghost use Rattle.words.specs.Words.{byteAt, same};
 
 // A byte as a word of 64 bits.
@@ -77,4 +78,11 @@ pub fn same(a: &[u8], b: &[u8]) -> bool
         i += 1;
     }
     true
+}
+
+// Whether a number lies between two, both of them allowed.
+pub fn within(low: u64, high: u64, n: u64) -> bool
+    ensures { λ r. ⌜ r ≡ between low high n ⌝ }
+{
+    (low <= n) & (n <= high)
 }

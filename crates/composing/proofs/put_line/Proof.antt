@@ -33,7 +33,7 @@ part-copy-in-start : tie.Need-part-copy-in-start
 part-copy-in-start c = omega arith
 
 part-copy-in-end : tie.Need-part-copy-in-end
-part-copy-in-end c = omega (arith, nineteen (c .before .before .before .before .before .before .before .before .before .before .before), c .before .before .before .before .before .before .before .before .before .before .before .pre)
+part-copy-in-end c = omega (arith, nineteen (c .before .before .before .before .before .before .before .before .before .before .before))
 
 copy-in-requires-2 : tie.Need-copy-in-requires-2
 copy-in-requires-2 c κs = tt
@@ -76,17 +76,23 @@ add-result c = omega arith
 
 same-length : tie.Need-same-length
 same-length c =
-    let a = c .before .before .before .before .before .before .before .before .before .before .before .before .before .before .before .before .before .copy-in .ensures in
-    let b = c .before .before .before .before .before .before .before .before .before .before .copy-in2 .ensures in
-    let l = c .before .before .before .copy-in3 .ensures in
-    simp length-set (ap length l ∙ simp length-sets (ap length b ∙ simp length-sets (ap length a ∙ simp length-sets)))
+    let part = c .before .before .before in
+    let short = part .before .before .before .before .before .before .before in
+    let front = short .before .before .before .before .before .before .before in
+    simp length-set
+    (ap length (part .copy-in3 .ensures) ∙ simp length-sets (ap length (short .copy-in2 .ensures) ∙ simp length-sets (ap length (front .copy-in .ensures) ∙ simp length-sets)))
 
 returns : tie.Need-returns
 returns c =
-    let s = c .before .before .before .before .before .before .before .before .before .before .before .before .before .before .before .before .before .before .before .before .before .before .before in (
+    let part = c .before .before .before in
+    let short = part .before .before .before .before .before .before .before in
+    let front = short .before .before .before .before .before .before .before in
+    let made = front .before .before .before in
+    let s = made .before .before .before in
+    let a = s .args in (
       omega arith,
-      line-put (s .args .text .now) (s .args .k) (s .args .at) (s .args .v) (s .args .out .now) _ _ _ _ (omega (arith, nineteen s, s .pre)) (s .pre .2)
-          (c .before .before .before .before .before .before .before .before .before .before .before .before .before .before .before .before .before .before .before .before .label .ensures) (c .before .before .before .before .before .before .before .before .before .before .before .before .before .before .before .before .before .copy-in .ensures) (c .before .before .before .before .before .before .before .before .before .before .copy-in2 .ensures) (c .before .before .before .copy-in3 .ensures),
+      line-put (a .text .now) (a .k) (a .at) (a .v) (a .out .now) _ _ _ _ (omega (arith, nineteen s, s .pre)) (s .pre .2) (made .label .ensures)
+          (front .copy-in .ensures) (short .copy-in2 .ensures) (part .copy-in3 .ensures),
     )
 
 pub put-line-spec : {M : Type 1} → statement M

@@ -1,5 +1,5 @@
 -- One line is written behind the other. Invariant: what is left to write makes what all makes, `Lined`. The measure is how many lines are left.
-use Prim.Native.Nat.{_+_, _-_}
+use Prim.Native.Nat.{_-_}
 use native.Mathlib.Omega.{arith}
 use Rattle.composing.specs.Inner.{pieces}
 use Rattle.composing.proofs.LineLaws.{fifteen, size-line, value-lies, Lined, lined-begin, lined-step, lined-end}

@@ -108,14 +108,17 @@ returns-14 : tie.Need-returns-14
 unfolding pieces
 returns-14 c = at-line (c .before .before .args .d) _ 13 _ (c .before .match .keys14) (c .time2 .ensures)
 
--- behind the fourteen arms line 14 is left
+-- behind the fourteen arms line 14 is left; what is not said of k there stands in r, the first arm's innermost
 last : (c : tie.At-match-rest) → c .before .args .k ≡ 14
 last c =
     let k = c .before .args .k in
     let r = c .match .rest in
-    let a = up k 3 (up k 2 (up k 1 (up k 0 (omega arith) (r .0 .0 .0 .0 .0 .0 .0 .0 .0 .0 .0 .0 .0 .1)) (r .0 .0 .0 .0 .0 .0 .0 .0 .0 .0 .0 .0 .1)) (r .0 .0 .0 .0 .0 .0 .0 .0 .0 .0 .0 .1)) (r .0 .0 .0 .0 .0 .0 .0 .0 .0 .0 .1) in
-    let b = up k 7 (up k 6 (up k 5 (up k 4 a (r .0 .0 .0 .0 .0 .0 .0 .0 .0 .1)) (r .0 .0 .0 .0 .0 .0 .0 .0 .1)) (r .0 .0 .0 .0 .0 .0 .0 .1)) (r .0 .0 .0 .0 .0 .0 .1) in
-    let e = up k 11 (up k 10 (up k 9 (up k 8 b (r .0 .0 .0 .0 .0 .1)) (r .0 .0 .0 .0 .1)) (r .0 .0 .0 .1)) (r .0 .0 .1) in
+    let p = r .0 .0 .0 .0 .0 .0 .0 .0 .0 .0 in
+    let q = r .0 .0 .0 .0 .0 .0 in
+    let s = r .0 .0 in
+    let a = up k 3 (up k 2 (up k 1 (up k 0 (omega arith) (p .0 .0 .0 .1)) (p .0 .0 .1)) (p .0 .1)) (p .1) in
+    let b = up k 7 (up k 6 (up k 5 (up k 4 a (q .0 .0 .0 .1)) (q .0 .0 .1)) (q .0 .1)) (q .1) in
+    let e = up k 11 (up k 10 (up k 9 (up k 8 b (s .0 .0 .0 .1)) (s .0 .0 .1)) (s .0 .1)) (s .1) in
     let f : 14 ≤ k = up k 13 (up k 12 e (r .0 .1)) (r .1) in
     omega arith
 

@@ -19,7 +19,7 @@ returns : tie.Need-returns
 returns c =
     let a = c .before .before .before .before .args in
     let f = c .before .lowest-fault in
-    fault-first (a .text .now) (a .d) (a .out .now) (f .result) (f .ensures) (c .if1 .taken)
+    fault-first (a .text .now) (a .d) (a .out .now) (f .result) (f .ensures) (omega arith)
 
 lacks-room-requires : tie.Need-lacks-room-requires
 lacks-room-requires c κs = tt
@@ -29,13 +29,13 @@ returns-2 c =
     let a = c .before .before .before .before .before .before .args in
     let f = c .before .before .before .lowest-fault in
     let r = c .before .lacks-room in
-    room-next (a .text .now) (a .d) (a .out .now) (f .result) (f .ensures) (c .before .before .if1 .left) (r .result) (r .ensures) (c .if2 .taken)
+    room-next (a .text .now) (a .d) (a .out .now) (f .result) (f .ensures) (omega arith) (r .result) (r .ensures) (c .if2 .taken)
 
 put-lines-requires : tie.Need-put-lines-requires
 put-lines-requires c κs =
     let a = c .before .before .before .before .before .before .before .args in
     let f = c .before .before .before .before .lowest-fault in (
-      all-placed (a .text .now) (a .d) (omega (arith, f .ensures, c .before .before .before .if1 .left)),
+      all-placed (a .text .now) (a .d) (omega (arith, f .ensures)),
       ltb-false (length (a .out .now)) (sizeBy (pieces (a .d))) (sym (c .before .before .lacks-room .ensures) ∙ c .before .if2 .left),
     )
 
@@ -48,7 +48,7 @@ returns-3 c =
     let f = c .before .before .before .before .before .before .before .lowest-fault in
     let r = c .before .before .before .before .before .lacks-room in
     let w = c .before .before .put-lines .ensures in
-    lines-last (a .text .now) (a .d) (a .out .now) (f .result) (f .ensures) (c .before .before .before .before .before .before .if1 .left) (r .result) (r .ensures) (c .before .before .before .before .if2 .left) _ _ (w .0) (w .1)
+    lines-last (a .text .now) (a .d) (a .out .now) (f .result) (f .ensures) (omega arith) (r .result) (r .ensures) (c .before .before .before .before .if2 .left) _ _ (w .0) (w .1)
 
 pub write-spec : {M : Type 1} → statement M
 write-spec = tie.close (tie.spec lowest-fault-requires cast-t6 returns lacks-room-requires returns-2 put-lines-requires same-length returns-3)

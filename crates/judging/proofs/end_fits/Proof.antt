@@ -6,11 +6,11 @@ use Rattle.judging.proofs.end_fits.Tie as tie
 time-fits-requires : tie.Need-time-fits-requires
 time-fits-requires c κs = tt
 
-left-out-requires : tie.Need-left-out-requires
-left-out-requires c κs = tt
+not-given-requires : tie.Need-not-given-requires
+not-given-requires c κs = tt
 
-left-out-requires-2 : tie.Need-left-out-requires-2
-left-out-requires-2 c κs = tt
+not-given-requires-2 : tie.Need-not-given-requires-2
+not-given-requires-2 c κs = tt
 
 not-after-requires : tie.Need-not-after-requires
 not-after-requires c κs = tt
@@ -18,9 +18,9 @@ not-after-requires c κs = tt
 returns : tie.Need-returns
 returns c = λ i.
     c .before .before .before .time-fits .ensures i
-    && (c .before .before .left-out .ensures i || (c .before .left-out2 .ensures i || c .not-after .ensures i))
+    && (c .before .before .not-given .ensures i || (c .before .not-given2 .ensures i || c .not-after .ensures i))
 
 pub end-fits-spec : {M : Type 1} → statement M
 end-fits-spec =
     tie.close
-    (tie.spec time-fits-requires left-out-requires left-out-requires-2 not-after-requires returns)
+    (tie.spec time-fits-requires not-given-requires not-given-requires-2 not-after-requires returns)

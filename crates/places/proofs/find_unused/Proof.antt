@@ -7,7 +7,7 @@ use native.Mathlib.Omega.{arith}
 use borrow.Author.Needs.{needs}
 use lib.ListN.{length, getD, drop}
 use Rattle.places.specs.Places.{unused, inUse, firstFrom, firstUnused}
-use Rattle.places.proofs.Truth.{not-yes, not-no}
+use Rattle.ground.proofs.Truth.{not-yes, not-no}
 use Rattle.places.proofs.Named.{in-use, not-in-use}
 use Rattle.places.proofs.Steps.{mapped-length, first-hit, first-miss, first-end}
 use Rattle.places.proofs.find_unused.Statement.{statement}
