@@ -3,10 +3,12 @@ ghost use mathlib.Core.Path.{_≡_};
 ghost use Rattle.refusals.specs.Told.{refusedAs, verdictTold};
 ghost use Rattle.pack.specs.Told.{packedTold};
 ghost use Rattle.record.specs.Told.{offeredTold};
+ghost use Rattle.attributes.specs.Told.{composedTold};
 ghost use Rattle.standing.specs.declared.Standing.the-variants.{Filled};
 ghost use Rattle.standing.specs.Told.{standingTold};
 ghost use Rattle.face.specs.Face.{answerOf, Says, putsIf};
 ghost use Rattle.answers.specs.Answers.{wordOf};
+use attributes::Composed;
 use pack::Packed;
 use places::Found;
 use record::Offered;
@@ -41,6 +43,16 @@ pub fn packed_as(packed: Packed) -> u64
     match packed {
         Packed::Written(n) => 256 * (n as u64 % TOP),
         Packed::Refused(r) => refused(r),
+    }
+}
+
+// What writing a description answers: its length as the value.
+pub fn composed_as(composed: Composed) -> u64
+    ensures { λ n. ⌜ n ≡ wordOf (answerOf (composedTold composed)) ⌝ }
+{
+    match composed {
+        Composed::Text(n) => 256 * (n as u64 % TOP),
+        Composed::Refused(r) => refused(r),
     }
 }
 

@@ -237,5 +237,5 @@ pub extern "C" fn bh_write_description(values: &[u64], text: &[u8], out: &mut [u
     }
     let d = listing::description_of(values);
     let composed = composing::write(text, d, out);
-    listing::composed_as(composed)
+    answers::composed_as(composed)
 }

@@ -4,17 +4,13 @@ ghost use Prim.Native.Nat.{_≤_, _<_};
 ghost use lib.Seq.{sets};
 ghost use Rattle.attributes.specs.Told.{descriptionList};
 ghost use Rattle.face.specs.Face.{Says, puts};
-ghost use Rattle.listing.specs.Listing.{timeFrom, descriptionFrom, composedAnswer};
-use attributes::Composed;
+ghost use Rattle.listing.specs.Listing.{timeFrom, descriptionFrom};
 use attributes::Description;
 use attributes::Part;
 use calendar::Time;
 
 // Output's number, for an output that is too short.
 const NO_ROOM: u64 = 26;
-
-// A value goes into the bits above the number's eight, of which there are 56.
-const TOP: u64 = 72057594037927936;
 
 // The less of two.
 fn least(a: usize, b: usize) -> usize
@@ -142,14 +138,4 @@ pub fn description_of(numbers: &[u64]) -> Description
     let mut v = [0u64; 30];
     copy_numbers(&mut v, numbers);
     from_thirty(v)
-}
-
-// What writing answers: the length as the value.
-pub fn composed_as(composed: Composed) -> u64
-    ensures { λ r. ⌜ r ≡ composedAnswer composed ⌝ }
-{
-    match composed {
-        Composed::Text(n) => 256 * (n as u64 % TOP),
-        Composed::Refused(r) => answers::refused(r),
-    }
 }

@@ -60,6 +60,3 @@ put-numbers-one κs a r s d e p q = (equation (p .answers) (q .answers), after 1
 
 pub description-of-one : OneResult listing.description_of.ended listing.description_of.Reads.Learnt
 description-of-one κs a r s d e p q = (equation p q, refl)
-
-pub composed-as-one : OneResult listing.composed_as.ended listing.composed_as.Reads.Learnt
-composed-as-one κs a r s d e p q = (equation p q, refl)

@@ -1,14 +1,17 @@
 -- A length is the value; a refusal is answered as every other.
--- Assumes nothing.
 use mathlib.Core.Path.{_≡_, sym, ap, _∙_}
-use Prim.Native.Nat.{ℕ, _%_}
 use native.Mathlib.Omega.{arith}
 use borrow.Author.Needs.{needs}
 use Rattle.attributes.specs.declared.Composed.{Composed}
+use Rattle.attributes.specs.Told.{composedTold}
+use Rattle.face.specs.Face.{answerOf}
+use Rattle.answers.specs.Answers.{wordOf}
 use Rattle.answers.proofs.Words.{fits-word, value-word}
-use Rattle.listing.specs.Listing.{composedAnswer}
-use Rattle.listing.proofs.composed_as.Statement.{statement}
-use Rattle.listing.proofs.composed_as.Tie as tie
+use Rattle.answers.proofs.composed_as.Statement.{statement}
+use Rattle.answers.proofs.composed_as.Tie as tie
+
+told : {o s : Composed} → o ≡ s → wordOf (answerOf (composedTold s)) ≡ wordOf (answerOf (composedTold o))
+told e = ap (λ (y : Composed). wordOf (answerOf (composedTold y))) (sym e)
 
 enum-known-composed : tie.Need-enum-known-composed
 enum-known-composed c = omega arith
@@ -23,12 +26,12 @@ refused-requires : tie.Need-refused-requires
 refused-requires c κs = tt
 
 returns : tie.Need-returns
-returns c = value-word (c .before .composed .given .0 .0) ∙ ap composedAnswer (sym (c .before .composed .given .1))
+returns c = value-word (c .before .composed .given .0 .0) ∙ told (c .before .composed .given .1)
 
 returns-2 : tie.Need-returns-2
 returns-2 c =
     let fit : mir.Val.Fits mir.Syntax.w64 (c .refused .result) = search (needs, c .refused .ok) in
-    fits-word (fit .fits) ∙ ap (λ (n : ℕ). n % 18446744073709551616) (c .refused .ensures) ∙ ap composedAnswer (sym (c .before .before .composed2 .given .1))
+    fits-word (fit .fits) ∙ ap wordOf (c .refused .ensures) ∙ told (c .before .before .composed2 .given .1)
 
 pub composed-as-spec : {M : Type 1} → statement M
 composed-as-spec =
