@@ -2,5 +2,8 @@ pub mod LineLaws
 pub mod PlainLaws
 pub mod RuleLaws
 pub mod ReadLaws
+pub mod TakesSound
+pub mod WritesSound
 pub mod ReadsBack
 pub mod WritesBack
+pub mod Turned

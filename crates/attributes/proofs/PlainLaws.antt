@@ -1,9 +1,9 @@
--- What is found of a text, written anew, is that text with LF for CR LF (`lines-plain`).
+-- What is found of a text, written anew, is that text with LF for CR LF (`lines-plain`); what is written has no CR (`lines-own`).
 -- Assumes nothing.
 use mathlib.Core.Path.{_≡_, refl, sym, ap, ap₂, _∙_}
-use mathlib.Core.Bool.{Bool, true, false, true≢false, cond, not, _&&_}
+use mathlib.Core.Bool.{Bool, true, false, cond, _&&_}
 use mathlib.Core.List.{List, [], _∷_, _++_, append-assoc}
-use Prim.Native.Nat.{ℕ, zero, suc, _+_, _-_, _/_, _%_, _<_, _≤_}
+use Prim.Native.Nat.{ℕ, zero, suc, _+_, _-_, _<_, _≤_}
 use native.Mathlib.Omega.{arith}
 use borrow.Author.Tests.{eqb-true, leb-true, ltb-true}
 use lib.Dec.{eqb, leb, ltb}
@@ -13,33 +13,27 @@ use Rattle.ground.proofs.Truth.{and-both}
 use Rattle.words.specs.Words.{same}
 use Rattle.words.proofs.SameLaws.{same-equal}
 use Rattle.texts.specs.Breaks.{LF, CR, untilLf, unbroken}
-use Rattle.texts.proofs.BreakLaws.{unbroken-by, until-lf-part}
-use Rattle.attributes.specs.declared.Part.{Part}
+use Rattle.texts.proofs.BreakLaws.{until-lf-part}
 use Rattle.attributes.specs.Attributes.{partOf}
-use Rattle.attributes.specs.Lines.{label, linesText, isLine, withoutCr, valueAt, behindLine, Found, alone, before, linesFrom}
+use Rattle.attributes.specs.Lines.{label, linesText, isLine, valueAt, behindLine, Found, alone, before, linesFrom}
 use Rattle.attributes.specs.Statements.{startsLf, plain}
-use Rattle.attributes.proofs.LineLaws.{allUnbroken, no-cr}
-
--- the bytes of parts
-abbrev pub valuesIn : List ℕ → List Part → List (List ℕ)
-valuesIn t [] = []
-valuesIn t (p ∷ ps) = partOf t p ∷ valuesIn t ps
+use Rattle.attributes.proofs.LineLaws.{allUnbroken, first-unbroken, label-unbroken, valuesIn}
 
 -- bytes without CR stay
 plain-behind : (v s : List ℕ) → unbroken v ≡ true → plain (v ++ s) ≡ v ++ plain s
 plain-behind [] s u = refl
 plain-behind (b ∷ v) s u =
-    ap (λ (c : Bool). cond (c && startsLf (v ++ s)) (plain (v ++ s)) (b ∷ plain (v ++ s))) (no-cr (b ∷ v) 0 u (omega arith))
-    ∙ ap (λ (l : List ℕ). b ∷ l) (plain-behind v s (and-both (not (eqb b CR)) (unbroken v) (and-both (not (eqb b LF)) (not (eqb b CR) && unbroken v) u .1) .1))
+    let f = first-unbroken b v u in
+    ap (λ (c : Bool). cond (c && startsLf (v ++ s)) (plain (v ++ s)) (b ∷ plain (v ++ s))) (f .1) ∙ ap (λ (l : List ℕ). b ∷ l) (plain-behind v s (f .2))
 
-label-unbroken : (k : ℕ) → unbroken (label k) ≡ true
-label-unbroken k = unbroken-by (label k) by
-  where
-    by : (i : ℕ) → i < 3 → 14 ≤ getD (label k) i 0
-    by zero h = omega arith
-    by (suc zero) h = omega arith
-    by (suc (suc zero)) h = omega arith
-    by (suc (suc (suc i))) h = absurd (omega arith)
+-- what is written has no CR, and is its own plain text
+pub lines-own : (k : ℕ) (vs : List (List ℕ)) → allUnbroken vs ≡ true → plain (linesText k vs) ≡ linesText k vs
+lines-own k [] u = refl
+lines-own k (v ∷ vs) u =
+    let w = and-both (unbroken v) (allUnbroken vs) u in
+    plain-behind (label k) (v ++ (LF ∷ linesText (suc k) vs)) (label-unbroken k)
+    ∙ ap (λ (l : List ℕ). label k ++ l)
+    (plain-behind v (LF ∷ linesText (suc k) vs) (w .0) ∙ ap (λ (l : List ℕ). v ++ (LF ∷ l)) (lines-own (suc k) vs (w .1)))
 
 -- ---- one line
 module _ (t : List ℕ) (k at : ℕ) (line : isLine t k at ≡ true) where

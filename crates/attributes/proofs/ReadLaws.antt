@@ -1,24 +1,26 @@
 -- What an answer of the reader says: an accepted text has fifteen lines and nothing behind them, and keeps every rule (`taken`); each refusal has its reason. So the line
--- that is told is the lowest, and 30 comes last. Assumes nothing.
-use mathlib.Core.Path.{_≡_, refl, sym, ap, ap₂, _∙_}
+-- that is told is the lowest, 30 comes last, and both are told wherever they are due. Assumes nothing.
+use mathlib.Core.Path.{_≡_, refl, sym, ap, _∙_}
+use mathlib.Core.Logic.{_⊎_, inl, inr}
 use mathlib.Core.Bool.{Bool, true, false, true≢false, cond}
-use mathlib.Core.List.{List, [], _∷_}
-use Prim.Native.Nat.{ℕ, zero, suc, _+_, _<_, _≤_}
+use mathlib.Core.List.{List, []}
+use Prim.Native.Nat.{ℕ, zero, suc, _<_, _≤_}
 use native.Mathlib.Omega.{arith}
-use borrow.Author.Tests.{leb-true, leb-false, ltb-true, ltb-false, le-leb, lt-leb, le-ltb}
+use borrow.Author.Tests.{leb-true, leb-false, ltb-true, ltb-false, lt-leb, le-ltb}
 use lib.Dec.{leb, ltb}
 use lib.ListN.{length, getD}
+use Rattle.ground.proofs.Listed.{le-or-lt}
 use Rattle.refusals.specs.declared.Refusal.the-variants.{Line, Extra}
 use Rattle.attributes.specs.declared.Part.{Part}
 use Rattle.attributes.specs.declared.Description.{Description}
 use Rattle.attributes.specs.declared.Described.{Described}
 use Rattle.attributes.specs.declared.Described.the-variants.{«Attributes», Refused}
 use Rattle.attributes.specs.Attributes.{attributesOf}
-use Rattle.attributes.specs.Rules.{rulesOf, placed, rules, both, lowest}
-use Rattle.attributes.specs.Lines.{isLine, valueAt, behindLine, Found, alone, before, linesFrom, linesOf}
+use Rattle.attributes.specs.Rules.{rulesOf, placed, rules, lowest}
+use Rattle.attributes.specs.Lines.{isLine, valueAt, behindLine, alone, before, linesFrom, linesOf}
 use Rattle.attributes.specs.Describe.{descriptionIn, lower, faultOf, describeOf}
-use Rattle.attributes.specs.Statements.{ReadingInRange, SoundLine, LowestFault, ExtraLast}
-use Rattle.attributes.proofs.RuleLaws.{lowest-some, lowest-most, lowest-before, lowest-not, both-all, sound-range}
+use Rattle.attributes.specs.Statements.{ReadingInRange, SoundLine, LowestFault, ExtraLast, TellsFault, TellsExtra}
+use Rattle.attributes.proofs.RuleLaws.{lowest-some, lowest-before, lowest-not, both-all, sound-range}
 
 -- ---- the number of lines, and the number of the fault
 
@@ -55,10 +57,6 @@ lower-either a b P p q = by (leb a b)
     by : (c : Bool) → P (cond c a b)
     by true = p
     by false = q
-
-rules-fifteen : (t : List ℕ) (d : Description) → length (rules t d) ≡ 15
-unfolding rules placed rulesOf
-rules-fifteen t d = refl
 
 -- what was found of a text
 abbrev found : List ℕ → List Part
@@ -146,11 +144,11 @@ taken t d e = by (describeOf t) (reason t) e
           rules-kept = λ i m. ap (λ (y : Description). getD (rules t y) i false) s ∙ lowest-before (kept t) i (omega arith);
         }
 
-pub reading-in-range : ReadingInRange
+pub reading-in-range : ReadingInRange describeOf
 unfolding rules
 reading-in-range t d e = sound-range (attributesOf t d) (λ i h. both-all (placed t d) (rulesOf (attributesOf t d)) i (taken t d e .rules-kept i h) .1)
 
-pub lowest-fault : LowestFault
+pub lowest-fault : LowestFault describeOf
 lowest-fault t k e = by (describeOf t) (reason t) e
   where
     by : (r : Described) → Reason t r → r ≡ Refused (Line k) → (1 ≤ k) × (k ≤ 15) × (SoundLine t k → ⊥) × ((j : ℕ) → 1 ≤ j → j < k → SoundLine t j)
@@ -161,10 +159,37 @@ lowest-fault t k e = by (describeOf t) (reason t) e
     by (Refused Extra) (behind h l) f = let z : _≡_ {A = ℕ} 0 1 = cc in absurd (omega arith)
     by («Attributes» x) (whole h l) f = let z : _≡_ {A = ℕ} 0 1 = cc in absurd (omega arith)
 
-pub extra-last : ExtraLast
+pub extra-last : ExtraLast describeOf
 extra-last t e j l h = by (describeOf t) (reason t) e
   where
     by : (r : Described) → Reason t r → r ≡ Refused Extra → SoundLine t j
     by (Refused (Line x)) (at-line m) f = let z : _≡_ {A = ℕ} 0 1 = cc in absurd (omega arith)
     by (Refused Extra) (behind m o) f = sound-before t j l (omega arith)
     by («Attributes» x) (whole m o) f = let z : _≡_ {A = ℕ} 0 1 = cc in absurd (omega arith)
+
+-- ---- and a refusal that is due is told
+
+pub tells-fault : TellsFault describeOf
+tells-fault t k l m bad good = by (describeOf t) (reason t)
+  where
+    -- a line that is not sound, all before it sound, is the fault
+    is-fault : faultOf t ≡ k
+    is-fault = near (le-or-lt k (faultOf t)) (le-or-lt (faultOf t) k)
+      where
+        near : (k ≤ faultOf t) ⊎ (faultOf t < k) → (faultOf t ≤ k) ⊎ (k < faultOf t) → faultOf t ≡ k
+        near (inl a) (inl b) = omega arith
+        near (inl a) (inr b) = absurd (bad (sound-before t k l b))
+        near (inr a) b = absurd (not-sound t (good (faultOf t) (fault-some t) a))
+
+    by : (r : Described) → Reason t r → r ≡ Refused (Line k)
+    by (Refused (Line x)) (at-line h) = ap (λ (n : ℕ). Refused (Line n)) is-fault
+    by (Refused Extra) (behind h n) = let e = is-fault in absurd (omega arith)
+    by («Attributes» x) (whole h n) = let e = is-fault in absurd (omega arith)
+
+pub tells-extra : TellsExtra describeOf
+tells-extra t good more = by (describeOf t) (reason t)
+  where
+    by : (r : Described) → Reason t r → r ≡ Refused Extra
+    by (Refused (Line x)) (at-line h) = absurd (not-sound t (good (faultOf t) (fault-some t) h))
+    by (Refused Extra) (behind h n) = refl
+    by («Attributes» x) (whole h n) = absurd (omega arith)

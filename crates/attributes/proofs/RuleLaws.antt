@@ -1,17 +1,17 @@
--- What it means that all fifteen rules are kept: each attribute is in document 02's range (`sound-range`), and none of the values that are written has CR or LF
--- (`values-unbroken`). Assumes nothing.
+-- What it means that all fifteen rules are kept: each attribute is in document 02's range (`sound-range`), and back (`range-sound`, `rules-sound`); and none of the values
+-- that are written has CR or LF (`values-unbroken`). Assumes nothing.
 use mathlib.Core.Path.{_≡_, refl, sym, ap, ap₂, _∙_}
 use mathlib.Core.Logic.{_⊎_, inl, inr}
-use mathlib.Core.Bool.{Bool, true, false, true≢false, cond, not, _&&_, _||_}
+use mathlib.Core.Bool.{Bool, true, false, true≢false, cond, _||_}
 use mathlib.Core.List.{List, [], _∷_}
-use Prim.Native.Nat.{ℕ, zero, suc, _+_, _-_, _<_, _≤_}
+use Prim.Native.Nat.{ℕ, zero, suc, _-_, _<_, _≤_}
 use native.Mathlib.Omega.{arith}
-use borrow.Author.Tests.{eqb-true, eqb-false, leb-true}
+use borrow.Author.Tests.{eqb-true, eqb-false, leb-true, eq-eqb, ne-eqb, le-leb}
 use lib.Dec.{eqb, leb}
 use lib.ListN.{length, getD}
 use Rattle.ground.specs.Ranges.{between}
-use Rattle.ground.proofs.Truth.{and-both, either}
-use Rattle.ground.proofs.RangeLaws.{between-bounds}
+use Rattle.ground.proofs.Truth.{and-both, and-join, either, or-left, or-right}
+use Rattle.ground.proofs.RangeLaws.{between-bounds, bounds-between}
 use Rattle.words.proofs.SameLaws.{same-equal}
 use Rattle.texts.specs.Utf8.{wellFormed}
 use Rattle.texts.specs.Breaks.{unbroken}
@@ -24,12 +24,13 @@ use Rattle.content.specs.Content.{contentOf}
 use Rattle.calendar.specs.declared.Time.{Time}
 use Rattle.calendar.specs.Calendar.{fields, real, notAfter, noTime, notGiven}
 use Rattle.calendar.specs.Range.{RealTime}
-use Rattle.calendar.specs.Written.{timeText}
-use Rattle.calendar.proofs.RangeLaws.{real-range}
-use Rattle.calendar.proofs.WrittenLaws.{time-long, time-bytes}
-use Rattle.attributes.specs.Attributes.{Attributes, noCharset, noSize, optionalText, timeValue, values}
-use Rattle.attributes.specs.Rules.{isText, fitsMode, timeFits, ordered, rulesOf, both, lowest}
-use Rattle.attributes.specs.Statements.{InRange}
+use Rattle.times.specs.Written.{timeText}
+use Rattle.calendar.proofs.RangeLaws.{real-range, range-real}
+use Rattle.times.proofs.WrittenLaws.{time-long, time-bytes}
+use Rattle.attributes.specs.declared.Description.{Description}
+use Rattle.attributes.specs.Attributes.{Attributes, attributesOf, noCharset, noSize, optionalText, timeValue, values}
+use Rattle.attributes.specs.Rules.{isText, fitsMode, timeFits, ordered, rulesOf, placed, rules, both, lowest}
+use Rattle.attributes.specs.Statements.{InRange, PartsInside}
 use Rattle.attributes.proofs.LineLaws.{allUnbroken}
 
 -- ---- the lowest
@@ -38,11 +39,6 @@ pub lowest-some : (bs : List Bool) → 1 ≤ lowest bs
 lowest-some [] = omega arith
 lowest-some (true ∷ bs) = omega arith
 lowest-some (false ∷ bs) = omega arith
-
-pub lowest-most : (bs : List Bool) → lowest bs ≤ suc (length bs)
-lowest-most [] = omega arith
-lowest-most (true ∷ bs) = let h = lowest-most bs in omega arith
-lowest-most (false ∷ bs) = omega arith
 
 -- before it all are kept
 pub lowest-before : (bs : List Bool) (i : ℕ) → suc i < lowest bs → getD bs i false ≡ true
@@ -59,23 +55,11 @@ lowest-not (true ∷ bs) (suc i) e = lowest-not bs i (omega arith)
 lowest-not (false ∷ bs) zero e = refl
 lowest-not (false ∷ bs) (suc i) e = absurd (omega arith)
 
--- all are kept
-pub lowest-all : (bs : List Bool) → ((i : ℕ) → i < length bs → getD bs i false ≡ true) → lowest bs ≡ suc (length bs)
-lowest-all [] h = refl
-lowest-all (true ∷ bs) h = ap suc (lowest-all bs (λ i l. h (suc i) (omega arith)))
-lowest-all (false ∷ bs) h = absurd (true≢false (sym (h 0 (omega arith))))
-
 pub both-all : (xs ys : List Bool) (i : ℕ) → getD (both xs ys) i false ≡ true → (getD xs i false ≡ true) × (getD ys i false ≡ true)
 both-all [] ys i e = absurd (true≢false (sym e))
 both-all (x ∷ xs) [] i e = absurd (true≢false (sym e))
 both-all (x ∷ xs) (y ∷ ys) zero e = and-both x y e
 both-all (x ∷ xs) (y ∷ ys) (suc i) e = both-all xs ys i e
-
-pub both-join : (xs ys : List Bool) (i : ℕ) → getD xs i false ≡ true → getD ys i false ≡ true → getD (both xs ys) i false ≡ true
-both-join [] ys i e f = absurd (true≢false (sym e))
-both-join (x ∷ xs) [] i e f = absurd (true≢false (sym f))
-both-join (x ∷ xs) (y ∷ ys) zero e f = ap₂ _&&_ e f
-both-join (x ∷ xs) (y ∷ ys) (suc i) e f = both-join xs ys i e f
 
 -- ---- each rule as a fact
 
@@ -162,6 +146,63 @@ module _ (a : Attributes) (kept : (i : ℕ) → i < 15 → getD (rulesOf a) i fa
     order = order-fact (a .begins) (a .ends) (and-both (timeFits (a .ends)) (ordered (a .begins) (a .ends)) (kept 13 (omega arith)) .1);
     delete = between-bounds 0 1 (a .delete) (kept 14 (omega arith)) .1;
   }
+
+-- ---- and back: each fact as a rule
+
+fact-time : (t : Time) → (t ≡ noTime) ⊎ RealTime t → timeFits t ≡ true
+fact-time t (inl e) = or-left (real t) (ap notGiven e)
+fact-time t (inr r) = or-right (notGiven t) (range-real t r)
+
+fact-order : (a b : Time) → (a ≡ noTime) ⊎ ((b ≡ noTime) ⊎ (notAfter a b ≡ true)) → ordered a b ≡ true
+fact-order a b (inl e) = or-left (notGiven b || notAfter a b) (ap notGiven e)
+fact-order a b (inr (inl e)) = or-right (notGiven a) (or-left (notAfter a b) (ap notGiven e))
+fact-order a b (inr (inr e)) = or-right (notGiven a) (or-right (notGiven b) e)
+
+fact-kind : (c : Content) (mode : ℕ) → ((c ≡ File) × (mode ≡ 1)) ⊎ ((c ≡ Stream) × (mode ≡ 0)) → fitsMode c mode ≡ true
+fact-kind c mode (inl f) = ap₂ fitsMode (f .0) (f .1)
+fact-kind c mode (inr f) = ap₂ fitsMode (f .0) (f .1)
+
+fact-charset : (kind n : ℕ) → ((kind ≡ 21) × (n ≤ 4)) ⊎ ((kind ≡ 21 → ⊥) × (n ≡ noCharset))
+    → cond (eqb kind 21) (between 0 4 n) (eqb n noCharset) ≡ true
+fact-charset kind n (inl f) = ap (λ (c : Bool). cond c (between 0 4 n) (eqb n noCharset)) (eq-eqb kind 21 (f .0)) ∙ bounds-between 0 4 n (omega arith) (f .1)
+fact-charset kind n (inr f) = ap (λ (c : Bool). cond c (between 0 4 n) (eqb n noCharset)) (ne-eqb kind 21 (f .0)) ∙ eq-eqb n noCharset (f .1)
+
+fact-size : (mode n : ℕ) → ((mode ≡ 1) × (1 ≤ n) × (n ≤ 16777216)) ⊎ ((mode ≡ 0) × (n ≡ noSize))
+    → cond (eqb mode 1) (between 1 16777216 n) (eqb n noSize) ≡ true
+fact-size mode n (inl f) = ap (λ (m : ℕ). cond (eqb m 1) (between 1 16777216 n) (eqb n noSize)) (f .0) ∙ bounds-between 1 16777216 n (f .1) (f .2)
+fact-size mode n (inr f) = ap (λ (m : ℕ). cond (eqb m 1) (between 1 16777216 n) (eqb n noSize)) (f .0) ∙ eq-eqb n noSize (f .1)
+
+abbrev pub trues : List Bool
+trues = true ∷ true ∷ true ∷ true ∷ true ∷ true ∷ true ∷ true ∷ true ∷ true ∷ true ∷ true ∷ true ∷ true ∷ true ∷ []
+
+-- attributes in their ranges keep all fifteen rules
+pub range-sound : (a : Attributes) → InRange a → rulesOf a ≡ trues
+unfolding rulesOf
+range-sound a r =
+    λ i. bounds-between 9000 9999 (a .service) (r .service .0) (r .service .1) i
+    ∷ bounds-between 0 1 (a .mode) (omega arith) (r .mode) i
+    ∷ bounds-between 1 65535 (a .resource) (r .resource .0) (r .resource .1) i
+    ∷ bounds-between 0 15 (a .update) (omega arith) (r .update) i
+    ∷ and-join (le-leb 1 (length (a .name)) (r .name .0)) (r .name .1) i
+    ∷ fact-kind (contentOf (a .kind)) (a .mode) (r .kind) i
+    ∷ r .title i ∷ r .summary i ∷ r .keywords i
+    ∷ fact-charset (a .kind) (a .charset) (r .charset) i
+    ∷ r .path i
+    ∷ fact-size (a .mode) (a .size) (r .size) i
+    ∷ fact-time (a .begins) (r .begins) i
+    ∷ and-join (fact-time (a .ends) (r .ends)) (fact-order (a .begins) (a .ends) (r .order)) i
+    ∷ bounds-between 0 1 (a .delete) (omega arith) (r .delete) i
+    ∷ []
+
+parts-placed : (t : List ℕ) (d : Description) → PartsInside t d → placed t d ≡ trues
+unfolding placed
+parts-placed t d p =
+    λ i. true ∷ true ∷ true ∷ true ∷ p .name i ∷ true ∷ p .title i ∷ p .summary i ∷ p .keywords i ∷ true ∷ p .path i ∷ true ∷ true ∷ true ∷ true ∷ []
+
+-- also as parts of a text
+pub rules-sound : (t : List ℕ) (d : Description) → PartsInside t d → InRange (attributesOf t d) → rules t d ≡ trues
+unfolding rules
+rules-sound t d p r = ap₂ both (parts-placed t d p) (range-sound (attributesOf t d) r)
 
 -- ---- what is written has no CR or LF
 

@@ -1,14 +1,14 @@
 -- A text that the reader takes is, with LF for CR LF, what the writer writes of its attributes (`writes-back`): each value, read and in its range, is written as it stood.
 -- Assumes nothing.
-use mathlib.Core.Path.{_≡_, refl, sym, ap, ap₂, _∙_}
+use mathlib.Core.Path.{_≡_, refl, sym, ap, _∙_}
 use mathlib.Core.Logic.{_⊎_, inl, inr}
-use mathlib.Core.Bool.{Bool, true, false, true≢false, cond}
+use mathlib.Core.Bool.{Bool, true, false, cond}
 use mathlib.Core.List.{List, [], _∷_, _++_, append-nil}
-use Prim.Native.Nat.{ℕ, zero, suc, _+_, _<_, _≤_}
+use Prim.Native.Nat.{ℕ, _+_, _<_}
 use native.Mathlib.Omega.{arith}
 use borrow.Author.Tests.{eqb-true, eq-eqb}
 use lib.Dec.{eqb}
-use lib.ListN.{length, getD, drop, drop-of-length-le}
+use lib.ListN.{length, getD, drop-of-length-le}
 use lib.Seq.{ext-getD}
 use Rattle.ground.specs.Lists.{listed}
 use Rattle.ground.proofs.Listed.{length-listed, getD-listed-0}
@@ -17,21 +17,21 @@ use Rattle.decimal.proofs.NumberLaws.{digits-back}
 use Rattle.calendar.specs.declared.Time.{Time}
 use Rattle.calendar.specs.Calendar.{real, noTime, notGiven}
 use Rattle.calendar.specs.Range.{RealTime}
-use Rattle.calendar.specs.Written.{timeText, timeIn, wrongTime}
+use Rattle.times.specs.Written.{timeText, timeIn, wrongTime}
 use Rattle.calendar.proofs.RangeLaws.{real-range}
-use Rattle.calendar.proofs.WrittenLaws.{written-time, time-real}
+use Rattle.times.proofs.WrittenLaws.{written-time, time-real}
 use Rattle.attributes.specs.declared.Part.{Part}
 use Rattle.attributes.specs.declared.Description.{Description}
-use Rattle.attributes.specs.Attributes.{Attributes, attributesOf, partOf, noCharset, noSize, optionalText, timeValue, values}
-use Rattle.attributes.specs.Lines.{linesText, linesFrom, linesOf, Found}
-use Rattle.attributes.specs.Describe.{nowhere, optionalIn, givenTime, descriptionIn}
+use Rattle.attributes.specs.Attributes.{attributesOf, partOf, noCharset, noSize, optionalText, timeValue, values}
+use Rattle.attributes.specs.Lines.{linesText, linesOf}
+use Rattle.attributes.specs.Describe.{nowhere, optionalIn, givenTime, descriptionIn, describeOf}
 use Rattle.attributes.specs.Compose.{textOf}
 use Rattle.attributes.specs.Statements.{InRange, plain, WritesBack}
-use Rattle.attributes.proofs.LineLaws.{allUnbroken}
-use Rattle.attributes.proofs.PlainLaws.{valuesIn, lines-plain}
+use Rattle.attributes.proofs.LineLaws.{allUnbroken, valuesIn, values-length, values-at}
+use Rattle.attributes.proofs.PlainLaws.{lines-plain}
 use Rattle.attributes.proofs.RuleLaws.{not-given, values-unbroken}
 use Rattle.attributes.proofs.ReadLaws.{Taken, taken, reading-in-range}
-use Rattle.attributes.proofs.ReadsBack.{charset-small, size-small, kind-small}
+use Rattle.attributes.proofs.TakesSound.{charset-small, size-small, kind-small}
 
 -- ---- values that may be left out
 
@@ -71,15 +71,6 @@ time-value-written v h = by (eqb (length v) 0) refl h
 
 -- ---- the values of a text that is taken
 
-values-length : (t : List ℕ) (ps : List Part) → length (valuesIn t ps) ≡ length ps
-values-length t [] = refl
-values-length t (p ∷ ps) = ap suc (values-length t ps)
-
-values-at : (t : List ℕ) (ps : List Part) (i : ℕ) → i < length ps → getD (valuesIn t ps) i [] ≡ partOf t (getD ps i nowhere)
-values-at t [] i h = absurd (omega arith)
-values-at t (p ∷ ps) zero h = refl
-values-at t (p ∷ ps) (suc i) h = values-at t ps i (omega arith)
-
 values-listed : (t : List ℕ) (ps : List Part) (n : ℕ) → length ps ≡ n → listed (λ i. partOf t (getD ps i nowhere)) n 0 ≡ valuesIn t ps
 values-listed t ps n e =
     let z : length (listed (λ i. partOf t (getD ps i nowhere)) n 0) ≡ n = length-listed (λ i. partOf t (getD ps i nowhere)) n 0 in
@@ -107,7 +98,7 @@ values-written t ps r =
     ∷ digits-back (v 14) (omega (arith, r .delete)) j
     ∷ []
 
-pub writes-back : WritesBack
+pub writes-back : WritesBack describeOf
 unfolding textOf linesOf
 writes-back t d e = ap (λ (x : Description). linesText 1 (values (attributesOf t x))) same ∙ ap (linesText 1) all ∙ sym text
   where

@@ -8,7 +8,7 @@ use lib.ListN.{length, take, drop}
 use Rattle.decimal.specs.Decimal.{digits}
 use Rattle.calendar.specs.declared.Time.{Time}
 use Rattle.calendar.specs.Calendar.{notGiven}
-use Rattle.calendar.specs.Written.{timeText}
+use Rattle.times.specs.Written.{timeText}
 use Rattle.attributes.specs.declared.Part.{Part}
 use Rattle.attributes.specs.declared.Description.{Description}
 

@@ -7,7 +7,7 @@ use lib.Dec.{eqb, leb, ltb}
 use lib.ListN.{length, getD}
 use Rattle.decimal.specs.Decimal.{numberIn, noNumber}
 use Rattle.calendar.specs.declared.Time.{Time}
-use Rattle.calendar.specs.Written.{timeIn}
+use Rattle.times.specs.Written.{timeIn}
 use Rattle.refusals.specs.declared.Refusal.the-variants.{Line, Extra}
 use Rattle.calendar.specs.Calendar.{noTime}
 use Rattle.attributes.specs.declared.Part.{Part}

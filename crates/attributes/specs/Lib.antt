@@ -5,3 +5,4 @@ pub mod Describe
 pub mod Compose
 pub mod Told
 pub mod Statements
+pub mod Wrong

@@ -11,14 +11,6 @@ use Rattle.calendar.specs.Calendar.{leap, daysIn, real}
 
 -- ---- a number between two
 
-pub from-low : (low high n : ℕ) → low ≤ n → leb n high ≡ between low high n
-from-low low high n h = simp (le-leb low n h)
-
-pub below-low : (low high n : ℕ) → n < low → leb low n ≡ between low high n
-below-low low high n h = simp (lt-leb low n h)
-
--- ---- a year
-
 module _ (y : ℕ) where
   pub no-fourth : (y % 4 ≡ 0 → ⊥) → false ≡ leap y
   unfolding leap

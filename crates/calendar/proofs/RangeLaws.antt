@@ -1,6 +1,6 @@
 -- Of a real time: its bounds, and back. And that no month has more than 31 days.
 -- Assumes nothing.
-use mathlib.Core.Path.{_≡_, refl}
+use mathlib.Core.Path.{_≡_}
 use mathlib.Core.Bool.{Bool, true, false, cond, _||_}
 use Prim.Native.Nat.{ℕ, _≤_}
 use native.Mathlib.Omega.{arith}
@@ -12,7 +12,6 @@ use Rattle.ground.proofs.RangeLaws.{between-bounds, bounds-between}
 use Rattle.calendar.specs.declared.Time.{Time}
 use Rattle.calendar.specs.Calendar.{leap, daysIn, real}
 use Rattle.calendar.specs.Range.{RealTime}
-use Rattle.calendar.specs.Written.{wrongTime}
 
 pub days-most : (y m : ℕ) → daysIn y m ≤ 31
 unfolding daysIn
@@ -56,7 +55,3 @@ range-real t r =
     (bounds-between 1 (daysIn (t .year) (t .month)) (t .day) (r .day-first) (r .day-last))
     (and-join (le-leb (t .hour) 23 (r .hour-last))
     (and-join (le-leb (t .minute) 59 (r .minute-last)) (le-leb (t .second) 59 (r .second-last))))))
-
-pub wrong-not-real : real wrongTime ≡ false
-unfolding real
-wrong-not-real = refl

@@ -11,8 +11,8 @@ use Rattle.ground.proofs.Writing.{sets-front}
 use Rattle.decimal.specs.Decimal.{digits}
 use Rattle.decimal.proofs.DigitLaws.{digits-long}
 use Rattle.calendar.specs.declared.Time.{Time}
-use Rattle.calendar.specs.Written.{timeText}
-use Rattle.calendar.proofs.WrittenLaws.{time-long}
+use Rattle.times.specs.Written.{timeText}
+use Rattle.times.proofs.WrittenLaws.{time-long}
 use Rattle.calendar.specs.Calendar.{notGiven}
 use Rattle.attributes.specs.declared.Description.{Description}
 use Rattle.attributes.specs.Attributes.{optionalText, timeValue}

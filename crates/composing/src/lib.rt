@@ -14,10 +14,10 @@ use attributes::Description;
 use attributes::Part;
 use calendar::Time;
 use calendar::not_given;
-use calendar::time_text;
 use decimal::digits_of;
 use judging::lowest_fault;
 use refusals::Refusal;
+use times::time_text;
 use words::copy_in;
 
 // What stands for a charset and a size that are not given.

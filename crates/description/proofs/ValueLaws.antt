@@ -13,7 +13,7 @@ use Rattle.words.specs.Words.{same}
 use Rattle.words.proofs.SameLaws.{same-lengths}
 use Rattle.decimal.specs.Decimal.{numberIn, noNumber}
 use Rattle.calendar.specs.declared.Time.{Time}
-use Rattle.calendar.specs.Written.{timeIn}
+use Rattle.times.specs.Written.{timeIn}
 use Rattle.texts.specs.Breaks.{CR}
 use Rattle.calendar.specs.Calendar.{noTime}
 use Rattle.attributes.specs.Lines.{label, withoutCr}

@@ -52,7 +52,7 @@ fn time_at(text: &[u8], at: usize, n: usize) -> Time
             second: 0,
         };
     }
-    calendar::time_in(&text[at..at + n])
+    times::time_in(&text[at..at + n])
 }
 
 // The attributes whose values stand in these parts.

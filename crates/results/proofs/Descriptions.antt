@@ -1,4 +1,4 @@
--- One result (document 01, section 7) of each public call about description files, by that call's own contract: crates texts, decimal, content, calendar, judging,
+-- One result (document 01, section 7) of each public call about description files, by that call's own contract: crates texts, decimal, content, calendar, times, judging,
 -- description, composing and listing. Assumes nothing.
 use mathlib.Core.Path.{refl}
 use Rattle.ground.proofs.OneResult.{equation}
@@ -8,6 +8,7 @@ use Rattle.texts.proofs as texts
 use Rattle.decimal.proofs as decimal
 use Rattle.content.proofs as content
 use Rattle.calendar.proofs as calendar
+use Rattle.times.proofs as times
 use Rattle.judging.proofs as judging
 use Rattle.description.proofs as description
 use Rattle.composing.proofs as composing
@@ -40,10 +41,10 @@ is-real-one κs a r s d e p q = (equation p q, refl)
 pub not-after-one : OneResult calendar.not_after.ended calendar.not_after.Reads.Learnt
 not-after-one κs a r s d e p q = (equation p q, refl)
 
-pub time-text-one : OneResult calendar.time_text.ended calendar.time_text.Reads.Learnt
+pub time-text-one : OneResult times.time_text.ended times.time_text.Reads.Learnt
 time-text-one κs a r s d e p q = (equation p q, refl)
 
-pub time-in-one : OneResult calendar.time_in.ended calendar.time_in.Reads.Learnt
+pub time-in-one : OneResult times.time_in.ended times.time_in.Reads.Learnt
 time-in-one κs a r s d e p q = (equation p q, refl)
 
 pub lowest-fault-one : OneResult judging.lowest_fault.ended judging.lowest_fault.Reads.Learnt

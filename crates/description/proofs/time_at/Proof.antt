@@ -1,7 +1,7 @@
 -- An empty part is told by zeros, any other is lent to the reader of times.
 -- Assumes nothing.
 use mathlib.Core.Path.{ap, _∙_}
-use Rattle.calendar.specs.Written.{timeIn}
+use Rattle.times.specs.Written.{timeIn}
 use Rattle.description.proofs.ValueLaws.{part-is, time-none, time-some}
 use borrow.Author.Needs.{needs}
 use Rattle.description.proofs.time_at.Statement.{statement}

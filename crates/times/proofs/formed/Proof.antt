@@ -3,10 +3,10 @@ use mathlib.Core.Path.{sym, _∙_}
 use Prim.Native.Nat.{_-_}
 use native.Mathlib.Omega.{arith}
 use borrow.Author.Tests.{not-true, not-false}
-use Rattle.calendar.specs.Written.{form}
-use Rattle.calendar.proofs.FormLaws.{Forming, forming-begin, forming-more, forming-not, forming-end, other-length}
-use Rattle.calendar.proofs.formed.Statement.{statement}
-use Rattle.calendar.proofs.formed.Tie as tie
+use Rattle.times.specs.Written.{form}
+use Rattle.times.proofs.FormLaws.{Forming, forming-begin, forming-more, forming-not, forming-end, other-length}
+use Rattle.times.proofs.formed.Statement.{statement}
+use Rattle.times.proofs.formed.Tie as tie
 
 abbrev Inv-loop : tie.InvT-loop
 Inv-loop bytes fs i₀ i = Forming fs bytes i

@@ -1,12 +1,12 @@
 -- Bytes of another form, or of no real time, give the wrong time; others what they write.
 use mathlib.Core.Path.{sym, ap, _∙_}
 use borrow.Author.Tests.{not-true, not-false}
 use Rattle.calendar.specs.Calendar.{real}
-use Rattle.calendar.specs.Written.{form}
-use Rattle.calendar.proofs.WrittenLaws.{formed-long}
-use Rattle.calendar.proofs.FormLaws.{no-form, no-time, some-time}
-use Rattle.calendar.proofs.time_in.Statement.{statement}
-use Rattle.calendar.proofs.time_in.Tie as tie
+use Rattle.times.specs.Written.{form}
+use Rattle.times.proofs.WrittenLaws.{formed-long}
+use Rattle.times.proofs.FormLaws.{no-form, no-time, some-time}
+use Rattle.times.proofs.time_in.Statement.{statement}
+use Rattle.times.proofs.time_in.Tie as tie
 
 formed-requires : tie.Need-formed-requires
 formed-requires c κs = tt

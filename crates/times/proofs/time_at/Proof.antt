@@ -1,9 +1,9 @@
 -- Field by field, two digits each, the year by two pairs.
 use Prim.Native.Nat.{_+_, _*_}
 use native.Mathlib.Omega.{arith}
-use Rattle.calendar.specs.Written.{timeAt}
-use Rattle.calendar.proofs.time_at.Statement.{statement}
-use Rattle.calendar.proofs.time_at.Tie as tie
+use Rattle.times.specs.Written.{timeAt}
+use Rattle.times.proofs.time_at.Statement.{statement}
+use Rattle.times.proofs.time_at.Tie as tie
 
 two-at-requires : tie.Need-two-at-requires
 two-at-requires c κs = omega arith

@@ -1,7 +1,7 @@
 -- Where the form has a digit the byte is held to the digits, elsewhere to the form.
-use Rattle.calendar.proofs.FormLaws.{digit-high, digit-low, sign-same}
-use Rattle.calendar.proofs.fits.Statement.{statement}
-use Rattle.calendar.proofs.fits.Tie as tie
+use Rattle.times.proofs.FormLaws.{digit-high, digit-low, sign-same}
+use Rattle.times.proofs.fits.Statement.{statement}
+use Rattle.times.proofs.fits.Tie as tie
 
 returns : tie.Need-returns
 returns c = digit-high _ _ (c .before .if1 .taken) (c .if2 .taken)

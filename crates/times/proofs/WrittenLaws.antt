@@ -12,13 +12,13 @@ use lib.ListN.{length, getD}
 use Rattle.ground.specs.Ranges.{isDigit}
 use Rattle.ground.specs.Lists.{listed}
 use Rattle.ground.proofs.Listed.{listed-whole}
 use Rattle.calendar.specs.declared.Time.{Time}
 use Rattle.calendar.specs.Calendar.{daysIn, real}
 use Rattle.calendar.specs.Range.{RealTime}
-use Rattle.calendar.specs.Written.{two, timeText, form, formed, twoAt, timeAt, wrongTime, timeIn}
+use Rattle.times.specs.Written.{two, timeText, form, formed, twoAt, timeAt, wrongTime, timeIn}
 use Rattle.ground.proofs.Truth.{and-both, and-join}
 use Rattle.ground.proofs.RangeLaws.{between-bounds, bounds-between}
-use Rattle.calendar.proofs.RangeLaws.{days-most, real-range, wrong-not-real}
+use Rattle.calendar.proofs.RangeLaws.{days-most, real-range}
 
 -- ---- what is written
 
@@ -162,6 +162,10 @@ module _ (v : List ℕ) (f : formed form v ≡ true) where
       let w : timeText (timeAt v) ≡ listed (λ k. getD v k 0) 19 0 =
       λ i. c i ++ (y i ++ (s4 i ∷ (m i ++ (s7 i ∷ (d i ++ (s10 i ∷ (h i ++ (s13 i ∷ (n i ++ (s16 i ∷ e i)))))))))) in
       w ∙ ap (λ (n : ℕ). listed (λ k. getD v k 0) n 0) (sym (formed-long form v f)) ∙ listed-whole v 0
+
+pub wrong-not-real : real wrongTime ≡ false
+unfolding real
+wrong-not-real = refl
 
 -- a value writes a real time, or none
 data Reading (v : List ℕ) : Time → Type 0 where

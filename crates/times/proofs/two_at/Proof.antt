@@ -1,7 +1,7 @@
 -- The two numbers of the two digits, the first ten times.
 use native.Mathlib.Omega.{arith}
-use Rattle.calendar.proofs.two_at.Statement.{statement}
-use Rattle.calendar.proofs.two_at.Tie as tie
+use Rattle.times.proofs.two_at.Statement.{statement}
+use Rattle.times.proofs.two_at.Tie as tie
 
 shared-slice-read-digit : tie.Need-shared-slice-read-digit
 shared-slice-read-digit c = omega arith

@@ -1,8 +1,8 @@
 -- Each digit where the text has it, with the signs between.
 use mathlib.Core.List.{[], _∷_}
-use Rattle.calendar.specs.Written.{timeText}
-use Rattle.calendar.proofs.time_text.Statement.{statement}
-use Rattle.calendar.proofs.time_text.Tie as tie
+use Rattle.times.specs.Written.{timeText}
+use Rattle.times.proofs.time_text.Statement.{statement}
+use Rattle.times.proofs.time_text.Tie as tie
 
 tens-requires : tie.Need-tens-requires
 tens-requires c κs = tt

@@ -11,9 +11,9 @@ use lib.Dec.{eqb, leb}
 use lib.ListN.{length, getD, drop, drop-of-length-le}
 use lib.Seq.{drop-cons}
 use Rattle.ground.specs.Ranges.{isDigit}
 use Rattle.calendar.specs.Calendar.{real}
-use Rattle.calendar.specs.Written.{form, formed, timeAt, wrongTime, timeIn}
-use Rattle.calendar.proofs.WrittenLaws.{formed-long}
+use Rattle.times.specs.Written.{form, formed, timeAt, wrongTime, timeIn}
+use Rattle.times.proofs.WrittenLaws.{formed-long}
 
 -- ---- a byte
 
