@@ -7,7 +7,7 @@ Steps know what is open, so that most packets belong to something and every refu
 import random, sys
 
 from cases import Case, Run
-from random_descriptions import Descriptions
+from random_descriptions import Choices, Descriptions
 from receiver import MARK, PLACE, header_of, place_of, up
 
 FIELDS = ["resource", "type", "update", "protection", "rows", "size"]
@@ -24,7 +24,7 @@ def count_of(s):
     return up(255 * m * up(s["length"], 239 * m) if s["protection"] else s["length"], s["size"])
 
 
-class Writer:
+class Writer(Choices):
     """The lines so far, what they left at hand, and the senders whose files are being collected, by resource."""
 
     def __init__(self, seed):
@@ -48,15 +48,6 @@ class Writer:
         return self.run.answer.number == 0
 
     # ---- choices
-
-    def below(self, n):
-        return self.random.randrange(n)
-
-    def often(self, share):
-        return self.random.random() < share
-
-    def pick(self, *choices):
-        return self.random.choice(choices)
 
     def wrapped(self, n, modulus):
         """Now and then the same number modulo the range of its argument."""

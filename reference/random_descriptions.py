@@ -11,11 +11,8 @@ NO_NUMBERS = ["", "00", "01", "-1", "+1", "1 ", " 1", "0x1", "1.0", "a", "2", "5
               str((1 << 64) + 1), str((1 << 64) + 9000), "1" * 40]
 
 
-class Descriptions:
-    """Texts as a list of the fifteen values, each line's behind its colon."""
-
-    def __init__(self, random):
-        self.random = random
+class Choices:
+    """What is chosen at random; whoever chooses has `random`."""
 
     def below(self, n):
         return self.random.randrange(n)
@@ -25,6 +22,13 @@ class Descriptions:
 
     def pick(self, *choices):
         return self.random.choice(choices)
+
+
+class Descriptions(Choices):
+    """Texts as a list of the fifteen values, each line's behind its colon."""
+
+    def __init__(self, random):
+        self.random = random
 
     # ---- sound ones
 

@@ -1,6 +1,6 @@
 -- The fifteen attributes of a description file, and what is written of each in its line: source document 001, section 7.2, table 2, in its order.
 -- Assumes nothing.
-use mathlib.Core.Bool.{Bool, cond}
+use mathlib.Core.Bool.{cond}
 use mathlib.Core.List.{List, [], _∷_}
 use Prim.Native.Nat.{ℕ}
 use lib.Dec.{eqb}

@@ -1,7 +1,7 @@
 -- Reading a description file: document 02, R-4. The refusals are 29 with the lowest line that has a fault, then 30.
 -- Assumes nothing.
-use mathlib.Core.Bool.{Bool, cond}
-use mathlib.Core.List.{List, []}
+use mathlib.Core.Bool.{cond}
+use mathlib.Core.List.{List}
 use Prim.Native.Nat.{ℕ, suc}
 use lib.Dec.{eqb, leb, ltb}
 use lib.ListN.{length, getD}
@@ -16,7 +16,7 @@ use Rattle.attributes.specs.declared.Described.{Described}
 use Rattle.attributes.specs.declared.Described.the-variants.{«Attributes», Refused}
 use Rattle.attributes.specs.Attributes.{noCharset, noSize, partOf}
 use Rattle.attributes.specs.Rules.{rules, lowest}
-use Rattle.attributes.specs.Lines.{Found, linesOf}
+use Rattle.attributes.specs.Lines.{linesOf}
 
 -- the part of a line that is not there
 abbrev pub nowhere : Part

@@ -1,8 +1,8 @@
 -- What each of the fifteen lines may hold: document 02, R-4, with source document 001, section 7.2, tables 2 to 4. Reader and writer judge by these rules alike.
 -- Assumes nothing.
-use mathlib.Core.Bool.{Bool, true, false, cond, not, _&&_, _||_}
+use mathlib.Core.Bool.{Bool, true, false, cond, _&&_, _||_}
 use mathlib.Core.List.{List, [], _∷_}
-use Prim.Native.Nat.{ℕ, suc, _+_, _-_}
+use Prim.Native.Nat.{ℕ, suc, _-_}
 use lib.Dec.{eqb, leb}
 use lib.ListN.{length}
 use Rattle.ground.specs.Ranges.{between}

@@ -1,18 +1,13 @@
 -- What reading and writing a description tell: document 02, R-4. The attributes are thirty numbers, each text's beginning and length, each time's six numbers.
 -- Assumes nothing.
-use mathlib.Core.List.{List, [], _∷_, _++_}
+use mathlib.Core.List.{List, [], _∷_}
 use Prim.Native.Nat.{ℕ}
-use Rattle.calendar.specs.Calendar.{fields}
 use Rattle.refusals.specs.Told.{Told, acceptedWith, refusedAs}
-use Rattle.attributes.specs.declared.Part.{Part}
 use Rattle.attributes.specs.declared.Description.{Description}
 use Rattle.attributes.specs.declared.Described.{Described}
 use Rattle.attributes.specs.declared.Composed.{Composed}
 use Rattle.attributes.specs.declared.Described.the-variants as described
 use Rattle.attributes.specs.declared.Composed.the-variants as composed
-
-abbrev pub partList : Part → List ℕ
-partList p = (p .at) ∷ (p .length) ∷ []
 
 abbrev pub descriptionList : Description → List ℕ
 descriptionList d =

@@ -1,12 +1,10 @@
 -- Every kind that is not reserved is below 132.
 -- Assumes nothing.
-use mathlib.Core.Path.{_≡_, refl, sym, ap, _∙_}
-use mathlib.Core.Bool.{cond}
-use Prim.Native.Nat.{ℕ, _<_, _≤_}
+use mathlib.Core.Path.{_≡_}
+use Prim.Native.Nat.{ℕ, _<_}
 use native.Mathlib.Omega.{arith}
 use borrow.Author.Tests.{lt-leb}
-use lib.Dec.{leb}
-use Rattle.content.specs.declared.Content.the-variants.{File, Stream, Reserved}
+use Rattle.content.specs.declared.Content.the-variants.{Reserved}
 use Rattle.content.specs.Content.{contentOf}
 
 pub reserved-above : (kind : ℕ) → 131 < kind → contentOf kind ≡ Reserved

@@ -1,14 +1,13 @@
 -- The laws of `digits`: how many there are, that each is a digit of ASCII, and which one stands first. Stated over `digitsBy k`, the last k digits.
 -- Assumes nothing.
 use mathlib.Core.Path.{_≡_, refl, sym, ap, _∙_}
-use mathlib.Core.Bool.{Bool, true, false, true≢false, _&&_}
+use mathlib.Core.Bool.{true, _&&_}
 use mathlib.Core.Logic.{_⊎_, inl, inr, ⊎-elim}
 use mathlib.Core.List.{List, [], _∷_, _++_}
 use Prim.Native.Nat.{ℕ, zero, suc, _+_, _*_, _/_, _%_, _^_, _≤_, _<_}
 use native.Mathlib.Nat.{pow-suc, one-le-pow}
 use native.Mathlib.Omega.{arith}
-use borrow.Author.Tests.{lt-ltb, le-ltb, le-leb, leb-true}
-use lib.Dec.{leb}
+use borrow.Author.Tests.{lt-ltb, le-ltb}
 use lib.ListN.{length, getD, length-append, List·getD-append}
 use Rattle.ground.proofs.Numbers.{lt-or-ge}
 use Rattle.ground.proofs.Truth.{and-both}

@@ -10,7 +10,6 @@ use lib.Dec.{leb, ltb}
 use lib.ListN.{length}
 use Rattle.refusals.specs.declared.Refusal.the-variants.{Line, Extra}
 use Rattle.attributes.specs.declared.Description.{Description}
-use Rattle.attributes.specs.declared.Described.{Described}
 use Rattle.attributes.specs.declared.Described.the-variants.{«Attributes», Refused}
 use Rattle.attributes.specs.Rules.{rules, lowest}
 use Rattle.attributes.specs.Lines.{linesOf}

@@ -1,20 +1,17 @@
 -- The loop that finds the lines: one step (`step-none`, `step-line`), and the invariant `Splitting`, that what was found stands before what is still found.
 -- Assumes nothing.
 use mathlib.Core.Path.{_≡_, refl, sym, ap, ap₂, _∙_}
-use mathlib.Core.Logic.{_⊎_, inl, inr}
 use mathlib.Core.Bool.{Bool, true, false, true≢false, cond, _&&_}
 use mathlib.Core.List.{List, [], _∷_, _++_, append-assoc, append-nil}
 use Prim.Native.Nat.{ℕ, zero, suc, _+_, _-_, _<_, _≤_, min}
 use native.Mathlib.Nat.{min-le-right}
 use native.Mathlib.Omega.{arith}
-use borrow.Author.Tests.{leb-true, ltb-true}
+use borrow.Author.Tests.{ltb-true}
 use lib.Dec.{eqb, leb, ltb}
-use lib.ListN.{length, getD, set, take, drop, replicate, length-set, length-drop, length-take, length-append, List·getD-append, List·getD-eq-default}
-use lib.Seq.{getD-set-same, getD-set-other, getD-append-add, take-all}
+use lib.ListN.{length, getD, set, take, drop, replicate, length-set, length-drop, length-take, length-append}
 use Rattle.words.specs.Words.{same}
 use Rattle.words.proofs.SameLaws.{same-equal}
 use Rattle.texts.specs.Breaks.{CR, untilLf}
-use Rattle.texts.proofs.BreakLaws.{until-lf-le}
 use Rattle.attributes.specs.declared.Part.{Part}
 use Rattle.attributes.specs.Lines.{label, isLine, withoutCr, valueAt, behindLine, Found, alone, before, linesFrom, linesOf}
 use Rattle.attributes.specs.Describe.{nowhere}

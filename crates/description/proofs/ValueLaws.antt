@@ -2,17 +2,16 @@
 -- Assumes nothing.
 use mathlib.Core.Path.{_≡_, refl, sym, ap, ap₂, _∙_}
 use mathlib.Core.Bool.{Bool, true, false, cond, _&&_}
-use mathlib.Core.List.{List, [], _∷_}
+use mathlib.Core.List.{List}
 use Prim.Native.Nat.{ℕ, zero, suc, _+_, _-_, _<_, _≤_}
 use native.Mathlib.Omega.{arith}
-use borrow.Author.Tests.{eq-eqb, ne-eqb, le-leb, lt-leb}
+use borrow.Author.Tests.{eq-eqb, ne-eqb, le-leb}
 use lib.Dec.{eqb, leb}
 use lib.ListN.{length, getD, take, drop, length-drop}
 use lib.Seq.{length-take-le, take-all}
 use Rattle.words.specs.Words.{same}
 use Rattle.words.proofs.SameLaws.{same-lengths}
 use Rattle.decimal.specs.Decimal.{numberIn, noNumber}
-use Rattle.calendar.specs.declared.Time.{Time}
 use Rattle.times.specs.Written.{timeIn}
 use Rattle.texts.specs.Breaks.{CR}
 use Rattle.calendar.specs.Calendar.{noTime}

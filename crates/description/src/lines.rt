@@ -1,12 +1,12 @@
 // The lines of a text: where their values stand.
 ghost use mathlib.Core.Path.{_≡_};
-ghost use mathlib.Core.Bool.{Bool, true};
+ghost use mathlib.Core.Bool.{true};
 ghost use Prim.Native.Nat.{_+_, _≤_, _<_};
 ghost use lib.Dec.{ltb};
 ghost use lib.ListN.{length, take, drop};
 ghost use Rattle.words.specs.Words.{same};
 ghost use Rattle.texts.specs.Breaks.{untilLf};
-ghost use Rattle.attributes.specs.Lines.{label, withoutCr, isLine, valueAt, behindLine, linesOf};
+ghost use Rattle.attributes.specs.Lines.{label, withoutCr};
 ghost use Rattle.description.specs.Inner.{Split, Stepped};
 
 // The values of the lines that are there, each by its beginning and its length, zeros for those that are not; how many there are, and where they end.

@@ -3,12 +3,12 @@
 use mathlib.Core.Path.{_≡_, refl, sym, ap, _∙_}
 use mathlib.Core.Logic.{_⊎_, inl, inr}
 use mathlib.Core.Bool.{Bool, cond}
-use mathlib.Core.List.{List, [], _∷_}
+use mathlib.Core.List.{List}
 use Prim.Native.Nat.{ℕ, _+_, _*_, _%_, _<_, _≤_}
 use native.Mathlib.Omega.{arith}
 use borrow.Author.Tests.{eq-eqb, ne-eqb}
 use lib.Dec.{eqb}
-use lib.ListN.{length, getD, take, drop}
+use lib.ListN.{length, getD, take}
 use lib.Seq.{sets, getD-take, length-take-le}
 use Rattle.ground.specs.Lists.{listed}
 use Rattle.ground.proofs.Listed.{le-or-lt, listed-part}
@@ -22,9 +22,9 @@ use Rattle.attributes.specs.declared.Composed.{Composed}
 use Rattle.attributes.specs.declared.Described.{Described}
 use Rattle.attributes.specs.declared.Described.the-variants as described
 use Rattle.attributes.specs.Describe.{describeOf}
-use Rattle.attributes.specs.Compose.{Writing, composeOf}
+use Rattle.attributes.specs.Compose.{composeOf}
 use Rattle.attributes.specs.Told.{descriptionList}
-use Rattle.face.specs.Face.{Said, Says, answerOf, puts, putsIf}
+use Rattle.face.specs.Face.{Says, answerOf, puts, putsIf}
 use Rattle.face.proofs.SayLaws.{says-as, refused-puts}
 use Rattle.face.proofs.LayoutLaws.{over-zeros}
 use Rattle.listing.specs.Listing.{descriptionFrom, describedSays, describeSays, composedAnswer, composeSays}

@@ -1,9 +1,9 @@
 -- A refused reading or writing of a description leaves its output.
 -- Assumes nothing.
-use mathlib.Core.Path.{_≡_, refl, sym, ap, _∙_}
+use mathlib.Core.Path.{refl}
 use mathlib.Core.Bool.{Bool, true, false, cond}
 use mathlib.Core.List.{List}
-use Prim.Native.Nat.{ℕ, _+_, _*_, _%_}
+use Prim.Native.Nat.{ℕ}
 use native.Mathlib.Omega.{arith}
 use lib.Dec.{eqb, leb, ltb}
 use lib.ListN.{length}
@@ -17,8 +17,7 @@ use Rattle.attributes.specs.Rules.{rules, lowest}
 use Rattle.attributes.specs.Describe.{describeOf}
 use Rattle.attributes.specs.Compose.{Writing, textOf, composeOf}
 use Rattle.attributes.specs.Told.{describedTold}
-use Rattle.face.specs.Face.{Said, answerOf}
-use Rattle.face.specs.Statements.{numberIn}
+use Rattle.face.specs.Face.{answerOf}
 use Rattle.face.proofs.RefusedLaws.{SaidKept, put-if-kept, output-kept}
 use Rattle.listing.specs.Listing.{descriptionFrom, describeSays, composedAnswer, composeSays}
 use Rattle.listing.specs.Statements.{DescriptionRefusalsChangeNothing}

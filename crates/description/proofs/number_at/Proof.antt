@@ -1,9 +1,6 @@
 -- The bytes from `at` on, n of them, are lent to the number reader.
 -- Assumes nothing.
 use mathlib.Core.Path.{ap, _∙_}
-use mathlib.Core.List.{List}
-use Prim.Native.Nat.{ℕ}
-use native.Mathlib.Omega.{arith}
 use Rattle.decimal.specs.Decimal.{numberIn}
 use Rattle.description.proofs.ValueLaws.{part-is}
 use borrow.Author.Needs.{needs}

@@ -1,7 +1,6 @@
 -- The lines are found, their attributes read and judged; the lowest fault is told first, then what stands behind the lines.
 -- Assumes nothing.
 use native.Mathlib.Omega.{arith}
-use Rattle.attributes.specs.Lines.{linesOf}
 use Rattle.attributes.proofs.ReadLaws.{lines-fifteen}
 use Rattle.description.proofs.AnswerLaws.{says-line, says-extra, says-attributes}
 use Rattle.description.proofs.read.Statement.{statement}

@@ -4,7 +4,7 @@ use mathlib.Core.Path.{refl, _∙_}
 use Prim.Native.Nat.{_-_}
 use native.Mathlib.Omega.{arith}
 use borrow.Author.Needs.{needs}
-use lib.ListN.{length, getD}
+use lib.ListN.{getD}
 use Rattle.ground.proofs.Writing.{sets-reach, Run, run-begin, run-put, run-end}
 use Rattle.listing.proofs.copy_numbers.Statement.{statement}
 use Rattle.listing.proofs.copy_numbers.Tie as tie

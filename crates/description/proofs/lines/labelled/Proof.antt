@@ -1,9 +1,8 @@
 -- Three bytes are compared with the label; fewer cannot be one.
 -- Assumes nothing.
-use mathlib.Core.Path.{refl, ap, _∙_}
+use mathlib.Core.Path.{ap, _∙_}
 use mathlib.Core.List.{List}
 use Prim.Native.Nat.{ℕ}
-use native.Mathlib.Omega.{arith}
 use Rattle.words.specs.Words.{same}
 use Rattle.attributes.specs.Lines.{label}
 use Rattle.description.proofs.ValueLaws.{part-is, label-short}
