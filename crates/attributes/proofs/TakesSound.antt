@@ -12,7 +12,7 @@ use lib.ListN.{length, getD}
 use Rattle.ground.proofs.Listed.{le-or-lt}
 use Rattle.content.specs.declared.Content.the-variants.{File, Stream}
 use Rattle.content.specs.Content.{contentOf}
-use Rattle.content.proofs.KindLaws.{reserved-above}
+use Rattle.content.proofs.Blocks.{from-132}
 use Rattle.decimal.specs.Decimal.{digits, numberIn, noNumber}
 use Rattle.decimal.proofs.DigitLaws.{digits-some}
 use Rattle.decimal.proofs.NumberLaws.{number-digits}
@@ -82,8 +82,8 @@ module _ (a : Attributes) (r : InRange a) where
       by : (a .kind ≤ 131) ⊎ (131 < a .kind)
           → ((contentOf (a .kind) ≡ File) × (a .mode ≡ 1)) ⊎ ((contentOf (a .kind) ≡ Stream) × (a .mode ≡ 0)) → a .kind < 100000000
       by (inl h) k = omega arith
-      by (inr h) (inl k) = let e = reserved-above (a .kind) h in let z : _≡_ {A = ℕ} 0 1 = cc (k .0) in absurd (omega arith)
-      by (inr h) (inr k) = let e = reserved-above (a .kind) h in let z : _≡_ {A = ℕ} 0 1 = cc (k .0) in absurd (omega arith)
+      by (inr h) (inl k) = let e = from-132 (a .kind) h in let z : _≡_ {A = ℕ} 0 1 = cc (k .0) in absurd (omega arith)
+      by (inr h) (inr k) = let e = from-132 (a .kind) h in let z : _≡_ {A = ℕ} 0 1 = cc (k .0) in absurd (omega arith)
 
 -- ---- a text with the lines of attributes in their ranges
 

@@ -23,6 +23,7 @@ pub fn content_of(kind: u64) -> Content
         61 => Content::File,
         62..=127 => Content::Reserved,
         128 | 129 | 130 | 131 => Content::Stream,
+        132..=255 => Content::Reserved,
         _ => Content::Reserved,
     }
 }

@@ -34,5 +34,8 @@ returns-9 c = from-128 _ (omega arith) (omega arith)
 returns-10 : tie.Need-returns-10
 returns-10 c = from-132 _ (omega arith)
 
+returns-11 : tie.Need-returns-11
+returns-11 c = from-132 _ (omega arith)
+
 pub content-of-spec : {M : Type 1} → statement M
-content-of-spec = tie.close (tie.spec returns returns-2 returns-3 returns-4 returns-5 returns-6 returns-7 returns-8 returns-9 returns-10)
+content-of-spec = tie.close (tie.spec returns returns-2 returns-3 returns-4 returns-5 returns-6 returns-7 returns-8 returns-9 returns-10 returns-11)
