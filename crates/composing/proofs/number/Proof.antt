@@ -1,4 +1,5 @@
 -- The digits stand at the front of the eight bytes, and these at the front of the nineteen.
+use native.Mathlib.Omega.{arith}
 use mathlib.Core.Path.{refl}
 use borrow.Author.Needs.{needs}
 use Rattle.composing.proofs.ValueLaws.{number-holds}
@@ -9,7 +10,7 @@ digits-of-requires : tie.Need-digits-of-requires
 digits-of-requires c κs = tt
 
 slice-aggregate-copy-in : tie.Need-slice-aggregate-copy-in
-slice-aggregate-copy-in c = search needs
+slice-aggregate-copy-in c = omega arith
 
 slice-aggregate-copy-in-2 : tie.Need-slice-aggregate-copy-in-2
 slice-aggregate-copy-in-2 c = search needs

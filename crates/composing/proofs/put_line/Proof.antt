@@ -18,7 +18,7 @@ label-requires : tie.Need-label-requires
 label-requires c κs = tt
 
 slice-aggregate-copy-in : tie.Need-slice-aggregate-copy-in
-slice-aggregate-copy-in c = search needs
+slice-aggregate-copy-in c = omega arith
 
 copy-in-requires : tie.Need-copy-in-requires
 copy-in-requires c κs = tt

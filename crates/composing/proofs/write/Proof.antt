@@ -1,7 +1,6 @@
 -- The fault comes first, then the room, and where both let it pass, all lines are written.
 use mathlib.Core.Path.{sym, _∙_}
 use native.Mathlib.Omega.{arith}
-use borrow.Author.Needs.{needs}
 use borrow.Author.Tests.{ltb-false}
 use lib.ListN.{length}
 use Rattle.composing.specs.Inner.{pieces, sizeBy}
@@ -40,7 +39,7 @@ put-lines-requires c κs =
     )
 
 same-length : tie.Need-same-length
-same-length c = search needs
+same-length c = omega arith
 
 returns-3 : tie.Need-returns-3
 returns-3 c =

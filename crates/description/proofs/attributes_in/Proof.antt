@@ -1,131 +1,131 @@
 -- Each attribute is read from its part; the parts are those of the list, entry by entry.
 -- Assumes nothing.
+use native.Mathlib.Omega.{arith}
 use mathlib.Core.Path.{_≡_, ap, ap₂, _∙_}
 use Prim.Native.Nat.{ℕ}
 use lib.ListN.{getD, take, drop}
 use Rattle.decimal.specs.Decimal.{numberIn}
 use Rattle.attributes.specs.Attributes.{partOf, noCharset, noSize}
 use Rattle.attributes.specs.Describe.{nowhere, optionalIn, givenTime, descriptionIn}
-use borrow.Author.Needs.{needs}
 use Rattle.description.proofs.attributes_in.Statement.{statement}
 use Rattle.description.proofs.attributes_in.Tie as tie
 
 array-read-number-at : tie.Need-array-read-number-at
-array-read-number-at c = search needs
+array-read-number-at c = omega arith
 
 array-read-number-at-2 : tie.Need-array-read-number-at-2
-array-read-number-at-2 c = search needs
+array-read-number-at-2 c = omega arith
 
 number-at-requires : tie.Need-number-at-requires
 number-at-requires c κs = c .before .pre 0
 
 array-read-number-at-3 : tie.Need-array-read-number-at-3
-array-read-number-at-3 c = search needs
+array-read-number-at-3 c = omega arith
 
 array-read-number-at-4 : tie.Need-array-read-number-at-4
-array-read-number-at-4 c = search needs
+array-read-number-at-4 c = omega arith
 
 number-at-requires-2 : tie.Need-number-at-requires-2
 number-at-requires-2 c κs = c .before .before .pre 1
 
 array-read-number-at-5 : tie.Need-array-read-number-at-5
-array-read-number-at-5 c = search needs
+array-read-number-at-5 c = omega arith
 
 array-read-number-at-6 : tie.Need-array-read-number-at-6
-array-read-number-at-6 c = search needs
+array-read-number-at-6 c = omega arith
 
 number-at-requires-3 : tie.Need-number-at-requires-3
 number-at-requires-3 c κs = c .before .before .before .pre 2
 
 array-read-number-at-7 : tie.Need-array-read-number-at-7
-array-read-number-at-7 c = search needs
+array-read-number-at-7 c = omega arith
 
 array-read-number-at-8 : tie.Need-array-read-number-at-8
-array-read-number-at-8 c = search needs
+array-read-number-at-8 c = omega arith
 
 number-at-requires-4 : tie.Need-number-at-requires-4
 number-at-requires-4 c κs = c .before .before .before .before .pre 3
 
 array-read-t36 : tie.Need-array-read-t36
-array-read-t36 c = search needs
+array-read-t36 c = omega arith
 
 array-read-t39 : tie.Need-array-read-t39
-array-read-t39 c = search needs
+array-read-t39 c = omega arith
 
 array-read-number-at-9 : tie.Need-array-read-number-at-9
-array-read-number-at-9 c = search needs
+array-read-number-at-9 c = omega arith
 
 array-read-number-at-10 : tie.Need-array-read-number-at-10
-array-read-number-at-10 c = search needs
+array-read-number-at-10 c = omega arith
 
 number-at-requires-5 : tie.Need-number-at-requires-5
 number-at-requires-5 c κs = c .before .before .before .before .before .pre 5
 
 array-read-t50 : tie.Need-array-read-t50
-array-read-t50 c = search needs
+array-read-t50 c = omega arith
 
 array-read-t53 : tie.Need-array-read-t53
-array-read-t53 c = search needs
+array-read-t53 c = omega arith
 
 array-read-t57 : tie.Need-array-read-t57
-array-read-t57 c = search needs
+array-read-t57 c = omega arith
 
 array-read-t60 : tie.Need-array-read-t60
-array-read-t60 c = search needs
+array-read-t60 c = omega arith
 
 array-read-t64 : tie.Need-array-read-t64
-array-read-t64 c = search needs
+array-read-t64 c = omega arith
 
 array-read-t67 : tie.Need-array-read-t67
-array-read-t67 c = search needs
+array-read-t67 c = omega arith
 
 array-read-optional-at : tie.Need-array-read-optional-at
-array-read-optional-at c = search needs
+array-read-optional-at c = omega arith
 
 array-read-optional-at-2 : tie.Need-array-read-optional-at-2
-array-read-optional-at-2 c = search needs
+array-read-optional-at-2 c = omega arith
 
 optional-at-requires : tie.Need-optional-at-requires
 optional-at-requires c κs = c .before .before .before .before .before .before .pre 9
 
 array-read-t78 : tie.Need-array-read-t78
-array-read-t78 c = search needs
+array-read-t78 c = omega arith
 
 array-read-t81 : tie.Need-array-read-t81
-array-read-t81 c = search needs
+array-read-t81 c = omega arith
 
 array-read-optional-at-3 : tie.Need-array-read-optional-at-3
-array-read-optional-at-3 c = search needs
+array-read-optional-at-3 c = omega arith
 
 array-read-optional-at-4 : tie.Need-array-read-optional-at-4
-array-read-optional-at-4 c = search needs
+array-read-optional-at-4 c = omega arith
 
 optional-at-requires-2 : tie.Need-optional-at-requires-2
 optional-at-requires-2 c κs = c .before .before .before .before .before .before .before .pre 11
 
 array-read-time-at : tie.Need-array-read-time-at
-array-read-time-at c = search needs
+array-read-time-at c = omega arith
 
 array-read-time-at-2 : tie.Need-array-read-time-at-2
-array-read-time-at-2 c = search needs
+array-read-time-at-2 c = omega arith
 
 time-at-requires : tie.Need-time-at-requires
 time-at-requires c κs = c .before .before .before .before .before .before .before .before .pre 12
 
 array-read-time-at-3 : tie.Need-array-read-time-at-3
-array-read-time-at-3 c = search needs
+array-read-time-at-3 c = omega arith
 
 array-read-time-at-4 : tie.Need-array-read-time-at-4
-array-read-time-at-4 c = search needs
+array-read-time-at-4 c = omega arith
 
 time-at-requires-2 : tie.Need-time-at-requires-2
 time-at-requires-2 c κs = c .before .before .before .before .before .before .before .before .before .pre 13
 
 array-read-number-at-11 : tie.Need-array-read-number-at-11
-array-read-number-at-11 c = search needs
+array-read-number-at-11 c = omega arith
 
 array-read-number-at-12 : tie.Need-array-read-number-at-12
-array-read-number-at-12 c = search needs
+array-read-number-at-12 c = omega arith
 
 number-at-requires-6 : tie.Need-number-at-requires-6
 number-at-requires-6 c κs = c .before .before .before .before .before .before .before .before .before .before .pre 14

@@ -1,7 +1,7 @@
 -- An empty part is told by `none`; a number that is `none` itself is no number that may be written.
 -- Assumes nothing.
+use native.Mathlib.Omega.{arith}
 use Rattle.description.proofs.ValueLaws.{optional-none, optional-fault, optional-some}
-use borrow.Author.Needs.{needs}
 use Rattle.description.proofs.optional_at.Statement.{statement}
 use Rattle.description.proofs.optional_at.Tie as tie
 
@@ -9,7 +9,7 @@ returns : tie.Need-returns
 returns c = let a = c .before .before .args in optional-none (a .text .now) (a .at) (a .n) (a .none) (c .if1 .taken)
 
 number-at-requires : tie.Need-number-at-requires
-number-at-requires c κs = search needs
+number-at-requires c κs = omega arith
 
 returns-2 : tie.Need-returns-2
 returns-2 c =

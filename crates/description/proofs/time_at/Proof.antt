@@ -1,9 +1,9 @@
 -- An empty part is told by zeros, any other is lent to the reader of times.
 -- Assumes nothing.
+use native.Mathlib.Omega.{arith}
 use mathlib.Core.Path.{ap, _∙_}
 use Rattle.times.specs.Written.{timeIn}
 use Rattle.description.proofs.ValueLaws.{part-is, time-none, time-some}
-use borrow.Author.Needs.{needs}
 use Rattle.description.proofs.time_at.Statement.{statement}
 use Rattle.description.proofs.time_at.Tie as tie
 
@@ -11,19 +11,19 @@ returns : tie.Need-returns
 returns c = let a = c .before .before .args in time-none (a .text .now) (a .at) (a .n) (c .if1 .taken)
 
 add-time-in : tie.Need-add-time-in
-add-time-in c = search needs
+add-time-in c = omega arith
 
 sub-time-in : tie.Need-sub-time-in
-sub-time-in c = search needs
+sub-time-in c = omega arith
 
 part-time-in-start : tie.Need-part-time-in-start
-part-time-in-start c = search needs
+part-time-in-start c = omega arith
 
 part-time-in-end : tie.Need-part-time-in-end
-part-time-in-end c = search needs
+part-time-in-end c = omega arith
 
 time-in-requires : tie.Need-time-in-requires
-time-in-requires c κs = search needs
+time-in-requires c κs = tt
 
 returns-2 : tie.Need-returns-2
 returns-2 c =

@@ -1,6 +1,7 @@
 -- `errata::find`: a row that leaves nothing is coded as it is. Of another the locator's roots are the places, the values are solved for there, and where they give all
 -- sixteen syndromes the mended row is coded.
 -- Assumes nothing.
+use native.Mathlib.Omega.{arith}
 use mathlib.Core.Path.{_≡_, subst, _∙_}
 use mathlib.Core.Bool.{Bool, true, false}
 use mathlib.Core.List.{List, []}
@@ -21,7 +22,7 @@ use Rattle.errata.proofs.find.Statement.{statement}
 use Rattle.errata.proofs.find.Tie as tie
 
 sixteen : (c : tie.Start) → length (c .args .rest) ≡ 16
-sixteen c = search needs
+sixteen c = omega arith
 
 rest-bytes : (c : tie.Start) → Bytes (c .args .rest)
 rest-bytes c = bytes-of (c .args .rest) (λ i. let fit : mir.Val.Fits mir.Syntax.w8 (getD (c .args .rest) i 0) = search needs in fit .fits)

@@ -1,7 +1,6 @@
 -- `put` writes the place and its value behind those that there are, unless the value is 0.
 -- Assumes nothing.
 use mathlib.Core.Path.{refl}
-use borrow.Author.Needs.{needs}
 use native.Mathlib.Omega.{arith}
 use Rattle.errata.proofs.put.Statement.{statement}
 use Rattle.errata.proofs.put.Tie as tie
@@ -16,7 +15,7 @@ element-write-out-2 : tie.Need-element-write-out-2
 element-write-out-2 c = omega arith
 
 add-out : tie.Need-add-out
-add-out c = search needs
+add-out c = omega arith
 
 returns-2 : tie.Need-returns-2
 returns-2 c = record { nothing = λ z. absurd (c .if1 .left z); more = λ n. refl }

@@ -1,9 +1,9 @@
 -- `field::inverse_by` reads the inverse off its tables by the definition's own two cases.
 -- Assumes nothing.
+use native.Mathlib.Omega.{arith}
 use mathlib.Core.Path.{sym, ap, _∙_}
 use Prim.Native.Nat.{ℕ, _-_}
 use lib.ListN.{getD}
-use borrow.Author.Needs.{needs}
 use Rattle.field.proofs.ByTables.{inverseBy-zero, inverseBy-other}
 use Rattle.field.proofs.inverse_by.Statement.{statement}
 use Rattle.field.proofs.inverse_by.Tie as tie
@@ -12,13 +12,13 @@ returns : tie.Need-returns
 returns c = sym (inverseBy-zero _ _ _ (c .if1 .taken))
 
 log-requires : tie.Need-log-requires
-log-requires c κs = search needs
+log-requires c κs = tt
 
 sub-result : tie.Need-sub-result
-sub-result c = search needs
+sub-result c = omega arith
 
 element-copy-out-result : tie.Need-element-copy-out-result
-element-copy-out-result c = search needs
+element-copy-out-result c = omega arith
 
 returns-2 : tie.Need-returns-2
 returns-2 c =

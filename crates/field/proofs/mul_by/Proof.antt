@@ -1,9 +1,9 @@
 -- `field::mul_by` reads the product off its tables by the definition's own three cases.
 -- Assumes nothing.
+use native.Mathlib.Omega.{arith}
 use mathlib.Core.Path.{sym, ap₂, _∙_}
 use Prim.Native.Nat.{ℕ, _+_}
 use lib.ListN.{getD}
-use borrow.Author.Needs.{needs}
 use Rattle.field.proofs.ByTables.{mulBy-left, mulBy-right, mulBy-other}
 use Rattle.field.proofs.mul_by.Statement.{statement}
 use Rattle.field.proofs.mul_by.Tie as tie
@@ -15,16 +15,16 @@ returns-2 : tie.Need-returns-2
 returns-2 c = sym (mulBy-right _ _ _ _ (c .if2 .taken))
 
 log-requires : tie.Need-log-requires
-log-requires c κs = search needs
+log-requires c κs = tt
 
 log-requires-2 : tie.Need-log-requires-2
-log-requires-2 c κs = search needs
+log-requires-2 c κs = tt
 
 add-result : tie.Need-add-result
-add-result c = search needs
+add-result c = omega arith
 
 element-copy-out-result : tie.Need-element-copy-out-result
-element-copy-out-result c = search needs
+element-copy-out-result c = omega arith
 
 returns-3 : tie.Need-returns-3
 returns-3 c =

@@ -1,5 +1,5 @@
 -- What the kind is the kind of says which mode it asks for.
-use borrow.Author.Needs.{needs}
+use native.Mathlib.Omega.{arith}
 use mathlib.Core.Path.{sym, ap, _∙_}
 use Rattle.content.specs.declared.Content.{Content}
 use Rattle.attributes.specs.Rules.{fitsMode}
@@ -10,13 +10,13 @@ content-of-requires : tie.Need-content-of-requires
 content-of-requires c κs = tt
 
 enum-told : tie.Need-enum-told
-enum-told c = search needs
+enum-told c = omega arith
 
 enum-told-2 : tie.Need-enum-told-2
-enum-told-2 c = search needs
+enum-told-2 c = omega arith
 
 enum-told-3 : tie.Need-enum-told-3
-enum-told-3 c = search needs
+enum-told-3 c = omega arith
 
 returns : tie.Need-returns
 returns c = ap (λ (x : Content). fitsMode x (c .before .before .before .args .mode)) (sym (c .enum-told .given .1) ∙ c .before .before .content-of .ensures)

@@ -1,94 +1,94 @@
 -- `refusals::number` meets its contract: each arm gives the number that the definition has for its refusal.
 -- Assumes nothing.
+use native.Mathlib.Omega.{arith}
 use mathlib.Core.Path.{sym, ap}
-use borrow.Author.Needs.{needs}
 use Rattle.refusals.specs.Refusals.{numberOf}
 use Rattle.refusals.proofs.number.Statement.{statement}
 use Rattle.refusals.proofs.number.Tie as tie
 
 enum-told : tie.Need-enum-told
-enum-told c = search needs
+enum-told c = omega arith
 
 enum-told-2 : tie.Need-enum-told-2
-enum-told-2 c = search needs
+enum-told-2 c = omega arith
 
 enum-told-3 : tie.Need-enum-told-3
-enum-told-3 c = search needs
+enum-told-3 c = omega arith
 
 enum-told-4 : tie.Need-enum-told-4
-enum-told-4 c = search needs
+enum-told-4 c = omega arith
 
 enum-told-5 : tie.Need-enum-told-5
-enum-told-5 c = search needs
+enum-told-5 c = omega arith
 
 enum-told-6 : tie.Need-enum-told-6
-enum-told-6 c = search needs
+enum-told-6 c = omega arith
 
 enum-told-7 : tie.Need-enum-told-7
-enum-told-7 c = search needs
+enum-told-7 c = omega arith
 
 enum-told-8 : tie.Need-enum-told-8
-enum-told-8 c = search needs
+enum-told-8 c = omega arith
 
 enum-told-9 : tie.Need-enum-told-9
-enum-told-9 c = search needs
+enum-told-9 c = omega arith
 
 enum-told-10 : tie.Need-enum-told-10
-enum-told-10 c = search needs
+enum-told-10 c = omega arith
 
 enum-told-11 : tie.Need-enum-told-11
-enum-told-11 c = search needs
+enum-told-11 c = omega arith
 
 enum-told-12 : tie.Need-enum-told-12
-enum-told-12 c = search needs
+enum-told-12 c = omega arith
 
 enum-told-13 : tie.Need-enum-told-13
-enum-told-13 c = search needs
+enum-told-13 c = omega arith
 
 enum-told-14 : tie.Need-enum-told-14
-enum-told-14 c = search needs
+enum-told-14 c = omega arith
 
 enum-told-15 : tie.Need-enum-told-15
-enum-told-15 c = search needs
+enum-told-15 c = omega arith
 
 enum-told-16 : tie.Need-enum-told-16
-enum-told-16 c = search needs
+enum-told-16 c = omega arith
 
 enum-told-17 : tie.Need-enum-told-17
-enum-told-17 c = search needs
+enum-told-17 c = omega arith
 
 enum-told-18 : tie.Need-enum-told-18
-enum-told-18 c = search needs
+enum-told-18 c = omega arith
 
 enum-told-19 : tie.Need-enum-told-19
-enum-told-19 c = search needs
+enum-told-19 c = omega arith
 
 enum-told-20 : tie.Need-enum-told-20
-enum-told-20 c = search needs
+enum-told-20 c = omega arith
 
 enum-told-21 : tie.Need-enum-told-21
-enum-told-21 c = search needs
+enum-told-21 c = omega arith
 
 enum-told-22 : tie.Need-enum-told-22
-enum-told-22 c = search needs
+enum-told-22 c = omega arith
 
 enum-told-23 : tie.Need-enum-told-23
-enum-told-23 c = search needs
+enum-told-23 c = omega arith
 
 enum-told-24 : tie.Need-enum-told-24
-enum-told-24 c = search needs
+enum-told-24 c = omega arith
 
 enum-told-25 : tie.Need-enum-told-25
-enum-told-25 c = search needs
+enum-told-25 c = omega arith
 
 enum-told-26 : tie.Need-enum-told-26
-enum-told-26 c = search needs
+enum-told-26 c = omega arith
 
 enum-told-27 : tie.Need-enum-told-27
-enum-told-27 c = search needs
+enum-told-27 c = omega arith
 
 enum-told-28 : tie.Need-enum-told-28
-enum-told-28 c = search needs
+enum-told-28 c = omega arith
 
 returns : tie.Need-returns
 returns c = sym (ap numberOf (c .enum-told .given .1))

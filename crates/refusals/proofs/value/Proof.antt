@@ -1,11 +1,11 @@
 -- `refusals::value` meets its contract: the two refusals that carry a value give it, and the rest, told by their tags, give 0.
 -- Assumes nothing.
+use native.Mathlib.Omega.{arith}
 use mathlib.Core.Path.{_≡_, refl, sym, ap}
 use mathlib.Core.List.{List, [], _∷_}
 use Prim.Native.Nat.{ℕ}
 use types.Run.{OneOf, miss}
 use denote.Enum.Declared.{tagOf}
-use borrow.Author.Needs.{needs}
 use Rattle.refusals.specs.declared.Refusal.{Refusal}
 use Rattle.refusals.proofs.Refusal.{the-type}
 use Rattle.refusals.specs.declared.Refusal.the-variants.{Short, Mark, Length, «Type», Protection, Number, Rows, Resource, Record, Unknown, Other, Wide, Repair, Crc, Slot, Conflict, Field, Held, Full, Room, Missing, Shape, Size, Padding, Count, Output, Line, Extra}
@@ -47,13 +47,13 @@ of-bare (Line v) k = absurd (miss bare 26 tt k)
 of-bare Extra k = refl
 
 enum-known-r : tie.Need-enum-known-r
-enum-known-r c = search needs
+enum-known-r c = omega arith
 
 enum-known-r-2 : tie.Need-enum-known-r-2
-enum-known-r-2 c = search needs
+enum-known-r-2 c = omega arith
 
 enum-known-r-3 : tie.Need-enum-known-r-3
-enum-known-r-3 c = search needs
+enum-known-r-3 c = omega arith
 
 returns : tie.Need-returns
 returns c = sym (ap valueOf (c .before .r .given .1))

@@ -7,12 +7,11 @@ use lib.Dec.{ltb}
 use lib.ListN.{length}
 use Rattle.texts.proofs.BreakLaws.{until-lf-le}
 use Rattle.attributes.specs.Lines.{withoutCr}
-use borrow.Author.Needs.{needs}
 use Rattle.description.proofs.lines.ending.Statement.{statement}
 use Rattle.description.proofs.lines.ending.Tie as tie
 
 until-lf-requires : tie.Need-until-lf-requires
-until-lf-requires c κs = search needs
+until-lf-requires c κs = tt
 
 value-length-requires : tie.Need-value-length-requires
 value-length-requires c κs = omega (arith, c .until-lf .ensures, until-lf-le (c .before .before .args .rest .now))

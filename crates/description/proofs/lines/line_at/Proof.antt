@@ -13,7 +13,6 @@ use Rattle.texts.specs.Breaks.{untilLf}
 use Rattle.attributes.specs.Lines.{label, withoutCr}
 use Rattle.description.proofs.ValueLaws.{rest-is}
 use Rattle.description.proofs.SplitLaws.{step-none, not-labelled, label-fits, not-ended, step-line}
-use borrow.Author.Needs.{needs}
 use Rattle.description.proofs.lines.line_at.Statement.{statement}
 use Rattle.description.proofs.lines.line_at.Tie as tie
 
@@ -50,7 +49,7 @@ end-there c =
     omega (arith, ltb-true (untilLf (drop (from e) (t e))) (length (drop (from e) (t e))) (found-is e ∙ not-false _ (c .before .if2 .left)), before-is e, length-drop (from e) (t e), three-there (c .before .before .before .before .before))
 
 labelled-requires : tie.Need-labelled-requires
-labelled-requires c κs = search needs
+labelled-requires c κs = omega arith
 
 returns : tie.Need-returns
 returns c =
@@ -58,7 +57,7 @@ returns c =
     step-none (a .text .now) (a .k) (a .at) _ _ (not-labelled (a .text .now) (a .k) (a .at) (sym (c .before .labelled .ensures) ∙ not-true _ (c .if1 .taken)))
 
 add-ending : tie.Need-add-ending
-add-ending c = search needs
+add-ending c = omega arith
 
 sub-ending : tie.Need-sub-ending
 sub-ending c = three-there c
@@ -67,10 +66,10 @@ part-ending-start : tie.Need-part-ending-start
 part-ending-start c = three-there c
 
 part-ending-end : tie.Need-part-ending-end
-part-ending-end c = search needs
+part-ending-end c = omega arith
 
 ending-requires : tie.Need-ending-requires
-ending-requires c κs = search needs
+ending-requires c κs = tt
 
 returns-2 : tie.Need-returns-2
 returns-2 c =
@@ -78,7 +77,7 @@ returns-2 c =
     step-none (a .text .now) (a .k) (a .at) _ _ (not-ended (a .text .now) (a .k) (a .at) (is-labelled (c .before .before .before .before)) (found-is (c .before .before) ∙ not-true _ (c .if2 .taken)))
 
 add-t9 : tie.Need-add-t9
-add-t9 c = search needs
+add-t9 c = omega arith
 
 add-t7 : tie.Need-add-t7
 add-t7 c = omega (arith, end-there c)

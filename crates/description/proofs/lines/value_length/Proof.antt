@@ -1,7 +1,7 @@
 -- The byte straight before LF is looked at, where there is one.
 -- Assumes nothing.
+use native.Mathlib.Omega.{arith}
 use Rattle.description.proofs.ValueLaws.{without-none, without-cr, without-other}
-use borrow.Author.Needs.{needs}
 use Rattle.description.proofs.lines.value_length.Statement.{statement}
 use Rattle.description.proofs.lines.value_length.Tie as tie
 
@@ -9,13 +9,13 @@ returns : tie.Need-returns
 returns c = let a = c .before .args in without-none (a .rest .now) (a .n) (c .if1 .taken)
 
 sub-if2 : tie.Need-sub-if2
-sub-if2 c = search needs
+sub-if2 c = omega arith
 
 shared-slice-read-if2 : tie.Need-shared-slice-read-if2
-shared-slice-read-if2 c = search needs
+shared-slice-read-if2 c = omega arith
 
 sub-result : tie.Need-sub-result
-sub-result c = search needs
+sub-result c = omega arith
 
 returns-2 : tie.Need-returns-2
 returns-2 c = let a = c .before .before .before .args in without-cr (a .rest .now) (a .n) (c .before .before .if1 .left) (c .if2 .taken)

@@ -1,5 +1,6 @@
 -- `sums::syndromes`: the sixteen bytes stand at the places 15 to 0.
 -- Assumes nothing.
+use native.Mathlib.Omega.{arith}
 use mathlib.Core.Path.{_≡_}
 use Prim.Native.Nat.{ℕ, _<_}
 use lib.ListN.{length, getD}
@@ -9,7 +10,7 @@ use Rattle.errata.proofs.sums.syndromes.Statement.{statement}
 use Rattle.errata.proofs.sums.syndromes.Tie as tie
 
 sixteen : (c : tie.Start) → length (c .args .rest) ≡ 16
-sixteen c = search needs
+sixteen c = omega arith
 
 rest-byte : (c : tie.Start) (k : ℕ) → getD (c .args .rest) k 0 < 256
 rest-byte c k = let fit : mir.Val.Fits mir.Syntax.w8 (getD (c .args .rest) k 0) = search needs in fit .fits

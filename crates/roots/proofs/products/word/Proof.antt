@@ -1,42 +1,43 @@
 -- `roots::products::word` reads the products of the two half bytes; a byte is their sum.
 -- Assumes nothing.
+use native.Mathlib.Omega.{arith}
 use Rattle.roots.proofs.Bytes.{looked}
 use borrow.Author.Needs.{needs}
 use Rattle.roots.proofs.products.word.Statement.{statement}
 use Rattle.roots.proofs.products.word.Tie as tie
 
 cast-low : tie.Need-cast-low
-cast-low c = search needs
+cast-low c = omega arith
 
 cast-high : tie.Need-cast-high
-cast-high c = search needs
+cast-high c = omega arith
 
 mul-result : tie.Need-mul-result
-mul-result c = search needs
+mul-result c = omega arith
 
 add-result : tie.Need-add-result
-add-result c = search needs
+add-result c = omega arith
 
 mul-result-2 : tie.Need-mul-result-2
-mul-result-2 c = search needs
+mul-result-2 c = omega arith
 
 element-copy-out-result : tie.Need-element-copy-out-result
-element-copy-out-result c = search needs
+element-copy-out-result c = omega arith
 
 mul-result-3 : tie.Need-mul-result-3
-mul-result-3 c = search needs
+mul-result-3 c = omega arith
 
 add-result-2 : tie.Need-add-result-2
-add-result-2 c = search needs
+add-result-2 c = omega arith
 
 add-result-3 : tie.Need-add-result-3
-add-result-3 c = search needs
+add-result-3 c = omega arith
 
 mul-result-4 : tie.Need-mul-result-4
-mul-result-4 c = search needs
+mul-result-4 c = omega arith
 
 element-copy-out-result-2 : tie.Need-element-copy-out-result-2
-element-copy-out-result-2 c = search needs
+element-copy-out-result-2 c = omega arith
 
 returns : tie.Need-returns
 returns c = λ k h. looked _ (c .before .before .pre .1) _ _ k (c .before .before .pre .0) (search needs) h

@@ -5,7 +5,6 @@ use Prim.Native.Nat.{_*_}
 use native.Mathlib.Omega.{arith}
 use lib.Bits.{bitXor, and-le-r}
 use Rattle.roots.proofs.Bytes.{none-is}
-use borrow.Author.Needs.{needs}
 use borrow.Author.Tests.{eqb-true}
 use Rattle.roots.proofs.search.has_none.Statement.{statement}
 use Rattle.roots.proofs.search.has_none.Tie as tie
@@ -14,7 +13,7 @@ wide-requires : tie.Need-wide-requires
 wide-requires c κs = tt
 
 mul-x : tie.Need-mul-x
-mul-x c = search needs
+mul-x c = omega arith
 
 add-s : tie.Need-add-s
 add-s c = omega (arith, and-le-r (bitXor (c .before .args .w) (c .wide .result * 0x0101010101010101)) 0x7F7F7F7F7F7F7F7F)

@@ -1,5 +1,6 @@
 -- `roots::search::look` passes over a word in which there is nothing to keep.
 -- Assumes nothing.
+use native.Mathlib.Omega.{arith}
 use Rattle.roots.proofs.Holding.{looking-none}
 use borrow.Author.Needs.{needs}
 use Rattle.roots.proofs.search.look.Statement.{statement}
@@ -14,7 +15,7 @@ returns c =
     record { sized = start .pre .0; held = looking-none (start .args .w) (start .args .y) (start .args .e) _ _ (c .before .has-none .ensures (c .if1 .taken)) }
 
 look-each-requires : tie.Need-look-each-requires
-look-each-requires c κs = search needs
+look-each-requires c κs = omega arith
 
 returns-2 : tie.Need-returns-2
 returns-2 c = search needs

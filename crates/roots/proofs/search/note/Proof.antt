@@ -6,7 +6,6 @@ use native.Mathlib.Omega.{arith}
 use lib.Dec.{eqb, ltb}
 use lib.ListN.{length-set}
 use Rattle.roots.proofs.Holding.{held-same, held-full, held-more, differs, beyond, passes}
-use borrow.Author.Needs.{needs}
 use Rattle.roots.proofs.search.note.Statement.{statement}
 use Rattle.roots.proofs.search.note.Tie as tie
 
@@ -26,13 +25,13 @@ returns-3 c =
     record { sized = c .before .before .before .pre; held = λ l h. held-full h (eqb (a .x) (a .y) && ltb (a .e) 255) (a .e) (omega arith) }
 
 cast-at : tie.Need-cast-at
-cast-at c = search needs
+cast-at c = omega arith
 
 element-write-at : tie.Need-element-write-at
-element-write-at c = search needs
+element-write-at c = omega arith
 
 add-result : tie.Need-add-result
-add-result c = search needs
+add-result c = omega arith
 
 returns-4 : tie.Need-returns-4
 returns-4 c =
