@@ -44,7 +44,7 @@ demo: build/run
 # ---- tests. `test` is the gate: what shows a fault in seconds, then every proof and every wrong edit from nothing (`rt ci`), then what runs on the
 # proved library. tests/gate runs these parts one by one, and beside each other what a + joins; its last line counts what passed.
 before = style reference
-in_c = library command kill steps limits example fuzz+largest
+in_c = library command kill limits example fuzz+largest+steps
 ifeq ($(machine),x86_64)
 in_c += checked
 endif
