@@ -56,8 +56,9 @@ static uint32_t packets(void)
 static void new_file(void)
 {
     uint32_t x = pick(), length = pick() % 8 == 0 ? wide() % FILE_ROOM : pick() * 4u;
-    SAY("file %" PRIu32 " %" PRIu32 "\n", x, length);
     size_of(&file, length);
+    file_seed = x;
+    say_file();
     for (size_t i = 0; i < length; i++) {
         x = x * 1664525 + 1013904223;
         file.at[i] = (uint8_t)(x >> 24);

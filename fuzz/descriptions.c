@@ -9,7 +9,7 @@
 
 enum { VALUES = 32, THIRTY = BH_DESCRIPTION_VALUES };
 
-/* the values of reference/README.md, and the first of them as they are lent */
+/* a description's numbers and two behind them, and the first of them as they are lent */
 static uint64_t values[VALUES];
 
 static uint64_t *lend_values(size_t n)
@@ -286,11 +286,10 @@ static void check_writing(size_t n)
         fail("what was written is read back as other numbers");
 }
 
-/* the values at the start of out, as far as they fit */
+/* the attributes at the start of out, as many as fit: so the language of cases shows what was read */
 static void show_values(void)
 {
-    SAY("show-values\n");
-    for (size_t i = 0; i < 8 * VALUES && i < out.n; i++)
+    for (size_t i = 0; i < 8 * THIRTY && i < out.n / 8 * 8; i++)
         out.at[i] = (uint8_t)(values[i / 8] >> (56 - 8 * (i % 8)));
     if (transcript)
         say_digest(&out, "out");
@@ -317,7 +316,7 @@ static void compose_of(size_t count)
 {
     uint64_t *lent = lend_values(count);
     keep_all();
-    SAY("value 0");
+    SAY("file 0 %d\nvalue 0", 8 * VALUES);
     for (int i = 0; i < VALUES; i++)
         SAY(" %" PRIu64, values[i]);
     SAY("\n");
@@ -329,6 +328,7 @@ static void compose_of(size_t count)
     judge(a, allowed(a, BH_FIELD) && (bh_number(a) == BH_FIELD) == (count != THIRTY) && fits, (size_t)bh_value(a), 0, 0);
     if (bh_number(a) == 0)
         check_writing((size_t)bh_value(a));
+    say_file();
 }
 
 void describe_one(void)

@@ -112,6 +112,13 @@ void say_record(void)
     }
 }
 
+uint32_t file_seed;
+
+void say_file(void)
+{
+    SAY("file %" PRIu32 " %zu\n", file_seed, file.n);
+}
+
 static uint64_t fnv(const uint8_t *p, size_t n)
 {
     uint64_t h = 14695981039346656037u;

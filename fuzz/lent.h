@@ -35,6 +35,9 @@ extern unsigned long calls, accepted_calls;
 #define SAY(...) (transcript ? (void)fprintf(transcript, __VA_ARGS__) : (void)0)
 void say_bytes(const struct lent *l, const char *command);
 void say_record(void);
+/* the file as it is made from its seed */
+extern uint32_t file_seed;
+void say_file(void);
 void say_digest(const struct lent *l, const char *name);
 
 /* numbers from `low` to `high` and those in the list may be answered */

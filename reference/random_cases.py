@@ -8,7 +8,7 @@ import random, sys
 
 from cases import Case, Run
 from random_descriptions import Choices, Descriptions
-from receiver import MARK, PLACE, header_of, place_of, up
+from receiver import MARK, PLACE, header_of, place_of, read_description, up
 
 FIELDS = ["resource", "type", "update", "protection", "rows", "size"]
 RESOURCES = list(range(1, 12)) + [256, 65535]
@@ -363,18 +363,18 @@ class Writer(Choices):
         """In bytes, which takes no more than its limit."""
         self.say("bytes " + hexes(text) if text else "cut 0")
 
-    def show_values(self):
-        self.say("out 0 256")
-        self.say("show-values")
-        self.case("out")
+    def describe(self, room):
+        """Reads bytes into numbers in out, and shows them."""
+        self.say(f"out {self.below(256)} {self.pick(256, 256, 256, 240, 45, 0)}")
+        if self.call(f"describe {room}"):
+            self.case("out")
 
     def step_describe(self):
         if self.often(0.03):
             self.say(f"random {self.below(1 << 32)} {self.below(100)}")
         else:
             self.say_text(self.descriptions.any())
-        if self.call(f"describe {self.pick(30, 30, 30, 30, 31, 32, 29, 0)}"):
-            self.show_values()
+        self.describe(self.pick(30, 30, 30, 30, 31, 32, 29, 0))
 
     def step_edit_lines(self):
         """Lines put in and taken away, and what is then read."""
@@ -388,12 +388,14 @@ class Writer(Choices):
         self.call("describe 30")
 
     def step_compose(self):
-        """A description read, some numbers altered, and written; what is written is read back."""
+        """The numbers of a sound description, some of them altered, written; what is written is read back."""
         text = self.descriptions.joined(self.descriptions.sound())
+        values = read_description(text)
         self.say_text(text)
-        self.call("describe 30")
+        self.say(f"file {self.below(1 << 32)} {self.pick(256, 256, 256, 256, 256, 240, 239, 20)}")
+        self.say("value 0 " + " ".join(map(str, values)))
         for _ in range(self.pick(0, 1, 1, 1, 2)):
-            i, n = self.descriptions.spoil_number(self.run.values, len(text))
+            i, n = self.descriptions.spoil_number(values, len(text))
             self.say(f"value {i} {self.wrapped(n, 1 << 64)}")
         if self.often(0.05):
             self.say(f"value {self.pick(0, 28, 31, 32)} 1 2 3")
@@ -403,8 +405,7 @@ class Writer(Choices):
         if self.call(f"compose {self.pick(30, 30, 30, 30, 30, 30, 29, 31, 0)}"):
             self.case("out")
             self.say(f"take {self.run.answer.value}")
-            self.call("describe 30")
-            self.show_values()
+            self.describe(30)
 
     def some_bytes_of_out(self):
         if len(self.run.out):

@@ -726,11 +726,12 @@ line 12:
 line 13:
 line 14:
 line 15:0
+out 170 53
 describe 30
 case stream-described accepted
-out 170 45
-show-values
-case stream-name-part bytes 32 00 00 00 00 00 00 00 1a 00 00 00 00 00
+case stream-name-part bytes 32 00 00 00 00 00 00 00 1a 00 00 00 00 00 00 00 0f aa aa aa aa aa
+file 1 256
+value 0 9000 0 1 0 26 15 131 52 0 56 0 60 0 255 68 0 0 0 0 0 0 0 0 0 0 0 0 0 0 0
 out 170 86
 compose 30
 case composed accepted 86
@@ -795,8 +796,8 @@ def test_commands():
     same([at_hand("bytes", *lines, f"insert {k} d e") for k in range(5)], [b"d e\na\nb\nc"] * 2 + [b"a\nd e\nb\nc", b"a\nb\nd e\nc", b"a\nb\ncd e\n"])
     same([at_hand("bytes", *lines, edit) for edit in ("swap 2 d", "swap 3 d", "swap 9 d", "swap 1")], [b"a\nd\nc", b"a\nb\nd\n", b"a\nb\ncd\n", b"\nb\nc"])
     same([len(at_hand("bytes", "fill 97 8191", edit)) for edit in ("line b", "insert 1 b", "swap 1 b")], [8192, 8192, 2])
-    same(at_hand("out", "out 9 20", "value 1 5 18446744073709551617", "value 31 1 2", "value 32 7", "value 2", "show-values"), bytes(15) + b"\5" + bytes(4))
-    same(at_hand("out", "out 9 257", "value 1 5 18446744073709551617", "value 31 258", "show-values"), bytes(15) + b"\5" + bytes(7) + b"\1" + bytes(230) + b"\1\2\x09")
+    same(at_hand("file", "file 1 20", "file-put 0 00 00", "value 1 5 18446744073709551617", "value 32 7", "value 2")[8:], bytes(7) + b"\5" + bytes(4))
+    same(at_hand("file", "file 1 257", "value 31 258 1", "value 99 511")[240:], at_hand("file", "file 1 248")[240:] + bytes(6) + b"\1\2\0")
 
 
 def test_damage():

@@ -2,6 +2,7 @@
 use crate::commands;
 use crate::digests;
 use crate::memory;
+use crate::numbers;
 use crate::transmission;
 use crate::words;
 use refusals::Refusal;
@@ -58,6 +59,29 @@ fn read(line: &[u8], bytes: &[u8], fields: &mut [u32], out: &mut [u8]) -> u64 {
     answer
 }
 
+// A description's attributes, into as many of these numbers as word 1 says.
+fn attributes(line: &[u8], bytes: &[u8], values: &mut [u64]) -> u64 {
+    let room = memory::least(words::number(line, 1) as usize, values.len());
+    brithelva::bh_read_description(bytes, &mut values[0..room])
+}
+
+// The same into the output's numbers.
+fn describe(line: &[u8], bytes: &[u8], out: &mut [u8]) -> u64 {
+    let mut values = [0u64; 32];
+    numbers::take(out, &mut values);
+    let answer = attributes(line, bytes, &mut values);
+    numbers::put(&values, out);
+    answer
+}
+
+// Writes the description of as many of the file's numbers as word 1 says.
+fn compose(line: &[u8], file: &[u8], bytes: &[u8], out: &mut [u8]) -> u64 {
+    let mut values = [0u64; 32];
+    let count = memory::least(words::number(line, 1) as usize, 32);
+    numbers::take(file, &mut values);
+    brithelva::bh_write_description(&values[0..count], bytes, out)
+}
+
 // Packet number word 1 of the file.
 fn pack(line: &[u8], file: &[u8], s: Settings, out: &mut [u8]) -> u64 {
     brithelva::bh_pack(
@@ -94,6 +118,12 @@ fn call_plain(
     if command == commands::READ {
         let mut fields = [0u32; 9];
         return read(line, bytes, &mut fields, out);
+    }
+    if command == commands::DESCRIBE {
+        return describe(line, bytes, out);
+    }
+    if command == commands::COMPOSE {
+        return compose(line, file, bytes, out);
     }
     if command == commands::PACK {
         return pack(line, file, s, out);

@@ -1,5 +1,4 @@
 // Digests of bytes: the length, the CRC-32 and FNV-1a of 64 bits.
-use crate::memory;
 
 pub(crate) struct Digest {
     pub(crate) length: u64,
@@ -31,17 +30,6 @@ fn fnv(h: u64, bytes: &[u8]) -> u64 {
 // One number for all that a call may change.
 pub(crate) fn mark(held: &[u8], store: &[u8], out: &[u8]) -> u64 {
     fnv(fnv(fnv(START, held), store), out)
-}
-
-// The same for numbers and the bytes beside them.
-pub(crate) fn mark_numbers(numbers: &[u64], bytes: &[u8]) -> u64 {
-    let mut h = fnv(START, bytes);
-    let mut i: usize = 0;
-    while i < numbers.len() {
-        h = fnv(h, &memory::eight(numbers[i]));
-        i += 1;
-    }
-    h
 }
 
 pub(crate) fn wide(b: u8) -> u64 {

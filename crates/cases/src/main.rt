@@ -6,12 +6,12 @@ use settings::Settings;
 
 mod calls;
 mod commands;
-mod describing;
 mod digests;
 mod generator;
 mod judging;
 mod lines;
 mod memory;
+mod numbers;
 mod setting;
 mod transmission;
 mod words;
@@ -111,24 +111,6 @@ fn call(
     )
 }
 
-// What a line does with description files.
-fn describe(
-    command: u8,
-    line: &[u8],
-    bytes: &[u8],
-    out: &mut [u8],
-    values: &mut [u64],
-    s: State,
-) -> State {
-    let l = s.lengths;
-    let b = memory::fit(l.bytes, bytes);
-    let o = memory::fit(l.out, out);
-    let mut next = s;
-    let answer = describing::obey(command, line, &bytes[..b], &mut out[..o], values, s.answer);
-    next.answer = answer;
-    next
-}
-
 // What a line judges.
 fn judge(
     command: u8,
@@ -186,13 +168,11 @@ fn obey(
     store: &mut [u8],
     bytes: &mut [u8],
     out: &mut [u8],
-    values: &mut [u64],
     s: State,
 ) -> State {
     let command = commands::command_of(line);
     let next = set(command, line, file, held, store, bytes, out, s);
-    let described = describe(command, line, bytes, out, values, next);
-    act(command, line, file, held, store, bytes, out, described)
+    act(command, line, file, held, store, bytes, out, next)
 }
 
 // All lines of the first n bytes of the text.
@@ -204,7 +184,6 @@ fn run(
     store: &mut [u8],
     bytes: &mut [u8],
     out: &mut [u8],
-    values: &mut [u64],
 ) -> Tally {
     let size = memory::fit(n, text);
     let lines = &text[..size];
@@ -214,16 +193,7 @@ fn run(
         let end = words::next(lines, at, b'\n');
         let from = at;
         at = words::after(lines, at, end);
-        state = obey(
-            &lines[from..end],
-            file,
-            held,
-            store,
-            bytes,
-            out,
-            values,
-            state,
-        );
+        state = obey(&lines[from..end], file, held, store, bytes, out, state);
     }
     state.tally
 }
@@ -236,10 +206,9 @@ fn run_input(
     store: &mut [u8; 262144],
     bytes: &mut [u8; 8192],
     out: &mut [u8; 131072],
-    values: &mut [u64; 32],
 ) -> Tally {
     let n = io::read_full(0, text);
-    run(text, n, file, held, store, bytes, out, values)
+    run(text, n, file, held, store, bytes, out)
 }
 
 fn main() {
@@ -249,7 +218,6 @@ fn main() {
     let mut store = [0u8; 262144];
     let mut bytes = [0u8; 8192];
     let mut out = [0u8; 131072];
-    let mut values = [0u64; 32];
     let tally = run_input(
         &mut text,
         &mut file,
@@ -257,7 +225,6 @@ fn main() {
         &mut store,
         &mut bytes,
         &mut out,
-        &mut values,
     );
     io::print_decimal(1, tally.cases);
     io::write_all(1, b" cases, ");

@@ -3,6 +3,7 @@ use crate::commands;
 use crate::generator;
 use crate::lines;
 use crate::memory;
+use crate::numbers;
 use crate::words;
 use settings::Settings;
 
@@ -54,6 +55,12 @@ pub(crate) fn set_file(command: u8, line: &[u8], file: &mut [u8], length: usize)
     }
     if command == commands::FILE_PUT {
         overwrite(line, file, length);
+        return length;
+    }
+    if command == commands::VALUE {
+        let n = memory::fit(length, file);
+        numbers::set(line, &mut file[..n]);
+        return length;
     }
     length
 }

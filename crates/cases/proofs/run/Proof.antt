@@ -8,10 +8,10 @@ use Rattle.cases.proofs.run.Statement.{statement}
 use Rattle.cases.proofs.run.Tie as tie
 
 abbrev Inv-loop : tie.InvT-loop
-Inv-loop text n file₀ held₀ store₀ bytes₀ out₀ values₀ size lines state₀ at₀ file held store bytes out values state at = (length file ≡ length file₀) × (length held ≡ length held₀) × (length store ≡ length store₀) × (length bytes ≡ length bytes₀) × (length out ≡ length out₀) × (length values ≡ length values₀)
+Inv-loop text n file₀ held₀ store₀ bytes₀ out₀ size lines state₀ at₀ file held store bytes out state at = (length file ≡ length file₀) × (length held ≡ length held₀) × (length store ≡ length store₀) × (length bytes ≡ length bytes₀) × (length out ≡ length out₀)
 
 abbrev μ-loop : tie.MeasureT-loop
-μ-loop text n file₀ held₀ store₀ bytes₀ out₀ values₀ size lines state₀ at₀ file held store bytes out values state at = length lines - at
+μ-loop text n file₀ held₀ store₀ bytes₀ out₀ size lines state₀ at₀ file held store bytes out state at = length lines - at
 
 fit-requires : tie.Need-fit-requires Inv-loop μ-loop
 fit-requires c κs = tt
@@ -48,9 +48,9 @@ loop-less c = omega arith
 
 loop-again : tie.Need-loop-again Inv-loop μ-loop
 loop-again c =
-    let k = c .before .before .before .before .before .before .before .before .before .before .before .before .obey .kept in
-    let i = c .before .before .before .before .before .before .before .before .before .before .before .before .before .before .before .before .before .before .before .before .before .before .before .loop .inv in
-    (omega (arith, k, i), omega (arith, k, i), omega (arith, k, i), omega (arith, k, i), omega (arith, k, i), omega (arith, k, i))
+    let k = c .before .before .before .before .before .before .before .before .before .before .obey .kept in
+    let i = c .before .before .before .before .before .before .before .before .before .before .before .before .before .before .before .before .before .before .before .before .loop .inv in
+    (omega (arith, k, i), omega (arith, k, i), omega (arith, k, i), omega (arith, k, i), omega (arith, k, i))
 
 same-length : tie.Need-same-length Inv-loop μ-loop
 same-length c = omega arith
@@ -66,9 +66,6 @@ same-length-4 c = omega arith
 
 same-length-5 : tie.Need-same-length-5 Inv-loop μ-loop
 same-length-5 c = omega arith
-
-same-length-6 : tie.Need-same-length-6 Inv-loop μ-loop
-same-length-6 c = omega arith
 
 returns : tie.Need-returns Inv-loop μ-loop
 returns c = tt
@@ -96,5 +93,4 @@ run-spec =
     same-length-3
     same-length-4
     same-length-5
-    same-length-6
     returns)
