@@ -9,7 +9,7 @@ pub struct Part {
     pub length: usize,
 }
 
-// The fifteen attributes, line 01 first. A charset of 255 stands for none, a size (the file's length) of 0, a time of zeros.
+// The fifteen attributes, line 01 first; `size` is the file's length. A time of zeros stands for none.
 pub struct Description {
     pub service: u64,
     pub mode: u64,
@@ -26,6 +26,13 @@ pub struct Description {
     pub begins: Time,
     pub ends: Time,
     pub delete: u64,
+}
+
+impl Description {
+    // A charset that is not given.
+    pub const NO_CHARSET: u64 = 255;
+    // A size that is not given.
+    pub const NO_SIZE: u64 = 0;
 }
 
 // What reading a text answers.

@@ -20,11 +20,6 @@ use refusals::Refusal;
 use times::time_text;
 use words::copy_in;
 
-// What stands for a charset and a size that are not given.
-const NO_CHARSET: u64 = 255;
-
-const NO_SIZE: u64 = 0;
-
 // A line's value: at most nineteen bytes at the front of `bytes`, then a part of the text. One of the two has no bytes.
 struct Value {
     bytes: [u8; 19],
@@ -98,9 +93,9 @@ fn value_of(d: Description, k: usize) -> Value
         6 => text_part(d.title),
         7 => text_part(d.summary),
         8 => text_part(d.keywords),
-        9 => optional(NO_CHARSET, d.charset),
+        9 => optional(Description::NO_CHARSET, d.charset),
         10 => text_part(d.path),
-        11 => optional(NO_SIZE, d.size),
+        11 => optional(Description::NO_SIZE, d.size),
         12 => time(d.begins),
         13 => time(d.ends),
         _ => number(d.delete),

@@ -10,7 +10,7 @@ ghost use Rattle.ground.specs.Ranges.{between};
 ghost use Rattle.decimal.specs.Decimal.{numberIn, digits};
 
 // Stands for no number of at most eight digits.
-const NO_NUMBER: u64 = 100000000;
+pub const NO_NUMBER: u64 = 100000000;
 
 // The digits of a number at the front, zeros behind them.
 pub struct Digits {

@@ -32,7 +32,7 @@ fn optional_at(text: &[u8], at: usize, n: usize, none: u64) -> u64
     }
     let found = number_at(text, at, n);
     if found == none {
-        return 100000000;
+        return decimal::NO_NUMBER;
     }
     found
 }
@@ -82,12 +82,12 @@ fn attributes_in(text: &[u8], s: [usize; 15], n: [usize; 15]) -> Description
             at: s[8],
             length: n[8],
         },
-        charset: optional_at(text, s[9], n[9], 255),
+        charset: optional_at(text, s[9], n[9], Description::NO_CHARSET),
         path: Part {
             at: s[10],
             length: n[10],
         },
-        size: optional_at(text, s[11], n[11], 0),
+        size: optional_at(text, s[11], n[11], Description::NO_SIZE),
         begins: time_at(text, s[12], n[12]),
         ends: time_at(text, s[13], n[13]),
         delete: number_at(text, s[14], n[14]),

@@ -14,11 +14,6 @@ use calendar::not_given;
 use content::Content;
 use words::within;
 
-// What stands for a charset and a size that are not given.
-const NO_CHARSET: u64 = 255;
-
-const NO_SIZE: u64 = 0;
-
 // The kind of texts, the only one that has a charset.
 const TEXT: u64 = 21;
 
@@ -92,9 +87,9 @@ fn judged(text: &[u8], d: Description) -> [bool; 15]
         text_fits(text, 0, d.title),
         text_fits(text, 0, d.summary),
         text_fits(text, 0, d.keywords),
-        given_where(d.kind == TEXT, 0, 4, NO_CHARSET, d.charset),
+        given_where(d.kind == TEXT, 0, 4, Description::NO_CHARSET, d.charset),
         text_fits(text, 0, d.path),
-        given_where(d.mode == 1, 1, 16777216, NO_SIZE, d.size),
+        given_where(d.mode == 1, 1, 16777216, Description::NO_SIZE, d.size),
         time_fits(d.begins),
         end_fits(d.begins, d.ends),
         within(0, 1, d.delete),
