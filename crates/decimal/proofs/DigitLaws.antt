@@ -97,9 +97,6 @@ digits-all n = by-all 8 n
 pub digits-bytes : (n i : ℕ) → i < length (digits n) → 48 ≤ getD (digits n) i 0
 digits-bytes n i h = all-range (digits n) i (digits-all n) h .0
 
-pub digits-most : (n i : ℕ) → i < length (digits n) → getD (digits n) i 0 ≤ 57
-digits-most n i h = all-range (digits n) i (digits-all n) h .1
-
 -- ---- no leading zero
 
 by-first : (k n : ℕ) → 0 < n → n < 10 ^ k → getD (digitsBy k n) 0 0 ≡ 48 → ⊥

@@ -52,31 +52,12 @@ pub number-none : (v : List ℕ) → isNumber v ≡ false → numberIn v ≡ 100
 unfolding numberIn
 number-none v e = rw e
 
-pub number-not-empty : numberIn [] ≡ 100000000
-unfolding numberIn isNumber
-number-not-empty = refl
-
 pub number-some : (v : List ℕ) → numberIn v < 100000000 → isNumber v ≡ true
 number-some v h = by (isNumber v) refl
   where
     by : (t : Bool) → isNumber v ≡ t → t ≡ true
     by true e = refl
     by false e = absurd (omega (arith, number-none v e))
-
--- a number has at most eight digits
-value-small : (s : List ℕ) (n m : ℕ) → allDigits s ≡ true → n < m → valueFrom n s < m * 10 ^ length s
-value-small [] n m a h = omega arith
-value-small (b ∷ s) n m a h =
-    let p = and-both (isDigit b) (allDigits s) a in
-    let r = digit-range b (p .0) in
-    let e : m * 10 * 10 ^ length s ≡ m * 10 ^ suc (length s) = mul-assoc m 10 (10 ^ length s) ∙ ap (λ (x : ℕ). m * x) (sym (pow-succ' 10 (length s))) in
-    rw e at (value-small s (n * 10 + (b - 48)) (m * 10) (p .1) (omega arith))
-
-pub number-small : (v : List ℕ) → isNumber v ≡ true → numberIn v < 100000000
-number-small v e =
-    let n = number-parts v e in
-    let p : 10 ^ length v ≤ 10 ^ 8 = pow-le-pow-right {n = 10} (omega arith) {i = length v} {j = 8} (n .most) in
-    omega (arith, number-value v e, value-small v 0 1 (n .every) (omega arith))
 
 -- ---- the digits of a number write it
 value-last : (s : List ℕ) (n b : ℕ) → valueFrom n (s ++ (b ∷ [])) ≡ valueFrom n s * 10 + (b - 48)

@@ -9,6 +9,7 @@ use native.Mathlib.Omega.{arith}
 use borrow.Author.Tests.{ltb-true}
 use lib.Dec.{eqb, leb, ltb}
 use lib.ListN.{length, getD, set, take, drop, replicate, length-set, length-drop, length-take, length-append}
+use Rattle.ground.proofs.Listed.{zeros-at}
 use Rattle.words.specs.Words.{same}
 use Rattle.words.proofs.SameLaws.{same-equal}
 use Rattle.texts.specs.Breaks.{CR, untilLf}
@@ -104,11 +105,6 @@ pub record Splitting (t starts lengths : List ℕ) (k at : ℕ) : Type 0 where
   pub parted : Parted starts lengths found
   pub within : Within starts lengths (length t)
   pub rest : linesOf t ≡ onto found (linesFrom t (suc k) (15 - k) at)
-
-zeros-at : (n i : ℕ) → _≡_ {A = ℕ} (getD (replicate n 0) i 0) 0
-zeros-at zero i = refl
-zeros-at (suc n) zero = refl
-zeros-at (suc n) (suc i) = zeros-at n i
 
 pub splitting-begin : (t : List ℕ) → Splitting t (replicate 15 0) (replicate 15 0) 0 0
 unfolding linesOf

@@ -13,6 +13,7 @@ use lib.Seq.{getD-set-same, getD-set-other, set-getD}
 use Rattle.ground.specs.Bits.{sum}
 use Rattle.ground.proofs.Sums.{sum-zero}
 use Rattle.ground.proofs.Numbers.{same-or-not, below-suc}
+use Rattle.ground.proofs.Listed.{zeros-at}
 use Rattle.errata.specs.declared.Errata.{Errata}
 use Rattle.errata.specs.InnerErrata.{nothingTo, entries, mendedBy, Ordered, added, Put, Listed, Kept}
 
@@ -44,11 +45,6 @@ pub record Keeping (at c : List ℕ) (n k : ℕ) (e : Errata) : Type 0 where
   pub few : e .n ≤ k
   pub before : (j l : ℕ) → j < e .n → k ≤ l → l < n → getD (e .at) j 0 < getD at l 0
   pub same : (row : List ℕ) → mendedBy row (entries (e .at)) (entries (e .values)) (e .n) ≡ mendedBy row (entries at) (entries c) k
-
-zeros-at : (n k : ℕ) → _≡_ {A = ℕ} (getD (replicate n 0) k 0) 0
-zeros-at zero k = refl
-zeros-at (suc n) zero = refl
-zeros-at (suc n) (suc k) = zeros-at n k
 
 pub keeping-start : (at c : List ℕ) (n : ℕ) → Keeping at c n 0 (nothingTo true)
 unfolding mendedBy nothingTo

@@ -20,6 +20,7 @@ use Rattle.field.proofs.Laws.{product-byte, product-comm, product-assoc, produc
 use Rattle.errata.specs.InnerSums.{total, runOf}
 use Rattle.errata.specs.InnerNull.{Short, Passed, Annihilated, Mixed, Shifted}
 use Rattle.ground.proofs.Numbers.{lt-or-ge, same-or-not, below-suc}
+use Rattle.ground.proofs.Listed.{zeros-at}
 use Rattle.terms.proofs.Stores.{Front}
 use Rattle.errata.proofs.Totals.{total-ext, total-more, total-first, total-sum, total-product, total-byte}
 
@@ -256,11 +257,6 @@ reducing-shifted s l i v r inside red sh =
 pub record Keeping (s : List ℕ) (vectors : List (List ℕ)) (scales v : List ℕ) (i l : ℕ) : Type 0 where
   pub basis : Basis s l vectors scales
   pub reducing : Reducing s l i v
-
-zeros-at : (n k : ℕ) → _≡_ {A = ℕ} (getD (replicate n 0) k 0) 0
-zeros-at zero k = refl
-zeros-at (suc n) zero = refl
-zeros-at (suc n) (suc k) = zeros-at n k
 
 unit-above : (m : ℕ) → 1 ≤ m → _≡_ {A = ℕ} (getD (1 ∷ replicate 8 0) m 0) 0
 unit-above zero h = absurd (not-suc-le-zero h)

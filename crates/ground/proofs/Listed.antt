@@ -1,4 +1,4 @@
--- The laws of `listed`: its length, its entries, its parts, two of them equal, a list cut into pieces. And of `ceil`: the two bounds that make it a over b, rounded up.
+-- The laws of `listed`: its length, its entries, its parts, two of them equal, a list cut into pieces, zeros. And of `ceil`: the two bounds that make it a over b, rounded up.
 -- Assumes nothing.
 use mathlib.Core.Path.{_≡_, refl, sym, ap, ap₂, _∙_}
 use mathlib.Core.Logic.{_⊎_, inl, inr}
@@ -116,6 +116,13 @@ module _ {A : Type 0} where
   -- all of them
   pub joined-all : (l : List A) (p c : ℕ) → length l ≤ c * p → flatten (listed (λ n. take p (drop (n * p) l)) c 0) ≡ l
   joined-all l p c h = joined-pieces l p c 0 ∙ ap (λ (x : ℕ). take (c * p) (drop x l)) (zero-mul p) ∙ take-all (c * p) l h
+
+-- ---- zeros
+
+pub zeros-at : (n k : ℕ) → _≡_ {A = ℕ} (getD (replicate n 0) k 0) 0
+zeros-at zero k = refl
+zeros-at (suc n) zero = refl
+zeros-at (suc n) (suc k) = zeros-at n k
 
 -- ---- numbers
 
