@@ -61,6 +61,15 @@ both-all (x ∷ xs) [] i e = absurd (true≢false (sym e))
 both-all (x ∷ xs) (y ∷ ys) zero e = and-both x y e
 both-all (x ∷ xs) (y ∷ ys) (suc i) e = both-all xs ys i e
 
+-- it is where the first of them stands that does not hold
+pub lowest-is : (bs : List Bool) (k : ℕ) → (getD bs k false ≡ true → ⊥) → ((j : ℕ) → j < k → getD bs j false ≡ true) → lowest bs ≡ suc k
+lowest-is [] zero bad good = refl
+lowest-is [] (suc k) bad good = absurd (true≢false (sym (good 0 (omega arith))))
+lowest-is (true ∷ bs) zero bad good = absurd (bad refl)
+lowest-is (true ∷ bs) (suc k) bad good = ap suc (lowest-is bs k bad (λ j h. good (suc j) (omega arith)))
+lowest-is (false ∷ bs) zero bad good = refl
+lowest-is (false ∷ bs) (suc k) bad good = absurd (true≢false (sym (good 0 (omega arith))))
+
 -- ---- each rule as a fact
 
 -- a time of zeros is not given

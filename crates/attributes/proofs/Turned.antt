@@ -16,16 +16,17 @@ use Rattle.calendar.specs.Calendar.{leap, daysIn, real, noTime}
 use Rattle.calendar.specs.Range.{RealTime}
 use Rattle.times.specs.Written.{timeText, timeAt, timeIn}
 use Rattle.refusals.specs.declared.Refusal.{Refusal}
-use Rattle.refusals.specs.declared.Refusal.the-variants.{Line}
+use Rattle.refusals.specs.declared.Refusal.the-variants.{Line, Output}
 use Rattle.attributes.specs.declared.Description.{Description}
 use Rattle.attributes.specs.declared.Described.the-variants as described
+use Rattle.attributes.specs.declared.Composed.the-variants as composed
 use Rattle.attributes.specs.Attributes.{Attributes, attributesOf, noCharset, noSize, values}
 use Rattle.attributes.specs.Rules.{rulesOf, placed, rules}
 use Rattle.attributes.specs.Lines.{linesText, valueAt, linesOf}
 use Rattle.attributes.specs.Describe.{nowhere, optionalIn, givenTime, descriptionIn, faultOf}
 use Rattle.attributes.specs.Compose.{textOf}
-use Rattle.attributes.specs.Statements.{InRange, PartsInside, ReadingInRange, WritesSound, TakesSound, SoundLine, ExtraLast, TellsFault}
-use Rattle.attributes.specs.Wrong.{refusingReader, refusingWriter, extraFirst, oneFault, withoutCrLf, startOf, beginning, everyFourth}
+use Rattle.attributes.specs.Statements.{InRange, PartsInside, ReadingInRange, WritesSound, TakesSound, SoundLine, ExtraLast, TellsFault, SoundAttribute, TellsAttribute}
+use Rattle.attributes.specs.Wrong.{refusingReader, refusingWriter, roomFirst, extraFirst, oneFault, withoutCrLf, startOf, beginning, everyFourth}
 use Rattle.attributes.proofs.ReadsBack.{text-own}
 
 -- ---- the example
@@ -92,6 +93,28 @@ pub refusing-writer-turned : (why : List ℕ → Description → List ℕ → Re
 unfolding refusingWriter
 refusing-writer-turned why p =
     let e = p letter shown (textOf example) in-range parts-inside (omega arith) .0 in
+    let z : _≡_ {A = ℕ} 0 1 = cc in
+    omega arith
+
+-- ---- it looks at the room first: where nothing is lent, the name of the example is no part of it, and there is no room either
+
+lacks-name : SoundAttribute [] shown 5 → ⊥
+unfolding rules placed rulesOf
+lacks-name s = true≢false (sym s)
+
+has-four : (j : ℕ) → 1 ≤ j → j < 5 → SoundAttribute [] shown j
+unfolding rules placed rulesOf
+has-four zero l h = absurd (omega arith)
+has-four (suc zero) l h = refl
+has-four (suc (suc zero)) l h = refl
+has-four (suc (suc (suc zero))) l h = refl
+has-four (suc (suc (suc (suc zero)))) l h = refl
+has-four (suc (suc (suc (suc (suc j))))) l h = absurd (omega arith)
+
+pub room-first-turned : TellsAttribute roomFirst → ⊥
+unfolding roomFirst textOf values digits
+room-first-turned p =
+    let e : composed.Refused Output ≡ composed.Refused (Line 5) = p [] shown [] 5 (omega arith) (omega arith) lacks-name has-four .0 in
     let z : _≡_ {A = ℕ} 0 1 = cc in
     omega arith
 

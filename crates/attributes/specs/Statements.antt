@@ -9,7 +9,7 @@ use lib.Dec.{eqb}
 use lib.ListN.{length, getD, take}
 use lib.Seq.{sets}
 use Rattle.texts.specs.Breaks.{LF, CR}
-use Rattle.refusals.specs.declared.Refusal.the-variants.{Line, Extra}
+use Rattle.refusals.specs.declared.Refusal.the-variants.{Line, Extra, Output}
 use Rattle.content.specs.declared.Content.the-variants.{File, Stream}
 use Rattle.content.specs.Content.{contentOf}
 use Rattle.calendar.specs.Calendar.{notAfter, noTime}
@@ -102,7 +102,7 @@ TakesSound read = (t : List ℕ) (a : Attributes) → InRange a → plain t ≡ 
 abbrev pub WritesBack : Reader → Type 0
 WritesBack read = (t : List ℕ) (d : Description) → read t ≡ described.«Attributes» d → textOf (attributesOf t d) ≡ plain t
 
--- ---- which line is told
+-- ---- which line the reader tells
 
 -- line k of a text is there, with those before it, and may hold what it holds
 abbrev pub SoundLine : List ℕ → ℕ → Type 0
@@ -127,3 +127,21 @@ TellsFault read =
 abbrev pub TellsExtra : Reader → Type 0
 TellsExtra read =
     (t : List ℕ) → ((j : ℕ) → 1 ≤ j → j ≤ 15 → SoundLine t j) → linesOf t .next < length t → read t ≡ described.Refused Extra
+
+-- ---- and the writer
+
+-- line k may hold the attribute of a description
+abbrev pub SoundAttribute : List ℕ → Description → ℕ → Type 0
+SoundAttribute t d k = getD (true ∷ rules t d) k false ≡ true
+
+-- the lowest line that may not is told, whatever the room, and nothing is written
+abbrev pub TellsAttribute : Writer → Type 0
+TellsAttribute write =
+    (t : List ℕ) (d : Description) (out : List ℕ) (k : ℕ) → 1 ≤ k → k ≤ 15 → (SoundAttribute t d k → ⊥) → ((j : ℕ) → 1 ≤ j → j < k → SoundAttribute t d j)
+    → (write t d out .answer ≡ composed.Refused (Line k)) × (write t d out .out ≡ out)
+
+-- and that there is no room, where all fifteen may
+abbrev pub TellsRoom : Writer → Type 0
+TellsRoom write =
+    (t : List ℕ) (d : Description) (out : List ℕ) → ((j : ℕ) → 1 ≤ j → j ≤ 15 → SoundAttribute t d j) → length out < length (textOf (attributesOf t d))
+    → (write t d out .answer ≡ composed.Refused Output) × (write t d out .out ≡ out)

@@ -9,13 +9,14 @@ use Rattle.words.specs.Words.{same}
 use Rattle.calendar.specs.declared.Time.{Time}
 use Rattle.times.specs.Written.{timeAt}
 use Rattle.refusals.specs.declared.Refusal.{Refusal}
-use Rattle.refusals.specs.declared.Refusal.the-variants.{Line, Extra}
+use Rattle.refusals.specs.declared.Refusal.the-variants.{Line, Extra, Output}
 use Rattle.attributes.specs.declared.Description.{Description}
 use Rattle.attributes.specs.declared.Described.the-variants as described
 use Rattle.attributes.specs.declared.Composed.the-variants as composed
-use Rattle.attributes.specs.Attributes.{partOf}
+use Rattle.attributes.specs.Attributes.{partOf, attributesOf}
 use Rattle.attributes.specs.Lines.{linesOf}
 use Rattle.attributes.specs.Describe.{nowhere, descriptionIn, faultOf, describeOf}
+use Rattle.attributes.specs.Compose.{textOf, composeOf}
 use Rattle.attributes.specs.Statements.{Reader, Writer, plain}
 
 -- they refuse everything, whatever they say
@@ -24,6 +25,10 @@ refusingReader why t = described.Refused (why t)
 
 unfoldable pub refusingWriter : (List ℕ → Description → List ℕ → Refusal) → Writer
 refusingWriter why t d out = record { answer = composed.Refused (why t d out); out = out }
+
+-- it looks at the room first
+unfoldable pub roomFirst : Writer
+roomFirst t d out = cond (ltb (length out) (length (textOf (attributesOf t d)))) (record { answer = composed.Refused Output; out = out }) (composeOf t d out)
 
 -- it tells bytes behind line 15 before a fault
 unfoldable pub extraFirst : Reader
