@@ -24,7 +24,7 @@ use Rattle.attributes.specs.Attributes.{Attributes, attributesOf, noChar
 use Rattle.attributes.specs.Rules.{rulesOf, placed, rules}
 use Rattle.attributes.specs.Lines.{linesText, valueAt, linesOf}
 use Rattle.attributes.specs.Describe.{nowhere, optionalIn, givenTime, descriptionIn, faultOf}
-use Rattle.attributes.specs.Compose.{textOf}
+use Rattle.attributes.specs.Compose.{textOf, Writing}
 use Rattle.attributes.specs.Statements.{InRange, PartsInside, ReadingInRange, WritesSound, TakesSound, SoundLine, ExtraLast, TellsFault, SoundAttribute, TellsAttribute}
 use Rattle.attributes.specs.Wrong.{refusingReader, refusingWriter, roomFirst, extraFirst, oneFault, withoutCrLf, startOf, beginning, everyFourth}
 use Rattle.attributes.proofs.ReadsBack.{text-own}
@@ -92,7 +92,7 @@ refusing-reader-turned why p =
 pub refusing-writer-turned : (why : List ℕ → Description → List ℕ → Refusal) → WritesSound (refusingWriter why) → ⊥
 unfolding refusingWriter
 refusing-writer-turned why p =
-    let e = p letter shown (textOf example) in-range parts-inside (omega arith) .0 in
+    let e = ap (λ (w : Writing). w .answer) (p letter shown (textOf example) in-range parts-inside (omega arith)) in
     let z : _≡_ {A = ℕ} 0 1 = cc in
     omega arith
 
@@ -114,7 +114,7 @@ has-four (suc (suc (suc (suc (suc j))))) l h = absurd (omega arith)
 pub room-first-turned : TellsAttribute roomFirst → ⊥
 unfolding roomFirst textOf values digits
 room-first-turned p =
-    let e : composed.Refused Output ≡ composed.Refused (Line 5) = p [] shown [] 5 (omega arith) (omega arith) lacks-name has-four .0 in
+    let e : composed.Refused Output ≡ composed.Refused (Line 5) = ap (λ (w : Writing). w .answer) (p [] shown [] 5 (omega arith) (omega arith) lacks-name has-four) in
     let z : _≡_ {A = ℕ} 0 1 = cc in
     omega arith
 

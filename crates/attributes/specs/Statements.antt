@@ -76,7 +76,7 @@ pub record PartsInside (t : List ℕ) (d : Description) : Type 0 where
 abbrev pub WritesSound : Writer → Type 0
 WritesSound write =
     (t : List ℕ) (d : Description) (out : List ℕ) → InRange (attributesOf t d) → PartsInside t d → length (textOf (attributesOf t d)) ≤ length out
-    → (write t d out .answer ≡ composed.Text (length (textOf (attributesOf t d)))) × (write t d out .out ≡ sets out 0 (textOf (attributesOf t d)))
+    → write t d out ≡ record { answer = composed.Text (length (textOf (attributesOf t d))); out = sets out 0 (textOf (attributesOf t d)) }
 
 -- what the writer writes at the start of an output, the reader takes, and gives the same attributes
 abbrev pub ReadsBack : Reader → Writer → Type 0
@@ -138,10 +138,10 @@ SoundAttribute t d k = getD (true ∷ rules t d) k false ≡ true
 abbrev pub TellsAttribute : Writer → Type 0
 TellsAttribute write =
     (t : List ℕ) (d : Description) (out : List ℕ) (k : ℕ) → 1 ≤ k → k ≤ 15 → (SoundAttribute t d k → ⊥) → ((j : ℕ) → 1 ≤ j → j < k → SoundAttribute t d j)
-    → (write t d out .answer ≡ composed.Refused (Line k)) × (write t d out .out ≡ out)
+    → write t d out ≡ record { answer = composed.Refused (Line k); out = out }
 
 -- and that there is no room, where all fifteen may
 abbrev pub TellsRoom : Writer → Type 0
 TellsRoom write =
     (t : List ℕ) (d : Description) (out : List ℕ) → ((j : ℕ) → 1 ≤ j → j ≤ 15 → SoundAttribute t d j) → length out < length (textOf (attributesOf t d))
-    → (write t d out .answer ≡ composed.Refused Output) × (write t d out .out ≡ out)
+    → write t d out ≡ record { answer = composed.Refused Output; out = out }
