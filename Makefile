@@ -17,7 +17,7 @@ endif
 CFLAGS = -std=gnu11 -O2 -Wall -Wextra -Wconversion -Iinclude
 # what the library is made from: a change of any of these makes it anew
 sources = crates.txt $(shell find crates -path '*/must-fail' -prune -o -type f -print)
-command = $(wildcard command/*.c) command/command.h include/brithelva.h
+command = $(wildcard command/*.c command/*.h) include/brithelva.h
 
 .PHONY: all test quick left-out style reference reference-itself reference-cases cases demo library command checked kill steps limits largest example bench fuzz install uninstall clean
 

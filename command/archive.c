@@ -1,128 +1,397 @@
-/*
- * An archive: one file, mapped into memory, so that collecting goes on where it stopped.
- *
- *   0    magic "BRITHELV"
- *   8    version, 4 bytes, little-endian: 1
- *   12   which of the two records counts, 4 bytes: 0 or 1
- *   16   length of the store, 8 bytes
- *   64   record 0, 128 bytes
- *   192  record 1, 128 bytes
- *   512  the store
- *
- * Open and close write the record that does not count, and then one number says that it does. So a command that is killed at any
- * moment leaves the record of before or that of after. An offer writes a payload before its length, so it leaves no torn slot.
- */
+/* An archive: one file, read into memory and locked while a command works on it. A change is first written to the file's journal, whole and with a CRC,
+ * and goes to its own place later, when it has reached the disk: so a kill or a power loss leaves the archive of before a change or that of after. */
 #define _GNU_SOURCE
 #include "command.h"
-#include "brithelva.h"
+#include "layout.h"
 
 #include <errno.h>
 #include <fcntl.h>
-#include <stdio.h>
 #include <stdlib.h>
 #include <string.h>
 #include <sys/file.h>
-#include <sys/mman.h>
 #include <sys/stat.h>
+#include <time.h>
 #include <unistd.h>
 
-enum { AT_VERSION = 8, AT_CHOICE = 12, AT_STORE_SIZE = 16, AT_RECORDS = 64, AT_STORE = 512, VERSION = 1 };
-static const uint8_t magic[8] = {'B', 'R', 'I', 'T', 'H', 'E', 'L', 'V'};
+enum { USUAL_WAIT = 5, LONGEST_WAIT = 600 }; /* seconds */
 
-static uint64_t number_at(const uint8_t *p, int n)
-{
-    uint64_t v = 0;
-    for (int i = n - 1; i >= 0; i--)
-        v = v << 8 | p[i];
-    return v;
-}
-
-static void put_number(uint8_t *p, int n, uint64_t v)
-{
-    for (int i = 0; i < n; i++)
-        p[i] = (uint8_t)(v >> 8 * i);
-}
-
-void new_archive(const char *path, uint64_t store_size)
-{
-    char *temporary;
-    uint8_t head[AT_STORE] = {0};
-    memcpy(head, magic, sizeof magic);
-    put_number(head + AT_VERSION, 4, VERSION);
-    put_number(head + AT_STORE_SIZE, 8, store_size);
-    if (asprintf(&temporary, "%s.%ld.part", path, (long)getpid()) < 0)
-        trouble("%s: no memory for its name", path);
-    int fd = open(temporary, O_WRONLY | O_CREAT | O_EXCL | O_CLOEXEC, 0666);
-    if (fd < 0)
-        trouble("%s: %s", temporary, strerror(errno));
-    /* the name is taken by a link, which never replaces a file that is there */
-    int made = write(fd, head, sizeof head) == sizeof head && ftruncate(fd, (off_t)(AT_STORE + store_size)) == 0
-               && fsync(fd) == 0 && link(temporary, path) == 0;
-    int why = errno;
-    unlink(temporary);
-    if (!made)
-        trouble("%s: %s", path, strerror(why));
-    close(fd);
-    free(temporary);
-}
-
+static void damaged(const char *path, const char *how) __attribute__((noreturn));
 static void damaged(const char *path, const char *how)
 {
     trouble("%s: %s; it stays as it is", path, how);
 }
 
-static uint32_t *choice_of(struct archive *a)
+/* ---- the lock */
+
+double seconds_now(void)
 {
-    return (uint32_t *)(void *)(a->map + AT_CHOICE);
+    struct timespec t;
+    clock_gettime(CLOCK_MONOTONIC, &t);
+    return (double)t.tv_sec + 1e-9 * (double)t.tv_nsec;
 }
 
-struct archive open_archive(const char *path, int writing)
+static void take_lock(struct archive *a, long long wait)
 {
-    struct archive a = {.path = path};
-    struct stat about;
-    a.fd = open(path, (writing ? O_RDWR : O_RDONLY) | O_CLOEXEC);
-    if (a.fd < 0 || fstat(a.fd, &about) != 0)
-        trouble("%s: %s", path, strerror(errno));
-    if (!S_ISREG(about.st_mode))
-        damaged(path, "not an archive: no plain file");
-    if (flock(a.fd, (writing ? LOCK_EX : LOCK_SH) | LOCK_NB) != 0) {
-        if (errno == EWOULDBLOCK)
-            trouble("%s: another command is at work on it; try again when it has ended", path);
-        trouble("%s: %s", path, strerror(errno));
+    double until = seconds_now() + (double)wait;
+    while (flock(a->fd, (a->writing ? LOCK_EX : LOCK_SH) | LOCK_NB) != 0) {
+        if (errno != EWOULDBLOCK && errno != EINTR)
+            trouble("%s: it cannot be locked: %s", a->path, strerror(errno));
+        if (seconds_now() >= until)
+            trouble("%s: another command is at work on it; try again when it has ended, or with a longer --wait", a->path);
+        nanosleep(&(struct timespec){0, 2000000}, NULL);
     }
-    a.size = (size_t)about.st_size;
-    if (a.size < AT_STORE)
+}
+
+/* whether the file that was opened still has the archive's name */
+static int still_named(const struct archive *a)
+{
+    struct stat ours, named;
+    return fstat(a->fd, &ours) == 0 && stat(a->path, &named) == 0 && ours.st_dev == named.st_dev && ours.st_ino == named.st_ino;
+}
+
+/* ---- files that take an archive's name in one step */
+
+/* Writes an image to a part beside the archive, locked, on the disk, and gives it the name: a new one, or that of a file that it then looks like. */
+static int write_image(const char *path, const uint8_t *image, size_t n, const struct stat *like)
+{
+    char *final = final_name(path), *part;
+    int fd = open_part(final, &part);
+    int why = fd < 0 || (like != NULL && look_like(fd, like) != 0) ? errno : posix_fallocate(fd, 0, (off_t)n);
+    if (why == 0 && (flock(fd, LOCK_EX) != 0 || write_all(fd, image, n) != 0 || sync_file(fd) != 0 || put_in_place(part, final, like != NULL) != 0))
+        why = errno;
+    if (why != 0)
+        drop_part(part);
+    if (why == ENOSPC || why == EDQUOT || why == EFBIG)
+        trouble("%s: there is no room for its %zu bytes: %s", path, n, strerror(why));
+    if (why != 0)
+        trouble("%s: %s", path, strerror(why));
+    remove_when_stopped(NULL);
+    free(part);
+    free(final);
+    return fd;
+}
+
+void new_archive(const char *path, uint64_t store_size)
+{
+    uint8_t *image = fresh_image(store_size);
+    close(write_image(path, image, image_size(store_size), NULL));
+    free(image);
+}
+
+/* ---- reading */
+
+/* the newer of the two states, of those that agree with their checks, stands in the first's place from here on */
+static void choose_state(struct archive *a)
+{
+    uint64_t newest = 0;
+    a->copies = 0;
+    for (int k = 0; k < 2; k++) {
+        const uint8_t *copy = a->image + AT_STATES + k * PAGE;
+        a->in_place[k] = number_at(copy + AT_GENERATION, 8);
+        if (number_at(copy + AT_STATE_CHECK, 4) != bh_crc32(copy, AT_STATE_CHECK))
+            continue;
+        if (a->copies++ == 0 || a->in_place[k] > newest)
+            memmove(a->state, copy, STATE);
+        newest = number_at(a->state + AT_GENERATION, 8);
+    }
+    if (a->copies == 0)
+        damaged(a->path, "a damaged archive: neither copy of its record agrees with its check");
+}
+
+static uint64_t generation(const struct archive *a)
+{
+    return number_at(a->state + AT_GENERATION, 8);
+}
+
+/* whether a change may touch these bytes: the state, the checks or the store */
+static int may_change(const struct archive *a, uint64_t at, uint64_t n)
+{
+    uint64_t journal = (uint64_t)(a->journal - a->image), store = (uint64_t)(a->store - a->image);
+    return (at == AT_STATES && n == STATE) || (at >= AT_CHECKS && at + n <= journal) || (at >= store && at + n <= a->size);
+}
+
+/* The bytes of the change that stands at a place of the journal and is the next one; 0 where there is none. */
+static size_t next_change(const struct archive *a, size_t at)
+{
+    const uint8_t *head = a->journal + at;
+    if (at + CHANGE_HEAD > a->journal_size || number_at(head + AT_CHANGE_GENERATION, 8) != generation(a) + 1)
+        return 0;
+    size_t n = (size_t)number_at(head + AT_CHANGE_SIZE, 4);
+    if (memcmp(head + AT_CHANGE_SALT, a->image + AT_SALT, 8) != 0 || n > a->journal_size - at - CHANGE_HEAD)
+        return 0;
+    return bh_crc32(head + AT_CHANGE_SIZE, CHANGE_HEAD - AT_CHANGE_SIZE + n) == number_at(head + AT_CHANGE_CHECK, 4) ? CHANGE_HEAD + n : 0;
+}
+
+/* Goes through the parts of a change that agrees with its CRC, and does with each what is asked: puts it into the image, or from there to its place in the file. */
+static int each_part(struct archive *a, const uint8_t *from, const uint8_t *end, int (*what)(struct archive *, const uint8_t *, size_t, size_t))
+{
+    while (end - from >= PART_HEAD) {
+        uint64_t at = number_at(from, 4), n = number_at(from + 4, 4);
+        if (n > (uint64_t)(end - from - PART_HEAD) || !may_change(a, at, n))
+            return -1;
+        if (what(a, from + PART_HEAD, (size_t)at, (size_t)n) != 0)
+            return -1;
+        from += PART_HEAD + n;
+    }
+    return from == end ? 0 : -1;
+}
+
+static int put_into_image(struct archive *a, const uint8_t *bytes, size_t at, size_t n)
+{
+    memcpy(a->image + at, bytes, n);
+    return 0;
+}
+
+/* what was committed and has not gone to its place */
+static void replay(struct archive *a)
+{
+    for (size_t n; (n = next_change(a, a->used)) > 0; a->used += n) {
+        uint64_t expected = generation(a) + 1;
+        if (each_part(a, a->journal + a->used + CHANGE_HEAD, a->journal + a->used + n, put_into_image) != 0 || generation(a) != expected)
+            damaged(a->path, "a damaged archive: its journal has a change that no command writes");
+    }
+}
+
+static void judge_head(const char *path, const uint8_t *head, size_t n)
+{
+    if (n < HEAD)
         damaged(path, "not an archive: shorter than an archive's header");
-    a.map = mmap(NULL, a.size, writing ? PROT_READ | PROT_WRITE : PROT_READ, MAP_SHARED, a.fd, 0);
-    if (a.map == MAP_FAILED)
-        trouble("%s: %s", path, strerror(errno));
-    if (memcmp(a.map, magic, sizeof magic) != 0)
+    if (memcmp(head, archive_magic, sizeof archive_magic) != 0)
         damaged(path, "not an archive: it does not start with BRITHELV");
-    if (number_at(a.map + AT_VERSION, 4) != VERSION)
+    uint64_t version = number_at(head + AT_VERSION, 4);
+    if (version != 1 && version != VERSION)
         damaged(path, "an archive of a version that this command does not know");
-    uint64_t choice = number_at(a.map + AT_CHOICE, 4);
-    if (number_at(a.map + AT_STORE_SIZE, 8) != a.size - AT_STORE || choice > 1)
-        damaged(path, "a damaged archive: its header and its length do not go together");
-    a.record = a.map + AT_RECORDS + choice * BH_RECORD;
-    a.store = a.map + AT_STORE;
-    a.store_size = a.size - AT_STORE;
-    /* resource 0 is never open, so a good record answers Unknown */
-    if (bh_number(bh_status(a.record, BH_RECORD, a.store, a.store_size, 0)) != BH_UNKNOWN)
-        damaged(path, "a damaged archive: its record breaks a rule (refusal 9 Record)");
+    if (version == VERSION && number_at(head + AT_HEAD_CHECK, 4) != bh_crc32(head, AT_HEAD_CHECK))
+        damaged(path, "a damaged archive: its header does not agree with its check");
+}
+
+/* the record with nothing wrong in it: resource 0 is never open, so a good one answers Unknown */
+static void judge_record(const struct archive *a)
+{
+    if (number_at(a->state + AT_RECORD_LENGTH, 4) != BH_RECORD)
+        damaged(a->path, "an archive with a record of a length that this command does not know");
+    if (bh_number(bh_status(a->record, BH_RECORD, a->store, a->store_size, 0)) != BH_UNKNOWN)
+        damaged(a->path, "a damaged archive: its record breaks a rule (refusal 9 Record)");
+}
+
+static uint8_t *read_image(const struct archive *a, size_t n)
+{
+    uint8_t *image = malloc(n);
+    if (image == NULL)
+        trouble("%s: no memory for its %zu bytes", a->path, n);
+    ssize_t got = read_at(a->fd, image, n, 0);
+    if (got < 0)
+        trouble("%s: %s", a->path, strerror(errno));
+    if ((size_t)got != n)
+        damaged(a->path, "a damaged archive: it became shorter while it was read");
+    return image;
+}
+
+/* An archive of version 1: its image as version 2 has it, and, where it is to be written, a file with that image in its place. */
+static void carry_over(struct archive *a, const struct stat *about)
+{
+    if (about->st_size > 512 + BH_USABLE_STORE)
+        damaged(a->path, "a damaged archive: its header and its length do not go together");
+    uint8_t *old = read_image(a, (size_t)about->st_size), *image = carried_image(a->path, old, (size_t)about->st_size);
+    if (image == NULL)
+        damaged(a->path, "a damaged archive of version 1: its header, its record and its length do not go together (refusal 9 Record)");
+    point_into(a, image, number_at(old + AT_STORE_SIZE, 8));
+    free(old);
+    choose_state(a);
+    a->version = 1;
+    if (!a->writing)
+        return;
+    a->version = VERSION;
+    int fd = write_image(a->path, image, a->size, about);
+    close(a->fd);
+    a->fd = fd;
+    remark("%s: carried over from version 1 to version 2; what its unprotected slots held is taken as it was found", a->path);
+}
+
+static void load(struct archive *a)
+{
+    struct stat about;
+    uint8_t head[HEAD];
+    ssize_t got = read_at(a->fd, head, sizeof head, 0);
+    if (got < 0 || fstat(a->fd, &about) != 0)
+        trouble("%s: %s", a->path, strerror(errno));
+    judge_head(a->path, head, (size_t)got);
+    if (number_at(head + AT_VERSION, 4) == 1) {
+        carry_over(a, &about);
+        return;
+    }
+    uint64_t store_size = number_at(head + AT_STORE_SIZE, 8);
+    if (store_size > BH_USABLE_STORE || (uint64_t)about.st_size != image_size(store_size))
+        damaged(a->path, "a damaged archive: its header and its length do not go together");
+    point_into(a, read_image(a, image_size(store_size)), store_size);
+    a->version = VERSION;
+    choose_state(a);
+    replay(a);
+    judge_record(a);
+    /* after several kills the journal may be nearly full */
+    if (a->writing && !has_room(a))
+        settle(a);
+}
+
+struct archive open_archive(const char *path, int writing, long long wait)
+{
+    struct archive a = {.path = path, .fd = -1, .writing = writing};
+    do {
+        if (a.fd >= 0)
+            close(a.fd);
+        struct stat about;
+        a.fd = open(path, (writing ? O_RDWR : O_RDONLY) | O_NONBLOCK | O_CLOEXEC);
+        if (a.fd < 0 || fstat(a.fd, &about) != 0)
+            trouble("%s: %s", path, strerror(errno));
+        if (!S_ISREG(about.st_mode))
+            damaged(path, "not an archive: no plain file");
+        take_lock(&a, wait < 0 ? USUAL_WAIT : wait);
+    } while (!still_named(&a));
+    load(&a);
     return a;
 }
 
-void publish_record(struct archive *a, const uint8_t *record)
+void release_archive(struct archive *a)
 {
-    uint32_t other = *choice_of(a) == 0;
-    uint8_t *place = a->map + AT_RECORDS + other * BH_RECORD;
-    memcpy(place, record, BH_RECORD);
-    __atomic_store_n(choice_of(a), other, __ATOMIC_SEQ_CST);
-    a->record = place;
+    flock(a->fd, LOCK_UN);
+}
+
+/* whether no other command has written to it since it was released */
+static int unchanged(struct archive *a)
+{
+    uint8_t at[2][8], next[8];
+    for (int k = 0; k < 2; k++)
+        if (read_at(a->fd, at[k], 8, AT_STATES + k * PAGE + AT_GENERATION) != 8 || number_at(at[k], 8) != a->in_place[k])
+            return 0;
+    if (a->used + CHANGE_HEAD > a->journal_size)
+        return 1;
+    off_t head = (off_t)(a->journal - a->image) + (off_t)a->used;
+    return read_at(a->fd, next, 8, head + AT_CHANGE_GENERATION) == 8 && number_at(next, 8) != generation(a) + 1;
+}
+
+void retake_archive(struct archive *a)
+{
+    take_lock(a, LONGEST_WAIT);
+    if (!still_named(a))
+        trouble("%s: another file has taken its name meanwhile", a->path);
+    if (unchanged(a))
+        return;
+    free(a->image);
+    load(a);
 }
 
 void close_archive(struct archive *a)
 {
-    munmap(a->map, a->size);
+    free(a->image);
     close(a->fd);
+}
+
+/* ---- counters */
+
+static uint8_t *counter_at(const struct archive *a, int place, enum counter which)
+{
+    return a->state + AT_COUNTERS + 8 * (COUNTERS * place + (int)which);
+}
+
+uint64_t count_of(const struct archive *a, int place, enum counter which)
+{
+    return number_at(counter_at(a, place, which), 8);
+}
+
+void count_more(struct archive *a, int place, enum counter which, uint64_t more)
+{
+    put_number(counter_at(a, place, which), 8, count_of(a, place, which) + more);
+}
+
+void clear_counters(struct archive *a, int place)
+{
+    memset(counter_at(a, place, 0), 0, 8 * COUNTERS);
+}
+
+/* ---- writing */
+
+static void not_written(const struct archive *a) __attribute__((noreturn));
+static void not_written(const struct archive *a)
+{
+    trouble("%s: %s; it holds what it held before this change", a->path, strerror(errno));
+}
+
+/* the most that one packet adds to a change, with the state that ends it */
+enum { MOST = CHANGE_HEAD + 4 * PART_HEAD + BH_LARGEST_PAYLOAD + 16 + STATE };
+
+int has_room(const struct archive *a)
+{
+    return a->journal_size - a->used - a->growing >= 2 * MOST;
+}
+
+void change(struct archive *a, const uint8_t *at, size_t n)
+{
+    if (a->growing == 0)
+        a->growing = CHANGE_HEAD;
+    uint8_t *to = a->journal + a->used + a->growing;
+    put_number(to, 4, (uint64_t)(at - a->image));
+    put_number(to + 4, 4, n);
+    memcpy(to + PART_HEAD, at, n);
+    a->growing += PART_HEAD + n;
+}
+
+void commit(struct archive *a)
+{
+    uint8_t *head = a->journal + a->used;
+    put_number(a->state + AT_GENERATION, 8, generation(a) + 1);
+    seal_state(a);
+    change(a, a->state, STATE);
+    put_number(head + AT_CHANGE_SIZE, 4, a->growing - CHANGE_HEAD);
+    put_number(head + AT_CHANGE_GENERATION, 8, generation(a));
+    memcpy(head + AT_CHANGE_SALT, a->image + AT_SALT, 8);
+    put_number(head + AT_CHANGE_CHECK, 4, bh_crc32(head + AT_CHANGE_SIZE, a->growing - AT_CHANGE_SIZE));
+    if (write_at(a->fd, head, a->growing, head - a->image) != 0)
+        not_written(a);
+    a->used += a->growing;
+    a->growing = 0;
+}
+
+void sync_archive(struct archive *a)
+{
+    if (sync_file(a->fd) != 0)
+        trouble("%s: %s", a->path, strerror(errno));
+}
+
+static int put_into_file(struct archive *a, const uint8_t *bytes, size_t at, size_t n)
+{
+    (void)bytes;
+    return at == AT_STATES ? 0 : write_at(a->fd, a->image + at, n, (off_t)at);
+}
+
+static void put_changes(struct archive *a)
+{
+    for (size_t at = 0; at < a->used;) {
+        size_t n = CHANGE_HEAD + (size_t)number_at(a->journal + at + AT_CHANGE_SIZE, 4);
+        if (each_part(a, a->journal + at + CHANGE_HEAD, a->journal + at + n, put_into_file) != 0)
+            trouble("%s: %s; the next command on it will finish this", a->path, strerror(errno));
+        at += n;
+    }
+}
+
+/* The journal reaches the disk before anything goes to its place, that before the state which says so, and one copy of it before the other. */
+void settle(struct archive *a)
+{
+    if (a->used == 0)
+        return;
+    sync_archive(a);
+    put_changes(a);
+    sync_archive(a);
+    for (int k = 0; k < 2; k++) {
+        if (write_at(a->fd, a->state, STATE, AT_STATES + k * PAGE) != 0)
+            trouble("%s: %s; the next command on it will finish this", a->path, strerror(errno));
+        sync_archive(a);
+        a->in_place[k] = generation(a);
+    }
+    a->used = 0;
+}
+
+void write_ahead(struct archive *a, const uint8_t *at, size_t n)
+{
+    if (n > 0 && write_at(a->fd, at, n, at - a->image) != 0)
+        not_written(a);
 }

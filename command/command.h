@@ -1,69 +1,195 @@
-/* What the files of the command share: messages, whole files, archives. Every decision about packets is the library's. */
+/* What the files of the command share. Every decision about packets and description files is the library's. */
 #ifndef COMMAND_H
 #define COMMAND_H
 
+#include "brithelva.h"
+
 #include <stddef.h>
 #include <stdint.h>
+#include <stdio.h>
+#include <sys/stat.h>
 
 enum { EXIT_ACCEPTED = 0, EXIT_REFUSED = 1, EXIT_TROUBLE = 2 };
 
-/* say.c: messages. Each of the first two ends the command. */
+/* ---- say.c: messages, all on standard error. The first two end the command. */
+enum talk { QUIET = -1, PLAIN = 0, VERBOSE = 1 };
+extern enum talk talk;
 void trouble(const char *format, ...) __attribute__((noreturn, format(printf, 1, 2)));
 void usage(const char *format, ...) __attribute__((noreturn, format(printf, 1, 2)));
-int refused(uint64_t answer, const char *what);
-int refused_line(uint64_t answer, const char *what, const char *sentence);
+void complain(const char *format, ...) __attribute__((format(printf, 1, 2))); /* whatever was asked for */
+void remark(const char *format, ...) __attribute__((format(printf, 1, 2)));   /* not with --quiet */
+void detail(const char *format, ...) __attribute__((format(printf, 1, 2)));   /* with --verbose only */
 const char *refusal_name(unsigned number);
+int refused(uint64_t answer, const char *what);
+int refused_since(uint64_t answer, const char *what, const char *format, ...) __attribute__((format(printf, 3, 4)));
+int refused_line(uint64_t answer, const char *what, const char *sentence);
+enum colour { NO_COLOUR, RED, GREEN, YELLOW };
+const char *colour(FILE *to, enum colour which); /* what a terminal takes for it; nothing where there is none */
 
-/* words.c: the numbers of a description in words, and what each of its lines must hold. */
+/* ---- words.c: the numbers of a description in words, and what each of its lines must hold. */
 const char *kind_words(uint64_t kind);
 const char *charset_words(uint64_t charset);
 const char *line_words(uint64_t line);
 
-/* arguments.c: the words of a command line. */
+/* ---- arguments.c: the words of a command line. */
 struct arguments {
-    const char *names[64]; /* what is no option, the command's own name left out */
+    char **names; /* what is no option, the command's own name left out */
     int count;
-    long long resource, type, update, protection, rows, size, length, packets, service, kind, charset; /* -1 where it is not named */
-    const char *mode, *name, *title, *summary, *keywords, *path, *file, *from, *until, *output;        /* NULL where it is not named */
-    int delete, json, each;
+    long long resource, type, update, protection, rows, size, length, packets, service, kind, charset, wait; /* -1 where it is not named */
+    const char *mode, *name, *title, *summary, *keywords, *path, *file, *from, *until, *output;              /* NULL where it is not named */
+    int delete, json, each, force, strict, mend, despite_conflicts, help, quiet, verbose;
 };
 struct arguments parse(int argc, char **argv, const char *allowed);
 void want(int there, const char *command, const char *what);
 
-/* files.c: whole files in memory, and files that appear only when they are complete. */
+/* ---- stop.c: signals. What is half done is removed; `offer` ends as at the end of its input. */
+void watch_signals(void);
+void remove_when_stopped(const char *path); /* NULL: nothing to remove any more */
+void hold_signals(void);
+void let_signals(void);
+void end_gently(void);
+int stop_asked(void);
+void stop_now(void); /* as the signal that asked for it would have; nothing where none did */
+
+/* ---- files.c: whole files in memory; names. */
 struct bytes {
     uint8_t *at;
     size_t n;
 };
-struct bytes read_file(const char *path);
+struct bytes read_file(const char *path, size_t most); /* one byte more than `most` where it is longer */
 void release(struct bytes b);
 uint64_t file_length(const char *path);
-int same_file(const char *one, const char *other);
+int same_file(const char *one, const char *other); /* - for the first is standard output */
+char *final_name(const char *path); /* links followed, also one that leads to nothing yet */
+/* A file that is to take a name: beside it, removed if a signal ends the command. -1 with errno where there can be none. */
+int open_part(const char *beside, char **part);
+int look_like(int fd, const struct stat *other); /* its mode, and its owner where that may be */
+void drop_part(char *part);
+int put_in_place(const char *part, const char *path, int replace); /* 0, or -1 with errno; a name that is there is replaced only if that was asked for */
+int write_all(int fd, const void *at, size_t n);
+ssize_t read_at(int fd, void *to, size_t n, off_t at); /* fewer than n only at the end of the file */
+int write_at(int fd, const void *from, size_t n, off_t at);
+int sync_file(int fd);
+
+/* ---- output.c: what -o names. A plain file appears, or is replaced, only when it is complete. */
 struct output {
-    const char *path;
-    char *temporary;
-    int fd;
+    const char *path; /* as it was named */
+    char *final, *part;
+    int fd, straight, replace;
+    struct stat before; /* what is replaced */
 };
-struct output begin_output(const char *path);
+/* Judges the name before any work is done: it must not be the input (NULL for none), and what is there is replaced only with --force. */
+struct output plan_output(const char *path, int force, const char *input, const char *input_words);
+void begin_output(struct output *o);
 void write_output(struct output *o, const uint8_t *at, size_t n);
 void finish_output(struct output *o);
 
-/* archive.c: one file with a header, the record and the store, mapped into memory. */
+/* ---- place.c: what stands in a record, and the room of a store. */
+struct bh_place place_of(const uint8_t *record, int i);
+int find_place(const uint8_t *record, uint16_t resource); /* -1 where no place holds it */
+uint64_t cover_of(struct bh_place p);
+uint8_t *slot_of(uint8_t *store, struct bh_place p, uint32_t number);
+uint16_t length_of(const uint8_t *slot);
+uint64_t bytes_used(const uint8_t *record);
+uint64_t largest_gap(const uint8_t *record, size_t store_size);
+/* whether the place in use with this number is the same in both records */
+int same_place(const uint8_t *one, const uint8_t *other, int i);
+
+/* ---- settings.c: the settings that pack and open name. */
+struct settings {
+    int house; /* none of protection, rows and size is named */
+    uint8_t type, update, protection, rows;
+    uint16_t resource, size;
+};
+struct settings settings_of(const struct arguments *a);
+/* which argument is out of its range, and the range; count is -1 where there is none */
+const char *field_cause(const struct settings *s, long long count);
+
+/* ---- archive.c: one file, held in memory while a command works on it (docs/ARCHIVE.md). */
+enum { UNIT = 64 }; /* bytes of the store to one check */
+enum counter { STORED, REPEATED, CONFLICTS, OTHERS, MENDED, HANDED_OUT, COUNTERS = 16 };
 struct archive {
     const char *path;
-    int fd;
-    uint8_t *map;
+    int fd, writing, version;
+    uint8_t *image; /* the whole file, what the journal has put into its place */
     size_t size;
-    uint8_t *record;
-    uint8_t *store;
-    size_t store_size;
+    uint8_t *state, *record, *checks, *journal, *store; /* parts of the image */
+    size_t journal_size, store_size;
+    size_t used, growing;  /* bytes of the journal that are written, and of the change that is being put together behind them */
+    uint64_t in_place[2];  /* the generations of the two states on disk */
+    int copies;            /* how many of the two are good */
 };
+double seconds_now(void);
 void new_archive(const char *path, uint64_t store_size);
-struct archive open_archive(const char *path, int writing);
-void publish_record(struct archive *a, const uint8_t *record);
+struct archive open_archive(const char *path, int writing, long long wait);
+void release_archive(struct archive *a);
+void retake_archive(struct archive *a);
 void close_archive(struct archive *a);
+uint64_t count_of(const struct archive *a, int place, enum counter which);
+void count_more(struct archive *a, int place, enum counter which, uint64_t more);
+void clear_counters(struct archive *a, int place);
+/* A change: parts of the image, then all of them at once. After a kill it is there whole or not at all. */
+int has_room(const struct archive *a);
+void change(struct archive *a, const uint8_t *at, size_t n);
+void commit(struct archive *a);
+void sync_archive(struct archive *a); /* what was committed reaches the disk */
+void settle(struct archive *a);       /* and goes to its own place there */
+void write_ahead(struct archive *a, const uint8_t *at, size_t n); /* straight to the file: bytes that no place in use has */
 
-/* describe.c and description.c: description files. */
+/* ---- image.c: a fresh image of an archive, and one carried over from version 1. */
+size_t image_size(uint64_t store_size);
+void point_into(struct archive *a, uint8_t *image, uint64_t store_size);
+void seal_state(struct archive *a);
+uint8_t *fresh_image(uint64_t store_size);
+uint8_t *carried_image(const char *path, const uint8_t *old, size_t n); /* NULL where it is no archive of version 1 */
+uint64_t number_at(const uint8_t *p, int n);
+void put_number(uint8_t *p, int n, uint64_t v);
+
+/* ---- checks.c: whether slots hold what was stored. */
+/* What a check differs by before its slots change, and has to differ by afterwards: a slot that was damaged stays so whatever is stored beside it. 0 where
+ * nothing begins in the unit but `own` bytes that are known to be right. */
+uint32_t check_debt(struct archive *a, size_t unit, size_t own);
+void renew_check(struct archive *a, size_t unit, uint32_t debt); /* in the image, as the next */
+void renew_for(struct archive *a, uint8_t *slot);                /* a slot that was empty and is filled */
+uint8_t *check_at(struct archive *a, size_t unit);
+size_t unit_of(const struct archive *a, const uint8_t *slot);
+int mend_rows(uint8_t *payload, size_t n); /* the bytes put right; -1, and nothing changed, where a row has no coded row within eight bytes */
+enum soundness { SOUND, MENDABLE, CHECK_ONLY, BROKEN };
+struct finding {
+    uint32_t packet;
+    enum soundness what;
+    const char *words;
+    int row;        /* the first row that is no coded row; -1 where it is not about rows */
+    unsigned bytes; /* to put right, in all rows */
+};
+/* Judges one slot; a slot that can be mended is mended in the image if that is asked for. */
+struct finding judge_slot(struct archive *a, struct bh_place p, uint32_t number, int mend);
+
+/* ---- recording.c: bytes with packets among them, a batch at a time. */
+struct recording {
+    const char *name;
+    int fd;
+    uint8_t *bytes;
+    size_t n, covered; /* bytes at hand, and how many of them belong to packets or were counted as skipped */
+    uint64_t skipped, passed;
+    off_t size; /* 0 where it is not known */
+    int ended;
+};
+int open_recording(struct recording *r, const char *name);
+int read_batch(struct recording *r); /* 0, or -1 with errno */
+const uint8_t *next_packet(struct recording *r, size_t *at, size_t *length); /* NULL where more has to be read */
+void drop_batch(struct recording *r, size_t at);
+void close_recording(struct recording *r);
+
+/* ---- the commands */
+int pack(const struct arguments *a);
+int make_archive(const struct arguments *a);
+int open_place(const struct arguments *a);
+int close_place(const struct arguments *a);
+int offer(const struct arguments *a);
+int status(const struct arguments *a);
+int verify(const struct arguments *a);
+int hand_out(const struct arguments *a);
 int describe(const struct arguments *a);
 int description(const struct arguments *a);
 

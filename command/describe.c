@@ -1,6 +1,5 @@
 /* describe: a description file, told to a person or as JSON. */
 #include "command.h"
-#include "brithelva.h"
 
 #include <inttypes.h>
 #include <stdio.h>
@@ -188,7 +187,7 @@ static const char *what_is_wrong(struct bytes b, uint64_t line)
 int describe(const struct arguments *a)
 {
     want(a->count == 1, "describe", "one description file");
-    struct bytes b = read_file(a->names[0]);
+    struct bytes b = read_file(a->names[0], SIZE_MAX - 1);
     uint64_t values[BH_DESCRIPTION_VALUES];
     uint64_t answer = bh_read_description(b.at, b.n, values, BH_DESCRIPTION_VALUES);
     int result;

@@ -1,7 +1,6 @@
 /* description: a description file written from what the options name. */
 #define _GNU_SOURCE
 #include "command.h"
-#include "brithelva.h"
 
 #include <stdlib.h>
 #include <string.h>
@@ -24,14 +23,12 @@ static uint64_t number_or(long long given, uint64_t none)
     return given < 0 ? none : (uint64_t)given == none ? impossible : (uint64_t)given;
 }
 
-static uint64_t length_of(const struct arguments *a)
+static uint64_t described_length(const struct arguments *a)
 {
     if (a->length >= 0 && a->file != NULL)
         usage("description takes --length or --file, not both");
     if (a->file == NULL)
         return number_or(a->length, 0);
-    if (a->output != NULL && same_file(a->file, a->output))
-        usage("-o names the file that is described");
     uint64_t length = file_length(a->file);
     return length == 0 ? impossible : length;
 }
@@ -86,7 +83,7 @@ static struct bytes put_values(const struct arguments *a, uint64_t *v)
     v[BH_D_UPDATE] = (uint64_t)a->update;
     v[BH_D_KIND] = (uint64_t)a->kind;
     v[BH_D_CHARSET] = number_or(a->charset, BH_NO_CHARSET);
-    v[BH_D_FILE_LENGTH] = length_of(a);
+    v[BH_D_FILE_LENGTH] = described_length(a);
     put_time(a->from, v + BH_D_START_YEAR);
     put_time(a->until, v + BH_D_END_YEAR);
     v[BH_D_DELETE] = (uint64_t)a->delete;
@@ -103,6 +100,7 @@ int description(const struct arguments *a)
     want(a->name != NULL, "description", "--name");
     want(a->kind >= 0, "description", "--kind");
     want(a->output != NULL, "description", "-o TEXT");
+    struct output o = plan_output(a->output, a->force, a->file, "the file that is described");
     uint64_t values[BH_DESCRIPTION_VALUES];
     struct bytes texts = put_values(a, values);
     size_t room = BH_DESCRIPTION_FIXED + texts.n;
@@ -111,7 +109,7 @@ int description(const struct arguments *a)
         trouble("no memory for a description of %zu bytes", room);
     uint64_t answer = bh_write_description(values, BH_DESCRIPTION_VALUES, texts.at, texts.n, out, room);
     if (bh_number(answer) == BH_ACCEPTED) {
-        struct output o = begin_output(a->output);
+        begin_output(&o);
         write_output(&o, out, (size_t)bh_value(answer));
         finish_output(&o);
     }

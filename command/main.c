@@ -1,11 +1,9 @@
-/* The command brithelva: arguments, files and messages around the library. */
+/* The command brithelva: which commands there are, what each is for, and what happens before and after it. */
 #define _GNU_SOURCE
 #include "command.h"
-#include "brithelva.h"
 
 #include <errno.h>
-#include <inttypes.h>
-#include <stdio.h>
+#include <fcntl.h>
 #include <stdlib.h>
 #include <string.h>
 #include <unistd.h>
@@ -14,383 +12,115 @@
 #define BRITHELVA_VERSION "development"
 #endif
 
-static const char help[] =
-    "brithelva: files from the data service of FM digital radio\n"
-    "\n"
-    "  brithelva pack FILE -o PACKETS --resource N [--type 1|2] [--update U]\n"
-    "                 [--protection 0|1] [--rows M] [--size P]\n"
-    "      writes all packets of FILE end to end; protection 1, 32 rows, size 255 where none is named\n"
-    "  brithelva new ARCHIVE --size BYTES\n"
-    "      makes an archive with a store of so many bytes, at most 16777216\n"
-    "  brithelva open ARCHIVE --resource N --count C [--type 1|2] [--update U]\n"
-    "                 [--protection 0|1] [--rows M] [--size S]\n"
-    "      opens a place for a resource's C packets\n"
-    "  brithelva offer ARCHIVE PACKETS.. [--each] [--json]\n"
-    "      offers every packet found in the files (- for standard input), past noise, and tells the tally;\n"
-    "      with --each also a line for every packet: resource, number, answer\n"
-    "  brithelva status ARCHIVE [--resource N] [--json]\n"
-    "      how far each open resource has come\n"
-    "  brithelva hand-out ARCHIVE --resource N --length L -o FILE\n"
-    "      writes the file of a resource, L bytes, once every packet is there\n"
-    "  brithelva close ARCHIVE --resource N\n"
-    "      gives a resource's place up\n"
-    "  brithelva describe TEXT [--json]\n"
-    "      what a description file (- for standard input) says: name, title, dates, kind, length and the rest\n"
-    "  brithelva description -o TEXT --service N --mode stream|file --resource N --update U --name S --kind N\n"
-    "                 [--length L | --file FILE] [--title S] [--summary S] [--keywords S] [--charset N]\n"
-    "                 [--path S] [--from TIME] [--until TIME] [--delete]\n"
-    "      writes a description file; a TIME is yyyy.mm.dd/hh:mm:ss, --file takes the length of FILE\n"
-    "  brithelva --help | --version\n"
-    "\n"
-    "Exit status: 0 accepted, 1 refused, 2 usage or file trouble. A refusal is told by its number, as the library's\n"
-    "documents list them. 'man brithelva' says more.\n";
-
-/* the settings of pack and open: the house setting where none of protection, rows and size is named */
-struct settings {
-    int house;
-    uint8_t type, update, protection, rows;
-    uint16_t size;
+static const struct command {
+    const char *name, *options; /* the options that it takes beside help, quiet and verbose */
+    int (*run)(const struct arguments *);
+    const char *form, *what;
+} commands[] = {
+    {"pack", "resource type update protection rows size output force", pack,
+     "pack FILE -o PACKETS --resource N [--type 1|2] [--update U]\n"
+     "                 [--protection 0|1] [--rows M] [--size P] [--force]",
+     "writes all packets of FILE end to end. Where none of protection, rows and size is named, the\n"
+     "      house setting: protection 1, tables of 32 rows, payloads of 255 bytes"},
+    {"new", "size", make_archive, "new ARCHIVE --size BYTES",
+     "makes an archive with a store of so many bytes (4M, 512K), at most 16M. C packets with payloads\n"
+     "      of P bytes take C * (P + 2) of them"},
+    {"open", "resource type update protection rows size count wait", open_place,
+     "open ARCHIVE --resource N --count C [--type 1|2] [--update U]\n"
+     "                 [--protection 0|1] [--rows M] [--size S] [--wait SECONDS]",
+     "opens a place for a resource's C packets: a slot of S bytes for each, settings as in pack"},
+    {"offer", "json each strict wait", offer, "offer ARCHIVE RECORDING.. [--each] [--json] [--strict] [--wait SECONDS]",
+     "offers every packet found in the recordings (- for standard input), past noise, as they come, and\n"
+     "      tells the tally; with --each also a line for every packet: resource, number, answer. Exit status 1\n"
+     "      where a sound packet of an open resource was refused, or none was found; with --strict for any refusal"},
+    {"status", "resource json wait", status, "status ARCHIVE [--resource N] [--json] [--wait SECONDS]",
+     "how far each open resource has come, what was refused of it, and the room in the store"},
+    {"verify", "resource json mend wait", verify, "verify ARCHIVE [--resource N] [--mend] [--json] [--wait SECONDS]",
+     "looks whether every packet is as it was stored, and names those that are not; with --mend puts\n"
+     "      right what can be: rows with at most eight wrong bytes"},
+    {"hand-out", "resource length output force despite-conflicts wait", hand_out,
+     "hand-out ARCHIVE --resource N --length L -o FILE [--force]\n"
+     "                 [--despite-conflicts] [--wait SECONDS]",
+     "writes the file of a resource, L bytes, once every packet is there and as it was stored"},
+    {"close", "resource force wait", close_place, "close ARCHIVE --resource N [--force] [--wait SECONDS]",
+     "gives a resource's place up; one that is complete and was never handed out only with --force"},
+    {"describe", "json", describe, "describe TEXT [--json]",
+     "what a description file (- for standard input) says: name, title, dates, kind, length and the rest"},
+    {"description", "service mode resource update name kind title summary keywords charset path length file from until delete output force", description,
+     "description -o TEXT --service N --mode stream|file --resource N --update U --name S --kind N\n"
+     "                 [--length L | --file FILE] [--title S] [--summary S] [--keywords S] [--charset N]\n"
+     "                 [--path S] [--from TIME] [--until TIME] [--delete] [--force]",
+     "writes a description file; a TIME is yyyy.mm.dd/hh:mm:ss, --file takes the length of FILE"},
 };
+enum { HOW_MANY = sizeof commands / sizeof *commands };
 
-static struct settings settings_of(const struct arguments *a)
+static void help_of(const struct command *c)
 {
-    struct settings s = {
-        .house = a->protection < 0 && a->rows < 0 && a->size < 0,
-        .type = a->type < 0 ? 1 : (uint8_t)a->type,
-        .update = a->update < 0 ? 0 : (uint8_t)a->update,
-        .protection = a->protection < 0 ? 1 : (uint8_t)a->protection,
-    };
-    s.rows = a->rows >= 0 ? (uint8_t)a->rows : s.protection == 0 ? 0 : 32;
-    if (a->size > UINT16_MAX)
-        usage("--size takes at most 4077, and 3825 with protection");
-    s.size = a->size < 0 ? 255 : (uint16_t)a->size;
-    return s;
+    printf("  brithelva %s\n      %s\n", c->form, c->what);
 }
 
-/* ---- pack */
-
-static int pack(const struct arguments *a)
+static void help_all(void)
 {
-    want(a->count == 1, "pack", "one file");
-    want(a->output != NULL, "pack", "-o PACKETS");
-    want(a->resource >= 0, "pack", "--resource");
-    struct settings s = settings_of(a);
-    struct bytes file = read_file(a->names[0]);
-    struct output out = {0};
-    uint8_t packet[BH_LARGEST_PACKET];
-    for (uint32_t n = 0;; n++) {
-        uint64_t answer = s.house ? bh_pack_house(file.at, file.n, (uint16_t)a->resource, s.type, s.update, n, packet, sizeof packet)
-                                  : bh_pack(file.at, file.n, (uint16_t)a->resource, s.type, s.update, s.protection, s.rows, s.size, n,
-                                            packet, sizeof packet);
-        if (n > 0 && bh_number(answer) == BH_NUMBER) {
-            finish_output(&out);
-            fprintf(stderr, "brithelva: %" PRIu32 " packets\n", n);
-            break;
-        }
-        if (bh_number(answer) != BH_ACCEPTED)
-            return refused(answer, "packing");
-        if (n == 0)
-            out = begin_output(a->output);
-        write_output(&out, packet, (size_t)bh_value(answer));
-    }
-    release(file);
-    return EXIT_ACCEPTED;
+    puts("brithelva: files from the data service of FM digital radio\n");
+    for (size_t k = 0; k < HOW_MANY; k++)
+        help_of(commands + k);
+    fputs("  brithelva COMMAND --help | --help | --version\n"
+          "\n"
+          "Every command takes -q, --quiet (errors and refusals only) and -v, --verbose. -o is --output, - standard output; what is\n"
+          "there is replaced only with -f, --force. --wait is for how long another command may be at work, 5 seconds where it is not\n"
+          "named.\n"
+          "\n"
+          "Exit status: 0 accepted, 1 refused, 2 usage or file trouble. A refusal is told by its number, as the library's\n"
+          "documents list them. 'man brithelva' says more.\n",
+          stdout);
 }
 
-/* ---- new, open, close */
-
-static int make(const struct arguments *a)
+static const struct command *command_named(const char *name)
 {
-    want(a->count == 1, "new", "one archive");
-    want(a->size >= 0, "new", "--size BYTES");
-    new_archive(a->names[0], (uint64_t)a->size);
-    return EXIT_ACCEPTED;
+    for (size_t k = 0; k < HOW_MANY; k++)
+        if (strcmp(name, commands[k].name) == 0)
+            return commands + k;
+    usage("no command '%s'", name);
 }
 
-static int open_place(const struct arguments *a)
+/* A descriptor that is closed would be given to the archive, and messages would be written into it. What takes its place can be neither read (0) nor written
+ * (1, 2), so that a command that needs it says so. */
+static void fill_descriptors(void)
 {
-    want(a->count == 1, "open", "one archive");
-    want(a->resource >= 0, "open", "--resource");
-    want(a->packets >= 0, "open", "--count");
-    struct settings s = settings_of(a);
-    struct archive archive = open_archive(a->names[0], 1);
-    uint8_t record[BH_RECORD];
-    memcpy(record, archive.record, sizeof record);
-    uint64_t answer = s.house ? bh_open_house(record, sizeof record, archive.store, archive.store_size, (uint16_t)a->resource, s.type,
-                                              s.update, (uint32_t)a->packets)
-                              : bh_open(record, sizeof record, archive.store, archive.store_size, (uint16_t)a->resource, s.type, s.update,
-                                        (uint32_t)a->packets, s.protection, s.rows, s.size);
-    if (bh_number(answer) == BH_ACCEPTED)
-        publish_record(&archive, record);
-    close_archive(&archive);
-    return refused(answer, "open");
+    for (int fd = 0; fd <= 2; fd++)
+        if (fcntl(fd, F_GETFD) < 0 && errno == EBADF && open("/dev/null", fd == 0 ? O_WRONLY : O_RDONLY) != fd)
+            _exit(EXIT_TROUBLE);
 }
 
-static int close_place(const struct arguments *a)
+/* standard output is part of what a command does */
+static int told_all(int result)
 {
-    want(a->count == 1, "close", "one archive");
-    want(a->resource >= 0, "close", "--resource");
-    struct archive archive = open_archive(a->names[0], 1);
-    uint8_t record[BH_RECORD];
-    memcpy(record, archive.record, sizeof record);
-    uint64_t answer = bh_close(record, sizeof record, archive.store, archive.store_size, (uint16_t)a->resource);
-    if (bh_number(answer) == BH_ACCEPTED)
-        publish_record(&archive, record);
-    close_archive(&archive);
-    return refused(answer, "close");
-}
-
-/* ---- offer */
-
-struct tally {
-    uint64_t stored, repeated, refused[BH_OUTPUT + 1], skipped;
-};
-
-/* The next start mark at or after i; n where there is none. */
-static size_t next_mark(const uint8_t *p, size_t n, size_t i)
-{
-    while (i + 3 <= n) {
-        const uint8_t *at = memchr(p + i, 0x49, n - i - 2);
-        if (at == NULL)
-            return n;
-        if (at[1] == 0x59 && at[2] == 0x69)
-            return (size_t)(at - p);
-        i = (size_t)(at - p) + 1;
-    }
-    return n;
-}
-
-/* One line for one packet, written at once: what was told as stored is in the archive. */
-static void tell_packet(const uint8_t *packet, size_t n, uint64_t answer)
-{
-    uint32_t fields[9] = {0};
-    bh_read_fields(packet, n, fields, 9);
-    if (bh_number(answer) == BH_ACCEPTED)
-        printf("%" PRIu32 " %" PRIu32 " %s\n", fields[0], fields[1], bh_value(answer) == 0 ? "stored" : "repeated");
-    else
-        printf("%" PRIu32 " %" PRIu32 " refused %u %s\n", fields[0], fields[1], bh_number(answer), refusal_name(bh_number(answer)));
-    fflush(stdout);
-}
-
-/* Offers what stands at each start mark, as long as its length field says. Behind a packet that agreed with its CRC the search goes on
- * at its end, and otherwise at the next mark, since a mark in noise may hide a packet. */
-static void offer_all(struct archive *a, const char *name, struct bytes b, int each, struct tally *t)
-{
-    int terminal = isatty(STDERR_FILENO), percent = -1;
-    size_t i = 0, covered = 0;
-    while ((i = next_mark(b.at, b.n, i)) < b.n) {
-        size_t length = i + 10 <= b.n ? (size_t)b.at[i + 8] << 4 | b.at[i + 9] >> 4 : 0;
-        if (i > covered)
-            t->skipped += i - covered;
-        if (i > covered)
-            covered = i;
-        if (length < BH_SMALLEST_PACKET || length > b.n - i) {
-            i++;
-            continue;
-        }
-        uint64_t answer = bh_offer(a->record, BH_RECORD, a->store, a->store_size, b.at + i, length);
-        unsigned number = bh_number(answer);
-        if (number != BH_ACCEPTED)
-            t->refused[number]++;
-        else if (bh_value(answer) == 0)
-            t->stored++;
-        else
-            t->repeated++;
-        if (each)
-            tell_packet(b.at + i, length, answer);
-        if (i + length > covered)
-            covered = i + length;
-        i += number == BH_ACCEPTED || number == BH_CONFLICT || number == BH_SLOT ? length : 1;
-        int now = (int)(100.0 * (double)i / (double)b.n);
-        if (terminal && now > percent)
-            fprintf(stderr, "\r%s: %3d %%", name, percent = now);
-    }
-    t->skipped += b.n - covered;
-    if (terminal)
-        fputs("\r\033[K", stderr);
-}
-
-static uint64_t all_refused(const struct tally *t)
-{
-    uint64_t sum = 0;
-    for (unsigned k = 1; k <= BH_OUTPUT; k++)
-        sum += t->refused[k];
-    return sum;
-}
-
-static void tell_tally(const struct tally *t, int json)
-{
-    const char *between = "";
-    if (json)
-        printf("{\"stored\": %" PRIu64 ", \"repeated\": %" PRIu64 ", \"refused\": {", t->stored, t->repeated);
-    else
-        printf("stored    %" PRIu64 "\nrepeated  %" PRIu64 "\nrefused   %" PRIu64 "\n", t->stored, t->repeated, all_refused(t));
-    for (unsigned k = 1; k <= BH_OUTPUT; k++) {
-        if (t->refused[k] == 0)
-            continue;
-        if (json)
-            printf("%s\"%u %s\": %" PRIu64, between, k, refusal_name(k), t->refused[k]);
-        else
-            printf("  %2u %-11s %" PRIu64 "\n", k, refusal_name(k), t->refused[k]);
-        between = ", ";
-    }
-    printf(json ? "}, \"skipped_bytes\": %" PRIu64 "}\n" : "skipped   %" PRIu64 " bytes\n", t->skipped);
-}
-
-static int offer(const struct arguments *a)
-{
-    want(a->count >= 2, "offer", "an archive and at least one file of packets");
-    struct archive archive = open_archive(a->names[0], 1);
-    struct tally t = {0};
-    for (int i = 1; i < a->count; i++) {
-        struct bytes b = read_file(a->names[i]);
-        offer_all(&archive, a->names[i], b, a->each, &t);
-        release(b);
-    }
-    close_archive(&archive);
-    tell_tally(&t, a->json);
-    return all_refused(&t) == 0 ? EXIT_ACCEPTED : EXIT_REFUSED;
-}
-
-/* ---- status */
-
-static struct bh_place place_of(const uint8_t *record, int i)
-{
-    const uint8_t *p = record + 16 * i;
-    struct bh_place place = {
-        .resource = (uint16_t)(p[0] | p[1] << 8),
-        .type = p[2],
-        .update = p[3],
-        .count = p[4] | (uint32_t)p[5] << 8 | (uint32_t)p[6] << 16 | (uint32_t)p[7] << 24,
-        .protection = p[8],
-        .rows = p[9],
-        .slot = (uint16_t)(p[10] | p[11] << 8),
-        .start = p[12] | (uint32_t)p[13] << 8 | (uint32_t)p[14] << 16 | (uint32_t)p[15] << 24,
-    };
-    return place;
-}
-
-static void tell_place(struct bh_place p, uint64_t answer, int json, const char *between)
-{
-    unsigned number = bh_number(answer);
-    uint32_t filled = number == BH_ACCEPTED ? bh_filled(answer) : 0;
-    int32_t lowest = number == BH_ACCEPTED ? bh_lowest_empty(answer) : -1;
-    if (json) {
-        printf("%s\n  {\"resource\": %u, \"type\": %u, \"update\": %u, \"count\": %" PRIu32 ", \"protection\": %u, \"rows\": %u, \"slot\": %u, "
-               "\"refused\": %u, \"filled\": %" PRIu32 ", \"lowest_empty\": ",
-               between, p.resource, p.type, p.update, p.count, p.protection, p.rows, p.slot, number, filled);
-        if (lowest < 0)
-            printf("null}");
-        else
-            printf("%" PRId32 "}", lowest);
-        return;
-    }
-    printf("resource %-5u  type %u  update %-2u  ", p.resource, p.type, p.update);
-    if (p.protection)
-        printf("%3u rows  ", p.rows);
-    else
-        printf("no rows   ");
-    if (number != BH_ACCEPTED) {
-        printf("refused: %u %s\n", number, refusal_name(number));
-        return;
-    }
-    char bar[33] = "................................";
-    for (uint64_t k = 0; k < 32 && k < (uint64_t)filled * 32 / p.count; k++)
-        bar[k] = '#';
-    printf("[%s] %" PRIu32 "/%" PRIu32, bar, filled, p.count);
-    if (lowest >= 0)
-        printf("  lowest empty %" PRId32, lowest);
-    putchar('\n');
-}
-
-static int status(const struct arguments *a)
-{
-    want(a->count == 1, "status", "one archive");
-    struct archive archive = open_archive(a->names[0], 0);
-    int told = 0, result = EXIT_ACCEPTED;
-    if (a->json)
-        printf("[");
-    for (int i = 0; i < BH_PLACES; i++) {
-        struct bh_place p = place_of(archive.record, i);
-        if (p.resource == 0 || (a->resource >= 0 && p.resource != a->resource))
-            continue;
-        uint64_t answer = bh_status(archive.record, BH_RECORD, archive.store, archive.store_size, p.resource);
-        if (bh_number(answer) != BH_ACCEPTED)
-            result = EXIT_REFUSED;
-        tell_place(p, answer, a->json, told++ ? "," : "");
-    }
-    if (a->json)
-        printf(told ? "\n]\n" : "]\n");
-    else if (told == 0 && a->resource < 0)
-        puts("nothing is open");
-    if (told == 0 && a->resource >= 0)
-        result = refused(bh_status(archive.record, BH_RECORD, archive.store, archive.store_size, (uint16_t)a->resource), "status");
-    close_archive(&archive);
+    errno = 0;
+    if (fflush(stdout) != 0 || ferror(stdout))
+        trouble("standard output: %s", errno != 0 ? strerror(errno) : "not all of it was written");
     return result;
-}
-
-/* ---- hand-out */
-
-static int hand_out(const struct arguments *a)
-{
-    want(a->count == 1, "hand-out", "one archive");
-    want(a->resource >= 0, "hand-out", "--resource");
-    want(a->length >= 0, "hand-out", "--length");
-    want(a->output != NULL, "hand-out", "-o FILE");
-    struct archive archive = open_archive(a->names[0], 0);
-    /* no file is longer than the limit, so no more room is ever written to */
-    size_t room = a->length < BH_LARGEST_FILE ? (size_t)a->length : BH_LARGEST_FILE;
-    uint8_t *file = malloc(room + 1);
-    if (file == NULL)
-        trouble("no memory for a file of %zu bytes", room);
-    uint64_t answer = bh_hand_out(archive.record, BH_RECORD, archive.store, archive.store_size, (uint16_t)a->resource,
-                                  (uint64_t)a->length, file, room);
-    close_archive(&archive);
-    if (bh_number(answer) == BH_ACCEPTED) {
-        struct output out = begin_output(a->output);
-        write_output(&out, file, (size_t)a->length);
-        finish_output(&out);
-    }
-    free(file);
-    return refused(answer, "hand-out");
 }
 
 int main(int argc, char **argv)
 {
-    static const struct {
-        const char *name, *allowed;
-        int (*run)(const struct arguments *);
-    } commands[] = {
-        {"pack", "--resource --type --update --protection --rows --size -o", pack},
-        {"new", "--size", make},
-        {"open", "--resource --type --update --protection --rows --size --count", open_place},
-        {"offer", "--json --each", offer},
-        {"status", "--resource --json", status},
-        {"hand-out", "--resource --length -o", hand_out},
-        {"close", "--resource", close_place},
-        {"describe", "--json", describe},
-        {"description",
-         "--service --mode --resource --update --name --kind --title --summary --keywords --charset --path --length --file --from --until --delete -o",
-         description},
-    };
+    fill_descriptors();
+    watch_signals();
     if (argc < 2)
         usage("no command");
-    if (strcmp(argv[1], "--help") == 0 || strcmp(argv[1], "help") == 0) {
-        fputs(help, stdout);
-        return EXIT_ACCEPTED;
-    }
-    if (strcmp(argv[1], "--version") == 0) {
+    int asked = strcmp(argv[1], "--help") == 0 || strcmp(argv[1], "-h") == 0 || strcmp(argv[1], "help") == 0;
+    if (asked && argc > 2)
+        help_of(command_named(argv[2]));
+    else if (asked)
+        help_all();
+    else if (strcmp(argv[1], "--version") == 0)
         puts("brithelva " BRITHELVA_VERSION);
-        return EXIT_ACCEPTED;
+    else {
+        const struct command *c = command_named(argv[1]);
+        struct arguments a = parse(argc, argv, c->options);
+        talk = a.quiet ? QUIET : a.verbose ? VERBOSE : PLAIN;
+        if (!a.help)
+            return told_all(c->run(&a));
+        help_of(c);
     }
-    for (size_t k = 0; k < sizeof commands / sizeof *commands; k++)
-        if (strcmp(argv[1], commands[k].name) == 0) {
-            struct arguments a = parse(argc, argv, commands[k].allowed);
-            int result = commands[k].run(&a);
-            errno = 0;
-            if (fflush(stdout) != 0 || ferror(stdout))
-                trouble("standard output: %s", errno != 0 ? strerror(errno) : "not all of it was written");
-            return result;
-        }
-    usage("no command '%s'", argv[1]);
+    return told_all(EXIT_ACCEPTED);
 }

@@ -1,11 +1,11 @@
-/* Messages. A refusal is told by its number, its name and one plain sentence. */
+/* Messages. A refusal is told by its number, its name and one plain sentence, with its cause where more can be said. */
 #include "command.h"
-#include "brithelva.h"
 
 #include <inttypes.h>
 #include <stdarg.h>
-#include <stdio.h>
 #include <stdlib.h>
+#include <string.h>
+#include <unistd.h>
 
 static const struct {
     const char *name, *sentence;
@@ -41,55 +41,92 @@ static const struct {
     [BH_EXTRA] = {"Extra", "bytes stand behind line 15 of the description"},
 };
 
-const char *refusal_name(unsigned number)
+enum talk talk = PLAIN;
+
+const char *colour(FILE *to, enum colour which)
 {
-    return number < sizeof refusals / sizeof *refusals && refusals[number].name != NULL ? refusals[number].name : "?";
+    static const char *const codes[] = {"\033[0m", "\033[31m", "\033[32m", "\033[33m"};
+    const char *no = getenv("NO_COLOR"), *terminal = getenv("TERM");
+    if ((no != NULL && *no != '\0') || terminal == NULL || strcmp(terminal, "dumb") == 0 || !isatty(fileno(to)))
+        return "";
+    return codes[which];
 }
 
-static void say(const char *lead, const char *format, va_list words)
+static void say(enum colour lead, const char *format, va_list words)
 {
-    fprintf(stderr, "brithelva: %s", lead);
+    fprintf(stderr, "%sbrithelva:%s ", lead == NO_COLOUR ? "" : colour(stderr, lead), lead == NO_COLOUR ? "" : colour(stderr, NO_COLOUR));
     vfprintf(stderr, format, words);
     fputc('\n', stderr);
 }
 
+#define SAY(lead)                                                                                                                                  \
+    do {                                                                                                                                           \
+        va_list words;                                                                                                                             \
+        va_start(words, format);                                                                                                                   \
+        say(lead, format, words);                                                                                                                  \
+        va_end(words);                                                                                                                             \
+    } while (0)
+
 void trouble(const char *format, ...)
 {
-    va_list words;
-    va_start(words, format);
-    say("", format, words);
-    va_end(words);
+    SAY(RED);
     exit(EXIT_TROUBLE);
 }
 
 void usage(const char *format, ...)
 {
-    va_list words;
-    va_start(words, format);
-    say("", format, words);
-    va_end(words);
+    SAY(RED);
     fputs("brithelva: 'brithelva --help' lists the commands\n", stderr);
     exit(EXIT_TROUBLE);
 }
 
+void complain(const char *format, ...)
+{
+    SAY(YELLOW);
+}
+
+void remark(const char *format, ...)
+{
+    if (talk > QUIET)
+        SAY(NO_COLOUR);
+}
+
+void detail(const char *format, ...)
+{
+    if (talk == VERBOSE)
+        SAY(NO_COLOUR);
+}
+
+/* ---- refusals */
+
+const char *refusal_name(unsigned number)
+{
+    return number < sizeof refusals / sizeof *refusals && refusals[number].name != NULL ? refusals[number].name : "?";
+}
+
+int refused_since(uint64_t answer, const char *what, const char *format, ...)
+{
+    unsigned number = bh_number(answer);
+    char cause[256];
+    va_list words;
+    va_start(words, format);
+    vsnprintf(cause, sizeof cause, format, words);
+    va_end(words);
+    complain("%s refused: %u %s: %s%s%s", what, number, refusal_name(number), refusals[number].sentence, *cause ? ": " : "", cause);
+    return EXIT_REFUSED;
+}
+
 int refused_line(uint64_t answer, const char *what, const char *sentence)
 {
-    fprintf(stderr, "brithelva: %s refused: %u %s: line %02" PRIu64 ": %s\n", what, bh_number(answer), refusal_name(bh_number(answer)), bh_value(answer), sentence);
+    complain("%s refused: %u %s: line %02" PRIu64 ": %s", what, bh_number(answer), refusal_name(bh_number(answer)), bh_value(answer), sentence);
     return EXIT_REFUSED;
 }
 
 int refused(uint64_t answer, const char *what)
 {
-    unsigned number = bh_number(answer);
-    if (number == BH_ACCEPTED)
+    if (bh_number(answer) == BH_ACCEPTED)
         return EXIT_ACCEPTED;
-    if (number == BH_LINE)
+    if (bh_number(answer) == BH_LINE)
         return refused_line(answer, what, line_words(bh_value(answer)));
-    fprintf(stderr, "brithelva: %s refused: %u %s: %s", what, number, refusal_name(number), refusals[number].sentence);
-    if (number == BH_MISSING)
-        fprintf(stderr, " (the lowest is number %" PRIu64 ")", bh_value(answer));
-    if (number == BH_REPAIR)
-        fprintf(stderr, " (row %" PRIu64 ")", bh_value(answer));
-    fputc('\n', stderr);
-    return EXIT_REFUSED;
+    return refused_since(answer, what, "%s", "");
 }

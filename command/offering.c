@@ -1,0 +1,302 @@
+/* offer: every packet of the recordings, a batch at a time, with the archive locked for one batch and free between two. */
+#define _GNU_SOURCE
+#include "command.h"
+
+#include <errno.h>
+#include <inttypes.h>
+#include <stdlib.h>
+#include <string.h>
+#include <time.h>
+#include <unistd.h>
+
+struct tally {
+    uint64_t stored, repeated, refused[BH_CONFLICT + 1], skipped;
+    uint64_t lost; /* packets of open resources that were sound and were refused */
+    char cause[BH_CONFLICT + 1][96]; /* of the first refusal with this number */
+};
+
+struct offering {
+    struct archive archive;
+    struct tally tally;
+    int each, json, changed;
+    uint64_t found; /* packets in this recording */
+    FILE *lines;    /* what is told of each packet once its batch is in the archive */
+    double synced, rested;
+};
+
+/* ---- one packet */
+
+/* Whether its CRC agrees, after repair of its rows where it is protected: what is refused for its header before that is looked at may be noise. */
+static int is_sound(const uint8_t *packet, size_t n)
+{
+    uint8_t copy[BH_LARGEST_PACKET];
+    memcpy(copy, packet, n);
+    if ((packet[12] >> 4 & 3) == 1 && mend_rows(copy + BH_HEADER, n - BH_HEADER - BH_CRC) < 0)
+        return 0;
+    const uint8_t *crc = packet + n - BH_CRC;
+    return bh_crc32(copy, n - BH_CRC) == ((uint32_t)crc[0] << 24 | (uint32_t)crc[1] << 16 | (uint32_t)crc[2] << 8 | crc[3]);
+}
+
+/* Why a packet does not fit the place that its resource names: the first field that differs, as it is and as it is held. */
+static void tell_cause(char *to, size_t room, unsigned number, struct bh_place p, const uint32_t *fields, size_t n)
+{
+    const struct {
+        const char *name;
+        uint32_t seen, held;
+    } pairs[] = {{"type", fields[5], p.type}, {"update", fields[2], p.update}, {"count", fields[4], p.count}, {"protection", fields[6], p.protection}, {"rows", fields[7], p.rows}};
+    *to = '\0';
+    if (number == BH_WIDE)
+        snprintf(to, room, "resource %u: %zu bytes of payload, held in slots of %u", p.resource, n - BH_HEADER - BH_CRC, p.slot);
+    for (size_t k = 0; number == BH_OTHER && k < sizeof pairs / sizeof *pairs; k++)
+        if (pairs[k].seen != pairs[k].held) {
+            snprintf(to, room, "resource %u: %s %" PRIu32 ", held %" PRIu32, p.resource, pairs[k].name, pairs[k].seen, pairs[k].held);
+            return;
+        }
+}
+
+static void tell_packet(struct offering *o, const uint32_t *fields, uint64_t answer, const char *cause)
+{
+    unsigned number = bh_number(answer);
+    const char *words = number != BH_ACCEPTED ? "refused" : bh_value(answer) == 0 ? "stored" : "repeated";
+    int unread = number >= BH_SHORT && number <= BH_RESOURCE;
+    if (o->json && unread)
+        fputs("{\"resource\": null, \"number\": null", o->lines);
+    else if (o->json)
+        fprintf(o->lines, "{\"resource\": %" PRIu32 ", \"number\": %" PRIu32, fields[0], fields[1]);
+    else if (unread)
+        fputs("- -", o->lines);
+    else
+        fprintf(o->lines, "%" PRIu32 " %" PRIu32, fields[0], fields[1]);
+    fprintf(o->lines, o->json ? ", \"answer\": \"%s\"" : " %s", words);
+    if (number != BH_ACCEPTED)
+        fprintf(o->lines, o->json ? ", \"refusal\": %u, \"name\": \"%s\"" : " %u %s", number, refusal_name(number));
+    if (*cause)
+        fprintf(o->lines, o->json ? ", \"cause\": \"%s\"" : ": %s", cause);
+    fputs(o->json ? "}\n" : "\n", o->lines);
+}
+
+/* what was stored goes into the change that is being put together */
+static void keep_slot(struct archive *a, int place, uint32_t number)
+{
+    uint8_t *slot = slot_of(a->store, place_of(a->record, place), number);
+    renew_for(a, slot);
+    change(a, slot, 2u + length_of(slot));
+    change(a, check_at(a, unit_of(a, slot)), 4);
+}
+
+/* A slot that is not as it was stored differs from what was sent: that is damage, and no second file. */
+static int tell_damage(struct archive *a, struct bh_place p, uint32_t number, char *to, size_t room)
+{
+    int damaged = judge_slot(a, p, number, 0).what != SOUND;
+    snprintf(to, room, "resource %u: packet %" PRIu32 "%s", p.resource, number, damaged ? " is damaged in the archive, see verify" : "");
+    return damaged;
+}
+
+/* counts for the command, and for the place if the packet names one; damaged: what stands in its slot is not what was stored */
+static void count_packet(struct offering *o, int place, unsigned number, int repeat, int sound, int damaged)
+{
+    struct tally *t = &o->tally;
+    enum counter which = COUNTERS;
+    o->found += number == BH_ACCEPTED || number > BH_RESOURCE;
+    if (number != BH_ACCEPTED)
+        t->refused[number]++;
+    else if (repeat)
+        t->repeated++, which = REPEATED;
+    else
+        t->stored++, which = STORED;
+    if (number == BH_CONFLICT && !damaged)
+        which = CONFLICTS;
+    if (number == BH_OTHER && sound)
+        which = OTHERS;
+    t->lost += sound && (number == BH_CONFLICT || number == BH_SLOT || number == BH_OTHER || number == BH_WIDE);
+    if (which == COUNTERS)
+        return;
+    count_more(&o->archive, place, which, 1);
+    o->changed = 1;
+}
+
+/* Answers whether the search may go on behind the packet: whether it is one, by its CRC. */
+static int take_packet(struct offering *o, const uint8_t *packet, size_t n)
+{
+    struct archive *a = &o->archive;
+    uint32_t fields[9] = {0};
+    uint64_t answer = bh_offer(a->record, BH_RECORD, a->store, a->store_size, packet, n);
+    unsigned number = bh_number(answer);
+    int place = find_place(a->record, (uint16_t)(packet[3] << 8 | packet[4])), damaged = 0;
+    int judged = number == BH_ACCEPTED || number == BH_CONFLICT || number == BH_SLOT;
+    char cause[sizeof o->tally.cause[0]] = "";
+    bh_read_fields(packet, n, fields, 9);
+    if (number == BH_OTHER || number == BH_WIDE)
+        tell_cause(cause, sizeof cause, number, place_of(a->record, place), fields, n);
+    if (number == BH_CONFLICT || number == BH_SLOT)
+        damaged = tell_damage(a, place_of(a->record, place), fields[1], cause, sizeof cause);
+    if (number == BH_ACCEPTED && bh_value(answer) == 0)
+        keep_slot(a, place, fields[1]);
+    count_packet(o, place, number, bh_value(answer) != 0, judged || (*cause && is_sound(packet, n)), damaged);
+    if (*cause && o->tally.cause[number][0] == '\0')
+        memcpy(o->tally.cause[number], cause, sizeof cause);
+    if (o->each)
+        tell_packet(o, fields, answer, cause);
+    return judged;
+}
+
+/* ---- a batch */
+
+static void keep_changes(struct offering *o)
+{
+    if (o->changed)
+        commit(&o->archive);
+    o->changed = 0;
+}
+
+/* What was stored reaches the disk at least once a second, and at the end of each batch of a stream, which may be silent for long. */
+static void sync_now_and_then(struct offering *o, const struct recording *r)
+{
+    double now = seconds_now();
+    if (r->size > 0 && now < o->synced + 1)
+        return;
+    sync_archive(&o->archive);
+    o->synced = now;
+}
+
+/* Another command that waits for the archive looks every few milliseconds whether it is free. */
+static void rest_now_and_then(struct offering *o)
+{
+    if (seconds_now() < o->rested + 0.1)
+        return;
+    nanosleep(&(struct timespec){0, 4000000}, NULL);
+    o->rested = seconds_now();
+}
+
+/* Behind a packet that agreed with its CRC the search goes on at its end, and otherwise at the next mark, since a mark in noise may hide a packet. */
+static void search_batch(struct offering *o, struct recording *r)
+{
+    size_t at = 0, length;
+    const uint8_t *packet;
+    while ((packet = next_packet(r, &at, &length)) != NULL) {
+        at += take_packet(o, packet, length) ? length : 1;
+        if (!has_room(&o->archive)) {
+            keep_changes(o);
+            settle(&o->archive);
+        }
+    }
+    drop_batch(r, at);
+}
+
+/* What is told of each packet is told once the batch is in the archive, and not before: what was told as stored is there after a kill. */
+static void offer_batch(struct offering *o, struct recording *r)
+{
+    char *text = NULL;
+    size_t n = 0;
+    o->lines = o->each ? open_memstream(&text, &n) : NULL;
+    if (o->each && o->lines == NULL)
+        trouble("no memory for what is told of each packet");
+    retake_archive(&o->archive);
+    search_batch(o, r);
+    int changed = o->changed;
+    keep_changes(o);
+    release_archive(&o->archive);
+    if (changed)
+        sync_now_and_then(o, r);
+    if (o->each) {
+        fclose(o->lines);
+        fwrite(text, 1, n, stdout);
+        fflush(stdout);
+        free(text);
+    }
+    rest_now_and_then(o);
+}
+
+static void tell_progress(const struct recording *r)
+{
+    if (talk == QUIET || !isatty(STDERR_FILENO))
+        return;
+    if (r->size > 0)
+        fprintf(stderr, "\r%s: %3d %%", r->name, (int)(100.0 * (double)r->passed / (double)r->size));
+    else
+        fprintf(stderr, "\r%s: %" PRIu64 " bytes", r->name, r->passed);
+    if (r->ended)
+        fputs("\r\033[K", stderr);
+}
+
+/* Answers the exit status of one recording by itself. */
+static int offer_recording(struct offering *o, const char *archive, const char *name)
+{
+    struct recording r;
+    int result = EXIT_ACCEPTED, itself = strcmp(name, "-") != 0 && same_file(archive, name);
+    if (itself || open_recording(&r, name) != 0) {
+        complain("%s: %s", name, itself ? "this is the archive, and no recording" : strerror(errno));
+        return EXIT_TROUBLE;
+    }
+    for (o->found = 0; !r.ended && result == EXIT_ACCEPTED;) {
+        if (read_batch(&r) != 0) {
+            complain("%s: %s", name, strerror(errno));
+            result = EXIT_TROUBLE;
+            r.ended = 1;
+        }
+        offer_batch(o, &r);
+        tell_progress(&r);
+    }
+    o->tally.skipped += r.skipped;
+    detail("%s: %" PRIu64 " packets in %" PRIu64 " bytes", name, o->found, r.passed);
+    if (o->found == 0 && result == EXIT_ACCEPTED && !stop_asked()) {
+        complain("%s: no packet found", name);
+        result = EXIT_REFUSED;
+    }
+    close_recording(&r);
+    return result;
+}
+
+/* ---- the tally */
+
+static uint64_t all_refused(const struct tally *t)
+{
+    uint64_t sum = 0;
+    for (unsigned k = 1; k <= BH_CONFLICT; k++)
+        sum += t->refused[k];
+    return sum;
+}
+
+static void tell_tally(const struct tally *t, int json)
+{
+    const char *between = "";
+    if (json)
+        printf("{\"stored\": %" PRIu64 ", \"repeated\": %" PRIu64 ", \"refused\": {", t->stored, t->repeated);
+    else
+        printf("stored    %" PRIu64 "\nrepeated  %" PRIu64 "\nrefused   %" PRIu64 "\n", t->stored, t->repeated, all_refused(t));
+    for (unsigned k = 1; k <= BH_CONFLICT; k++) {
+        if (t->refused[k] == 0)
+            continue;
+        if (json)
+            printf("%s\"%u %s\": %" PRIu64, between, k, refusal_name(k), t->refused[k]);
+        else
+            printf("  %2u %-11s %" PRIu64 "%s%s%s\n", k, refusal_name(k), t->refused[k], t->cause[k][0] ? "  (" : "", t->cause[k], t->cause[k][0] ? ")" : "");
+        between = ", ";
+    }
+    printf(json ? "}, \"lost\": %" PRIu64 ", \"skipped_bytes\": %" PRIu64 "}\n" : "lost      %" PRIu64 "\nskipped   %" PRIu64 " bytes\n", t->lost, t->skipped);
+}
+
+int offer(const struct arguments *a)
+{
+    want(a->count >= 2, "offer", "an archive and at least one file of packets");
+    struct offering o = {.archive = open_archive(a->names[0], 1, a->wait), .each = a->each, .json = a->json, .synced = seconds_now(), .rested = seconds_now()};
+    int result = EXIT_ACCEPTED;
+    release_archive(&o.archive);
+    end_gently();
+    for (int i = 1; i < a->count && !stop_asked(); i++) {
+        int one = offer_recording(&o, a->names[0], a->names[i]);
+        result = one > result ? one : result;
+    }
+    retake_archive(&o.archive);
+    settle(&o.archive);
+    close_archive(&o.archive);
+    if (a->json || talk != QUIET)
+        tell_tally(&o.tally, a->json);
+    if (o.tally.lost > 0)
+        complain("%" PRIu64 " packets that name an open resource were sound and were refused: something of what was sent may be missing", o.tally.lost);
+    if (result == EXIT_ACCEPTED && (o.tally.lost > 0 || (a->strict && all_refused(&o.tally) > 0)))
+        result = EXIT_REFUSED;
+    fflush(stdout);
+    stop_now();
+    return result;
+}

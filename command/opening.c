@@ -1,0 +1,122 @@
+/* new, open and close: archives and the places in them. */
+#include "command.h"
+
+#include <inttypes.h>
+#include <string.h>
+
+int make_archive(const struct arguments *a)
+{
+    want(a->count == 1, "new", "one archive");
+    want(a->size >= 0, "new", "--size BYTES");
+    new_archive(a->names[0], (uint64_t)a->size);
+    detail("%s: a store of %lld bytes, in a file of %zu", a->names[0], a->size, image_size((uint64_t)a->size));
+    return EXIT_ACCEPTED;
+}
+
+/* ---- open */
+
+static uint64_t open_one(struct archive *archive, uint8_t *record, const struct settings *s, uint32_t count)
+{
+    if (s->house)
+        return bh_open_house(record, BH_RECORD, archive->store, archive->store_size, s->resource, s->type, s->update, count);
+    return bh_open(record, BH_RECORD, archive->store, archive->store_size, s->resource, s->type, s->update, count, s->protection, s->rows, s->size);
+}
+
+static int not_opened(uint64_t answer, const struct archive *archive, const struct settings *s, uint32_t count)
+{
+    unsigned number = bh_number(answer);
+    struct bh_place p = place_of(archive->record, number == BH_HELD ? find_place(archive->record, s->resource) : 0);
+    if (number == BH_FIELD)
+        return refused_since(answer, "open", "%s", field_cause(s, count));
+    if (number == BH_HELD)
+        return refused_since(answer, "open", "type %u, update %u, %" PRIu32 " packets", p.type, p.update, p.count);
+    if (number == BH_ROOM)
+        return refused_since(answer, "open", "%" PRIu64 " bytes are needed, the largest gap has %" PRIu64 " of the store's %zu", (uint64_t)count * (s->size + 2u),
+                             largest_gap(archive->record, archive->store_size), archive->store_size);
+    return refused(answer, "open");
+}
+
+/* The checks at the two ends of a place may speak of neighbours' slots too: they change with the record, and what they owe stays. */
+static void publish_record(struct archive *a, struct bh_place p, int place, const uint8_t *record)
+{
+    size_t ends[2] = {p.start / UNIT, (size_t)(p.start + cover_of(p) - 1) / UNIT};
+    uint32_t debts[2] = {check_debt(a, ends[0], 0), check_debt(a, ends[1], 0)};
+    memcpy(a->record, record, BH_RECORD);
+    for (int k = 0; k < 2; k++) {
+        renew_check(a, ends[k], debts[k]);
+        change(a, check_at(a, ends[k]), 4);
+    }
+    clear_counters(a, place);
+    commit(a);
+    settle(a);
+}
+
+/* The slots, cleared, and their checks reach the disk before the record that names them, and behind whatever the journal still has of an earlier place there. */
+static void publish_opened(struct archive *a, int place, const uint8_t *record)
+{
+    uint8_t before[BH_RECORD];
+    struct bh_place p = place_of(record, place);
+    size_t first = p.start / UNIT + 1, last = (size_t)(p.start + cover_of(p) - 1) / UNIT;
+    settle(a);
+    memcpy(before, a->record, BH_RECORD);
+    memcpy(a->record, record, BH_RECORD);
+    for (size_t unit = first; unit < last; unit++)
+        renew_check(a, unit, 0);
+    memcpy(a->record, before, BH_RECORD);
+    write_ahead(a, a->store + p.start, (size_t)cover_of(p));
+    if (last > first)
+        write_ahead(a, check_at(a, first), 4 * (last - first));
+    sync_archive(a);
+    publish_record(a, p, place, record);
+}
+
+int open_place(const struct arguments *a)
+{
+    want(a->count == 1, "open", "one archive");
+    want(a->resource >= 0, "open", "--resource");
+    want(a->packets >= 0, "open", "--count");
+    struct settings s = settings_of(a);
+    struct archive archive = open_archive(a->names[0], 1, a->wait);
+    uint8_t record[BH_RECORD];
+    memcpy(record, archive.record, sizeof record);
+    uint64_t answer = open_one(&archive, record, &s, (uint32_t)a->packets);
+    int result = EXIT_ACCEPTED;
+    if (bh_number(answer) == BH_ACCEPTED) {
+        publish_opened(&archive, find_place(record, s.resource), record);
+        detail("%s: resource %u is open for %lld packets; %" PRIu64 " bytes of the store are used", a->names[0], s.resource, a->packets, bytes_used(record));
+    } else {
+        result = not_opened(answer, &archive, &s, (uint32_t)a->packets);
+    }
+    close_archive(&archive);
+    return result;
+}
+
+/* ---- close */
+
+/* complete, and nobody has it */
+static int is_unread(const struct archive *a, int place, uint16_t resource)
+{
+    uint64_t answer = bh_status(a->record, BH_RECORD, a->store, a->store_size, resource);
+    return bh_number(answer) == BH_ACCEPTED && bh_lowest_empty(answer) < 0 && count_of(a, place, HANDED_OUT) == 0;
+}
+
+int close_place(const struct arguments *a)
+{
+    want(a->count == 1, "close", "one archive");
+    want(a->resource >= 0, "close", "--resource");
+    struct archive archive = open_archive(a->names[0], 1, a->wait);
+    uint8_t record[BH_RECORD];
+    memcpy(record, archive.record, sizeof record);
+    int place = find_place(record, (uint16_t)a->resource), result = EXIT_ACCEPTED;
+    uint64_t answer = bh_close(record, sizeof record, archive.store, archive.store_size, (uint16_t)a->resource);
+    if (bh_number(answer) != BH_ACCEPTED) {
+        result = refused(answer, "close");
+    } else if (!a->force && is_unread(&archive, place, (uint16_t)a->resource)) {
+        complain("close refused: resource %lld is complete and was never handed out; --force gives it up all the same", a->resource);
+        result = EXIT_REFUSED;
+    } else {
+        publish_record(&archive, place_of(archive.record, place), place, record);
+    }
+    close_archive(&archive);
+    return result;
+}

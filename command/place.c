@@ -1,0 +1,79 @@
+/* What stands in a record: its places, their slots, and the room that they leave in the store. */
+#include "command.h"
+
+#include <string.h>
+
+struct bh_place place_of(const uint8_t *record, int i)
+{
+    const uint8_t *p = record + 16 * i;
+    struct bh_place place = {
+        .resource = (uint16_t)(p[0] | p[1] << 8),
+        .type = p[2],
+        .update = p[3],
+        .count = (uint32_t)number_at(p + 4, 4),
+        .protection = p[8],
+        .rows = p[9],
+        .slot = (uint16_t)(p[10] | p[11] << 8),
+        .start = (uint32_t)number_at(p + 12, 4),
+    };
+    return place;
+}
+
+int find_place(const uint8_t *record, uint16_t resource)
+{
+    for (int i = 0; resource != 0 && i < BH_PLACES; i++)
+        if (place_of(record, i).resource == resource)
+            return i;
+    return -1;
+}
+
+int same_place(const uint8_t *one, const uint8_t *other, int i)
+{
+    return memcmp(one + 16 * i, other + 16 * i, 16) == 0;
+}
+
+uint64_t cover_of(struct bh_place p)
+{
+    return p.resource == 0 ? 0 : (uint64_t)p.count * (p.slot + 2u);
+}
+
+uint8_t *slot_of(uint8_t *store, struct bh_place p, uint32_t number)
+{
+    return store + p.start + (size_t)number * (p.slot + 2u);
+}
+
+uint16_t length_of(const uint8_t *slot)
+{
+    return (uint16_t)(slot[0] | slot[1] << 8);
+}
+
+uint64_t bytes_used(const uint8_t *record)
+{
+    uint64_t used = 0;
+    for (int i = 0; i < BH_PLACES; i++)
+        used += cover_of(place_of(record, i));
+    return used;
+}
+
+/* the free bytes from `from` up to the next place, or to the end */
+static uint64_t gap_at(const uint8_t *record, uint64_t from, uint64_t end)
+{
+    for (int i = 0; i < BH_PLACES; i++) {
+        struct bh_place p = place_of(record, i);
+        if (p.resource != 0 && p.start >= from && p.start < end)
+            end = p.start;
+    }
+    return end > from ? end - from : 0;
+}
+
+uint64_t largest_gap(const uint8_t *record, size_t store_size)
+{
+    uint64_t end = store_size < BH_USABLE_STORE ? store_size : BH_USABLE_STORE, largest = gap_at(record, 0, end);
+    for (int i = 0; i < BH_PLACES; i++) {
+        struct bh_place p = place_of(record, i);
+        uint64_t gap = p.resource == 0 ? 0 : gap_at(record, p.start + cover_of(p), end);
+        if (gap > largest)
+            largest = gap;
+    }
+    return largest;
+}

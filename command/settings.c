@@ -1,0 +1,45 @@
+/* The settings that pack and open name, the ranges that document 01 gives them, and which of them is out of its range. */
+#include "command.h"
+
+struct settings settings_of(const struct arguments *a)
+{
+    struct settings s = {
+        .house = a->protection < 0 && a->rows < 0 && a->size < 0,
+        .resource = (uint16_t)a->resource,
+        .type = a->type < 0 ? 1 : (uint8_t)a->type,
+        .update = a->update < 0 ? 0 : (uint8_t)a->update,
+        .protection = a->protection < 0 ? 1 : (uint8_t)a->protection,
+    };
+    s.rows = a->rows >= 0 ? (uint8_t)a->rows : s.protection == 0 ? 0 : 32;
+    if (a->size > UINT16_MAX)
+        usage("--size takes at most 4077, and 3825 with protection");
+    s.size = a->size < 0 ? 255 : (uint16_t)a->size;
+    return s;
+}
+
+const char *field_cause(const struct settings *s, long long count)
+{
+    static char words[96];
+    const struct {
+        const char *name;
+        long long value, least, most;
+    } ranges[] = {
+        {"resource", s->resource, 1, 65535},
+        {"type", s->type, 1, 2},
+        {"update", s->update, 0, 15},
+        {"protection", s->protection, 0, 1},
+        {"rows", s->rows, s->protection == 1, 255},
+        {"size", s->size, 1, s->protection == 1 ? 3825 : BH_LARGEST_PAYLOAD},
+        {"count", count < 0 ? 1 : count, 1, BH_LARGEST_COUNT},
+    };
+    for (size_t k = 0; k < sizeof ranges / sizeof *ranges; k++)
+        if (ranges[k].value < ranges[k].least || ranges[k].value > ranges[k].most) {
+            snprintf(words, sizeof words, "--%s takes %lld to %lld, not %lld", ranges[k].name, ranges[k].least, ranges[k].most, ranges[k].value);
+            return words;
+        }
+    if (s->protection == 1 && s->size % BH_ROW != 0)
+        snprintf(words, sizeof words, "--size takes a multiple of 255 with protection, not %u", s->size);
+    else
+        words[0] = '\0';
+    return words;
+}

@@ -1,0 +1,97 @@
+/* status: how far each open resource has come, what was refused of it, and how much room there is. */
+#include "command.h"
+
+#include <inttypes.h>
+
+static const char *const counter_names[] = {"stored", "repeated", "conflicts", "other", "mended", "handed_out"};
+enum { TOLD = sizeof counter_names / sizeof *counter_names };
+
+static void place_json(const struct archive *a, int i, uint64_t answer, const char *between)
+{
+    struct bh_place p = place_of(a->record, i);
+    unsigned number = bh_number(answer);
+    int32_t lowest = number == BH_ACCEPTED ? bh_lowest_empty(answer) : -1;
+    printf("%s\n  {\"resource\": %u, \"type\": %u, \"update\": %u, \"count\": %" PRIu32 ", \"protection\": %u, \"rows\": %u, \"slot\": %u, \"refused\": %u, \"filled\": %" PRIu32
+           ", \"lowest_empty\": ",
+           between, p.resource, p.type, p.update, p.count, p.protection, p.rows, p.slot, number, number == BH_ACCEPTED ? bh_filled(answer) : 0);
+    if (lowest < 0)
+        printf("null");
+    else
+        printf("%" PRId32, lowest);
+    for (int k = 0; k < TOLD; k++)
+        printf(", \"%s\": %" PRIu64, counter_names[k], count_of(a, i, (enum counter)k));
+    putchar('}');
+}
+
+static void say_bar(struct bh_place p, uint32_t filled, int32_t lowest)
+{
+    char bar[33] = "................................";
+    for (uint64_t k = 0; k < 32 && k < (uint64_t)filled * 32 / p.count; k++)
+        bar[k] = '#';
+    printf("[%s%s%s] %" PRIu32 "/%" PRIu32, colour(stdout, lowest < 0 ? GREEN : YELLOW), bar, colour(stdout, NO_COLOUR), filled, p.count);
+    if (lowest >= 0)
+        printf("  lowest empty %" PRId32, lowest);
+    putchar('\n');
+}
+
+static void say_place(const struct archive *a, int i, uint64_t answer)
+{
+    struct bh_place p = place_of(a->record, i);
+    uint64_t conflicts = count_of(a, i, CONFLICTS), handed = count_of(a, i, HANDED_OUT);
+    printf("resource %-5u  type %u  update %-2u  ", p.resource, p.type, p.update);
+    if (p.protection)
+        printf("%3u rows  ", p.rows);
+    else
+        printf("no rows   ");
+    if (bh_number(answer) != BH_ACCEPTED)
+        printf("refused: %u %s\n", bh_number(answer), refusal_name(bh_number(answer)));
+    else
+        say_bar(p, bh_filled(answer), bh_lowest_empty(answer));
+    printf("  stored %" PRIu64 ", repeated %" PRIu64 ", %sin conflict %" PRIu64 "%s, refused as Other %" PRIu64 ", bytes mended %" PRIu64 "; ", count_of(a, i, STORED),
+           count_of(a, i, REPEATED), conflicts ? colour(stdout, RED) : "", conflicts, conflicts ? colour(stdout, NO_COLOUR) : "", count_of(a, i, OTHERS), count_of(a, i, MENDED));
+    if (handed == 0)
+        puts("not handed out yet");
+    else
+        printf("handed out %" PRIu64 " time%s\n", handed, handed == 1 ? "" : "s");
+}
+
+static void tell_store(const struct archive *a, int json)
+{
+    uint64_t used = bytes_used(a->record), gap = largest_gap(a->record, a->store_size);
+    if (json)
+        printf("\"store\": {\"size\": %zu, \"used\": %" PRIu64 ", \"largest_gap\": %" PRIu64 "}}\n", a->store_size, used, gap);
+    else
+        printf("store %zu bytes, %" PRIu64 " used, largest gap %" PRIu64 "\n", a->store_size, used, gap);
+}
+
+int status(const struct arguments *a)
+{
+    want(a->count == 1, "status", "one archive");
+    struct archive archive = open_archive(a->names[0], 0, a->wait);
+    int told = 0, result = EXIT_ACCEPTED;
+    release_archive(&archive);
+    if (a->json)
+        printf("{\"places\": [");
+    for (int i = 0; i < BH_PLACES; i++) {
+        struct bh_place p = place_of(archive.record, i);
+        if (p.resource == 0 || (a->resource >= 0 && p.resource != a->resource))
+            continue;
+        uint64_t answer = bh_status(archive.record, BH_RECORD, archive.store, archive.store_size, p.resource);
+        if (bh_number(answer) != BH_ACCEPTED)
+            result = EXIT_REFUSED;
+        if (a->json)
+            place_json(&archive, i, answer, told ? "," : "");
+        else
+            say_place(&archive, i, answer);
+        told++;
+    }
+    if (a->json)
+        printf(told ? "\n], " : "], ");
+    else if (told == 0 && a->resource < 0)
+        puts("nothing is open");
+    tell_store(&archive, a->json);
+    if (told == 0 && a->resource >= 0)
+        result = refused(bh_status(archive.record, BH_RECORD, archive.store, archive.store_size, (uint16_t)a->resource), "status");
+    close_archive(&archive);
+    return result;
+}

@@ -1,0 +1,108 @@
+/* verify: whether every slot holds what was stored, and with --mend the rows put right that can be. */
+#include "command.h"
+
+#include <inttypes.h>
+
+struct look {
+    struct archive archive;
+    int mend, json;
+    uint64_t packets, damaged, mended; /* looked at; not as they were stored; put right */
+};
+
+static void tell_json(const struct bh_place *p, const struct finding *f, int mended, const char *between)
+{
+    printf("%s\n  {\"resource\": %u, \"type\": %u, \"packet\": %" PRIu32 ", \"row\": ", between, p->resource, p->type, f->packet);
+    if (f->row < 0)
+        printf("null");
+    else
+        printf("%d", f->row);
+    printf(", \"damage\": \"%s\", \"bytes\": %u, \"mendable\": %s, \"mended\": %s}", f->words, f->bytes, f->what == BROKEN ? "false" : "true", mended ? "true" : "false");
+}
+
+static void tell_person(const struct bh_place *p, const struct finding *f, int mended)
+{
+    printf("resource %u packet %" PRIu32, p->resource, f->packet);
+    if (f->row >= 0)
+        printf(": row %d", f->row);
+    printf(" %s", f->words);
+    if (f->what == MENDABLE)
+        printf("; %u bytes %s", f->bytes, mended ? "put right" : "can be put right by --mend");
+    else if (f->what == CHECK_ONLY)
+        printf("; the check %s", mended ? "was made anew" : "can be made anew by --mend");
+    else
+        printf("; it cannot be put right");
+    putchar('\n');
+}
+
+/* what was put right is in the archive before it is told */
+static void keep_mended(struct archive *a, struct bh_place p, uint32_t number)
+{
+    uint8_t *slot = slot_of(a->store, p, number);
+    change(a, slot, 2u + length_of(slot));
+    change(a, check_at(a, unit_of(a, slot)), 4);
+    commit(a);
+    if (!has_room(a))
+        settle(a);
+}
+
+static void look_at_place(struct look *l, struct bh_place p)
+{
+    for (uint32_t k = 0; k < p.count; k++) {
+        struct finding f = judge_slot(&l->archive, p, k, l->mend);
+        int mended = l->mend && (f.what == MENDABLE || f.what == CHECK_ONLY);
+        l->packets += length_of(slot_of(l->archive.store, p, k)) > 0;
+        if (f.what == SOUND)
+            continue;
+        if (mended)
+            keep_mended(&l->archive, p, k);
+        if (l->json)
+            tell_json(&p, &f, mended, l->damaged + l->mended > 0 ? "," : "");
+        else
+            tell_person(&p, &f, mended);
+        l->mended += (uint64_t)mended;
+        l->damaged += !mended;
+    }
+}
+
+/* the two copies of the record: one that was spoilt is written anew by any change */
+static void look_at_copies(struct look *l)
+{
+    int spoilt = l->archive.copies < 2;
+    if (spoilt && l->mend)
+        commit(&l->archive);
+    if (spoilt)
+        complain("%s: one of the two copies of its record is damaged%s", l->archive.path, l->mend ? ", and was written anew" : "; --mend writes it anew");
+    l->damaged += spoilt && !l->mend;
+    l->mended += spoilt && l->mend;
+}
+
+static int looks_at(const struct arguments *a, struct bh_place p)
+{
+    return p.resource != 0 && (a->resource < 0 || p.resource == a->resource);
+}
+
+int verify(const struct arguments *a)
+{
+    want(a->count == 1, "verify", "one archive");
+    struct look l = {.archive = open_archive(a->names[0], a->mend, a->wait), .mend = a->mend, .json = a->json};
+    if (a->resource >= 0 && find_place(l.archive.record, (uint16_t)a->resource) < 0)
+        return refused(BH_UNKNOWN, "verify");
+    if (!a->mend)
+        release_archive(&l.archive);
+    if (a->json)
+        printf("{\"damage\": [");
+    for (int i = 0; i < BH_PLACES; i++)
+        if (looks_at(a, place_of(l.archive.record, i)))
+            look_at_place(&l, place_of(l.archive.record, i));
+    look_at_copies(&l);
+    if (a->mend)
+        settle(&l.archive);
+    if (a->json)
+        printf("%s], \"packets\": %" PRIu64 ", \"damaged\": %" PRIu64 ", \"mended\": %" PRIu64 "}\n", l.damaged + l.mended > 0 ? "\n" : "", l.packets, l.damaged, l.mended);
+    else if (talk != QUIET && l.damaged + l.mended == 0)
+        printf("%" PRIu64 " packets, each as it was stored\n", l.packets);
+    else if (talk != QUIET)
+        printf("%" PRIu64 " packets, %" PRIu64 " put right, %" PRIu64 " not as they were stored\n", l.packets, l.mended, l.damaged);
+    close_archive(&l.archive);
+    return l.damaged > 0 ? EXIT_REFUSED : EXIT_ACCEPTED;
+}
