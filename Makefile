@@ -146,11 +146,14 @@ bench:
 
 install: build/run
 	install -d $(DESTDIR)$(PREFIX)/lib/pkgconfig $(DESTDIR)$(PREFIX)/include $(DESTDIR)$(PREFIX)/bin $(DESTDIR)$(PREFIX)/share/man/man1
+	install -d $(DESTDIR)$(PREFIX)/share/bash-completion/completions $(DESTDIR)$(PREFIX)/share/doc/brithelva
 	install -m 644 build/libbrithelva.a $(DESTDIR)$(PREFIX)/lib/
 	install -m 644 include/brithelva.h $(DESTDIR)$(PREFIX)/include/
 	sed -e 's|@PREFIX@|$(PREFIX)|' -e 's|@VERSION@|$(VERSION)|' brithelva.pc.in >build/brithelva.pc
 	install -m 644 build/brithelva.pc $(DESTDIR)$(PREFIX)/lib/pkgconfig/
 	install -m 644 command/brithelva.1 $(DESTDIR)$(PREFIX)/share/man/man1/
+	install -m 644 command/brithelva.bash $(DESTDIR)$(PREFIX)/share/bash-completion/completions/brithelva
+	install -m 644 docs/ARCHIVE.md $(DESTDIR)$(PREFIX)/share/doc/brithelva/
 ifeq ($(machine),x86_64)
 	install -m 755 build/brithelva $(DESTDIR)$(PREFIX)/bin/
 else
@@ -163,6 +166,7 @@ endif
 uninstall:
 	rm -f $(DESTDIR)$(PREFIX)/lib/libbrithelva.a $(DESTDIR)$(PREFIX)/include/brithelva.h $(DESTDIR)$(PREFIX)/lib/pkgconfig/brithelva.pc
 	rm -f $(DESTDIR)$(PREFIX)/share/man/man1/brithelva.1 $(DESTDIR)$(PREFIX)/bin/brithelva
+	rm -f $(DESTDIR)$(PREFIX)/share/bash-completion/completions/brithelva $(DESTDIR)$(PREFIX)/share/doc/brithelva/ARCHIVE.md
 	rm -rf $(DESTDIR)$(PREFIX)/libexec/brithelva
 
 clean:
