@@ -152,6 +152,17 @@ static void replay(struct archive *a)
     }
 }
 
+/* one copy of the state reaches the disk before the other is begun */
+static void write_states(struct archive *a, const uint8_t *state)
+{
+    for (int k = 0; k < 2; k++) {
+        if (write_at(a->fd, state, STATE, AT_STATES + k * PAGE) != 0)
+            trouble("%s: %s; the next command on it will finish this", a->path, strerror(errno));
+        sync_archive(a);
+        a->in_place[k] = number_at(state + AT_GENERATION, 8);
+    }
+}
+
 static void judge_head(const char *path, const uint8_t *head, size_t n)
 {
     if (n < HEAD)
@@ -211,7 +222,7 @@ static void carry_over(struct archive *a, const struct stat *about)
 static void load(struct archive *a)
 {
     struct stat about;
-    uint8_t head[HEAD];
+    uint8_t head[HEAD], settled[STATE];
     ssize_t got = read_at(a->fd, head, sizeof head, 0);
     if (got < 0 || fstat(a->fd, &about) != 0)
         trouble("%s: %s", a->path, strerror(errno));
@@ -226,8 +237,12 @@ static void load(struct archive *a)
     point_into(a, read_image(a, image_size(store_size)), store_size);
     a->version = VERSION;
     choose_state(a);
+    memcpy(settled, a->state, STATE);
     replay(a);
     judge_record(a);
+    /* what an older copy would need of the journal is about to be overwritten */
+    if (a->writing && (a->copies < 2 || a->in_place[0] != a->in_place[1]))
+        write_states(a, settled);
     /* after several kills the journal may be nearly full */
     if (a->writing && !has_room(a))
         settle(a);
@@ -373,7 +388,7 @@ static void put_changes(struct archive *a)
     }
 }
 
-/* The journal reaches the disk before anything goes to its place, that before the state which says so, and one copy of it before the other. */
+/* The journal reaches the disk before anything goes to its place, and that before the state which says so. */
 void settle(struct archive *a)
 {
     if (a->used == 0)
@@ -381,12 +396,7 @@ void settle(struct archive *a)
     sync_archive(a);
     put_changes(a);
     sync_archive(a);
-    for (int k = 0; k < 2; k++) {
-        if (write_at(a->fd, a->state, STATE, AT_STATES + k * PAGE) != 0)
-            trouble("%s: %s; the next command on it will finish this", a->path, strerror(errno));
-        sync_archive(a);
-        a->in_place[k] = generation(a);
-    }
+    write_states(a, a->state);
     a->used = 0;
 }
 
