@@ -110,14 +110,15 @@ static int may_change(const struct archive *a, uint64_t at, uint64_t n)
     return (at == AT_STATES && n == STATE) || (at >= AT_CHECKS && at + n <= journal) || (at >= store && at + n <= a->size);
 }
 
-/* The bytes of the change that stands at a place of the journal and is the next one; 0 where there is none. */
+/* The bytes of the change that stands at a place of the journal and was made behind the state that is there; 0 where there is none. What a power loss left
+ * of later changes, or came by radio and looks like one, does not have its mark. */
 static size_t next_change(const struct archive *a, size_t at)
 {
     const uint8_t *head = a->journal + at;
     if (at + CHANGE_HEAD > a->journal_size || number_at(head + AT_CHANGE_GENERATION, 8) != generation(a) + 1)
         return 0;
     size_t n = (size_t)number_at(head + AT_CHANGE_SIZE, 4);
-    if (memcmp(head + AT_CHANGE_SALT, a->image + AT_SALT, 8) != 0 || n > a->journal_size - at - CHANGE_HEAD)
+    if (memcmp(head + AT_CHANGE_BEHIND, a->state + AT_MARK, 8) != 0 || n > a->journal_size - at - CHANGE_HEAD)
         return 0;
     return bh_crc32(head + AT_CHANGE_SIZE, CHANGE_HEAD - AT_CHANGE_SIZE + n) == number_at(head + AT_CHANGE_CHECK, 4) ? CHANGE_HEAD + n : 0;
 }
@@ -353,12 +354,12 @@ void change(struct archive *a, const uint8_t *at, size_t n)
 void commit(struct archive *a)
 {
     uint8_t *head = a->journal + a->used;
+    memcpy(head + AT_CHANGE_BEHIND, a->state + AT_MARK, 8);
     put_number(a->state + AT_GENERATION, 8, generation(a) + 1);
     seal_state(a);
     change(a, a->state, STATE);
     put_number(head + AT_CHANGE_SIZE, 4, a->growing - CHANGE_HEAD);
     put_number(head + AT_CHANGE_GENERATION, 8, generation(a));
-    memcpy(head + AT_CHANGE_SALT, a->image + AT_SALT, 8);
     put_number(head + AT_CHANGE_CHECK, 4, bh_crc32(head + AT_CHANGE_SIZE, a->growing - AT_CHANGE_SIZE));
     if (write_at(a->fd, head, a->growing, head - a->image) != 0)
         not_written(a);

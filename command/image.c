@@ -57,8 +57,11 @@ void point_into(struct archive *a, uint8_t *image, uint64_t store_size)
     a->used = a->growing = 0;
 }
 
+/* a state that is none of those before: with a mark that nobody can know beforehand */
 void seal_state(struct archive *a)
 {
+    if (getrandom(a->state + AT_MARK, 8, 0) != 8)
+        trouble("no random number for a change: %s", strerror(errno));
     put_number(a->state + AT_STATE_CHECK, 4, bh_crc32(a->state, AT_STATE_CHECK));
 }
 
@@ -73,8 +76,6 @@ uint8_t *fresh_image(uint64_t store_size)
     memcpy(image, archive_magic, sizeof archive_magic);
     put_number(image + AT_VERSION, 4, VERSION);
     put_number(image + AT_STORE_SIZE, 8, store_size);
-    if (getrandom(image + AT_SALT, 8, 0) != 8)
-        trouble("no random number for a new archive: %s", strerror(errno));
     put_number(image + AT_HEAD_CHECK, 4, bh_crc32(image, AT_HEAD_CHECK));
     point_into(&a, image, store_size);
     put_number(a.state + AT_GENERATION, 8, 1);

@@ -14,13 +14,13 @@ enum {
 };
 
 /* the head, which never changes */
-enum { AT_VERSION = 8, AT_STORE_SIZE = 16, AT_SALT = 24, AT_HEAD_CHECK = 32, HEAD = 36 };
+enum { AT_VERSION = 8, AT_STORE_SIZE = 16, AT_HEAD_CHECK = 24, HEAD = 28 };
 
-/* a state: the record, with room for one of 256 bytes, and sixteen counters for each place */
-enum { AT_GENERATION = 0, AT_RECORD_LENGTH = 8, AT_RECORD = 16, AT_COUNTERS = 272, AT_STATE_CHECK = 2044, STATE = 2048 };
+/* a state: the record, with room for one of 256 bytes, sixteen counters for each place, and a mark of its own */
+enum { AT_GENERATION = 0, AT_RECORD_LENGTH = 8, AT_RECORD = 16, AT_COUNTERS = 272, AT_MARK = 1296, AT_STATE_CHECK = 2044, STATE = 2048 };
 
 /* a change in the journal, and each part of it */
-enum { AT_CHANGE_CHECK = 0, AT_CHANGE_SIZE = 4, AT_CHANGE_GENERATION = 8, AT_CHANGE_SALT = 16, CHANGE_HEAD = 24, PART_HEAD = 8 };
+enum { AT_CHANGE_CHECK = 0, AT_CHANGE_SIZE = 4, AT_CHANGE_GENERATION = 8, AT_CHANGE_BEHIND = 16, CHANGE_HEAD = 24, PART_HEAD = 8 };
 
 extern const uint8_t archive_magic[8];
 

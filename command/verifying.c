@@ -64,16 +64,13 @@ static void look_at_place(struct look *l, struct bh_place p)
     }
 }
 
-/* the two copies of the record: one that was spoilt is written anew by any change */
-static void look_at_copies(struct look *l)
+/* Whether a copy of the record is spoilt, by the disk or by a loss of power while it was written. That is no packet's loss, and any command that changes the archive
+ * writes it anew; but a second one would cost everything. */
+static int is_copy_spoilt(const struct look *l)
 {
-    int spoilt = l->archive.copies < 2;
-    if (spoilt && l->mend)
-        commit(&l->archive);
-    if (spoilt)
-        complain("%s: one of the two copies of its record is damaged%s", l->archive.path, l->mend ? ", and was written anew" : "; --mend writes it anew");
-    l->damaged += spoilt && !l->mend;
-    l->mended += spoilt && l->mend;
+    if (l->archive.copies < 2)
+        complain("%s: one of the two copies of its record was damaged; %s", l->archive.path, l->mend ? "it is written anew" : "--mend writes it anew");
+    return l->archive.copies < 2 && !l->mend;
 }
 
 static int looks_at(const struct arguments *a, struct bh_place p)
@@ -94,15 +91,16 @@ int verify(const struct arguments *a)
     for (int i = 0; i < BH_PLACES; i++)
         if (looks_at(a, place_of(l.archive.record, i)))
             look_at_place(&l, place_of(l.archive.record, i));
-    look_at_copies(&l);
+    int spoilt = is_copy_spoilt(&l);
     if (a->mend)
         settle(&l.archive);
     if (a->json)
-        printf("%s], \"packets\": %" PRIu64 ", \"damaged\": %" PRIu64 ", \"mended\": %" PRIu64 "}\n", l.damaged + l.mended > 0 ? "\n" : "", l.packets, l.damaged, l.mended);
+        printf("%s], \"packets\": %" PRIu64 ", \"damaged\": %" PRIu64 ", \"mended\": %" PRIu64 ", \"copies\": %d}\n", l.damaged + l.mended > 0 ? "\n" : "", l.packets, l.damaged, l.mended,
+               l.archive.copies);
     else if (talk != QUIET && l.damaged + l.mended == 0)
         printf("%" PRIu64 " packets, each as it was stored\n", l.packets);
     else if (talk != QUIET)
         printf("%" PRIu64 " packets, %" PRIu64 " put right, %" PRIu64 " not as they were stored\n", l.packets, l.mended, l.damaged);
     close_archive(&l.archive);
-    return l.damaged > 0 ? EXIT_REFUSED : EXIT_ACCEPTED;
+    return l.damaged > 0 || spoilt ? EXIT_REFUSED : EXIT_ACCEPTED;
 }
