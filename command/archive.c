@@ -30,16 +30,25 @@ double seconds_now(void)
     return (double)t.tv_sec + 1e-9 * (double)t.tv_nsec;
 }
 
-static void take_lock(struct archive *a, long long wait)
+/* 0, or -1 where another command is at work for longer than that */
+static int take_lock(struct archive *a, long long wait)
 {
     double until = seconds_now() + (double)wait;
     while (flock(a->fd, (a->writing ? LOCK_EX : LOCK_SH) | LOCK_NB) != 0) {
         if (errno != EWOULDBLOCK && errno != EINTR)
             trouble("%s: it cannot be locked: %s", a->path, strerror(errno));
         if (seconds_now() >= until)
-            trouble("%s: another command is at work on it; try again when it has ended, or with a longer --wait", a->path);
+            return -1;
+        stop_now();
         nanosleep(&(struct timespec){0, 2000000}, NULL);
     }
+    return 0;
+}
+
+static void busy(const char *path) __attribute__((noreturn));
+static void busy(const char *path)
+{
+    trouble("%s: another command is at work on it; try again when it has ended, or with a longer --wait", path);
 }
 
 /* whether the file that was opened still has the archive's name */
@@ -123,7 +132,7 @@ static size_t next_change(const struct archive *a, size_t at)
     return bh_crc32(head + AT_CHANGE_SIZE, CHANGE_HEAD - AT_CHANGE_SIZE + n) == number_at(head + AT_CHANGE_CHECK, 4) ? CHANGE_HEAD + n : 0;
 }
 
-/* Goes through the parts of a change that agrees with its CRC, and does with each what is asked: puts it into the image, or from there to its place in the file. */
+/* Goes through the parts of a change that agrees with its CRC, and does with each what is asked. */
 static int each_part(struct archive *a, const uint8_t *from, const uint8_t *end, int (*what)(struct archive *, const uint8_t *, size_t, size_t))
 {
     while (end - from >= PART_HEAD) {
@@ -249,21 +258,32 @@ static void load(struct archive *a)
         settle(a);
 }
 
-struct archive open_archive(const char *path, int writing, long long wait)
+int open_if_free(struct archive *a, const char *path, int writing, long long wait)
 {
-    struct archive a = {.path = path, .fd = -1, .writing = writing};
+    *a = (struct archive){.path = path, .fd = -1, .writing = writing};
     do {
-        if (a.fd >= 0)
-            close(a.fd);
+        if (a->fd >= 0)
+            close(a->fd);
         struct stat about;
-        a.fd = open(path, (writing ? O_RDWR : O_RDONLY) | O_NONBLOCK | O_CLOEXEC);
-        if (a.fd < 0 || fstat(a.fd, &about) != 0)
+        a->fd = open(path, (writing ? O_RDWR : O_RDONLY) | O_NONBLOCK | O_CLOEXEC);
+        if (a->fd < 0 || fstat(a->fd, &about) != 0)
             trouble("%s: %s", path, strerror(errno));
         if (!S_ISREG(about.st_mode))
             damaged(path, "not an archive: no plain file");
-        take_lock(&a, wait < 0 ? USUAL_WAIT : wait);
-    } while (!still_named(&a));
-    load(&a);
+        if (take_lock(a, wait < 0 ? USUAL_WAIT : wait) != 0) {
+            close(a->fd);
+            return -1;
+        }
+    } while (!still_named(a));
+    load(a);
+    return 0;
+}
+
+struct archive open_archive(const char *path, int writing, long long wait)
+{
+    struct archive a;
+    if (open_if_free(&a, path, writing, wait) != 0)
+        busy(path);
     return a;
 }
 
@@ -287,7 +307,8 @@ static int unchanged(struct archive *a)
 
 void retake_archive(struct archive *a)
 {
-    take_lock(a, LONGEST_WAIT);
+    if (take_lock(a, LONGEST_WAIT) != 0)
+        busy(a->path);
     if (!still_named(a))
         trouble("%s: another file has taken its name meanwhile", a->path);
     if (unchanged(a))
@@ -373,20 +394,43 @@ void sync_archive(struct archive *a)
         trouble("%s: %s", a->path, strerror(errno));
 }
 
-static int put_into_file(struct archive *a, const uint8_t *bytes, size_t at, size_t n)
+/* The state goes to its places by itself, and last. */
+static int note_pages(struct archive *a, const uint8_t *bytes, size_t at, size_t n)
 {
     (void)bytes;
-    return at == AT_STATES ? 0 : write_at(a->fd, a->image + at, n, (off_t)at);
+    for (size_t page = at / PAGE; at != AT_STATES && page * PAGE < at + n; page++)
+        a->behind[page] = 1;
+    return 0;
+}
+
+/* the pages of the file that lack a change */
+static void note_changes(struct archive *a)
+{
+    for (size_t at = 0; at < a->used;) {
+        size_t n = CHANGE_HEAD + (size_t)number_at(a->journal + at + AT_CHANGE_SIZE, 4);
+        each_part(a, a->journal + at + CHANGE_HEAD, a->journal + at + n, note_pages);
+        at += n;
+    }
 }
 
 static void put_changes(struct archive *a)
 {
-    for (size_t at = 0; at < a->used;) {
-        size_t n = CHANGE_HEAD + (size_t)number_at(a->journal + at + AT_CHANGE_SIZE, 4);
-        if (each_part(a, a->journal + at + CHANGE_HEAD, a->journal + at + n, put_into_file) != 0)
+    size_t pages = (a->size + PAGE - 1) / PAGE, from = 0;
+    a->behind = calloc(pages + 1, 1);
+    if (a->behind == NULL)
+        trouble("%s: no memory to go on; the next command on it will finish this", a->path);
+    note_changes(a);
+    while (from < pages) {
+        size_t n = 0;
+        while (a->behind[from + n])
+            n++;
+        size_t end = (from + n) * PAGE < a->size ? (from + n) * PAGE : a->size;
+        if (n > 0 && write_at(a->fd, a->image + from * PAGE, end - from * PAGE, (off_t)(from * PAGE)) != 0)
             trouble("%s: %s; the next command on it will finish this", a->path, strerror(errno));
-        at += n;
+        from += n + 1;
     }
+    free(a->behind);
+    a->behind = NULL;
 }
 
 /* The journal reaches the disk before anything goes to its place, and that before the state which says so. */

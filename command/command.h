@@ -118,10 +118,12 @@ struct archive {
     size_t used, growing;  /* bytes of the journal that are written, and of the change that is being put together behind them */
     uint64_t in_place[2];  /* the generations of the two states on disk */
     int copies;            /* how many of the two are good */
+    uint8_t *behind;       /* while changes go to their places: which pages of the file lack one */
 };
 double seconds_now(void);
 void new_archive(const char *path, uint64_t store_size);
 struct archive open_archive(const char *path, int writing, long long wait);
+int open_if_free(struct archive *a, const char *path, int writing, long long wait); /* -1 where another command is at work for longer than that */
 void release_archive(struct archive *a);
 void retake_archive(struct archive *a);
 void close_archive(struct archive *a);

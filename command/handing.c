@@ -62,17 +62,18 @@ static int not_handed(uint64_t answer, struct archive *archive, int place, long 
 
 /* ---- afterwards */
 
-enum { NOTE_WAIT = 60 };
-
 /* Notes in the archive that the place was handed out, if it still is that place, so that it may be closed. The file is there already: an archive that
- * cannot be written, or would have to be carried over for it, stays as it is. */
+ * cannot be written, is not free, or would have to be carried over for it, stays as it is. */
 static void note_handed(const struct arguments *a, const struct archive *seen, int place)
 {
-    if (seen->version != 2 || access(a->names[0], W_OK) != 0) {
-        remark("%s %s, so it is not noted there that resource %lld was handed out", a->names[0], seen->version != 2 ? "is of version 1" : "cannot be written", a->resource);
+    struct archive archive;
+    const char *not = seen->version != 2 ? "is of version 1" : access(a->names[0], W_OK) != 0 ? "cannot be written" : NULL;
+    if (not == NULL && open_if_free(&archive, a->names[0], 1, a->wait) != 0)
+        not = "is not free";
+    if (not != NULL) {
+        remark("%s %s, so it is not noted there that resource %lld was handed out", a->names[0], not, a->resource);
         return;
     }
-    struct archive archive = open_archive(a->names[0], 1, a->wait > NOTE_WAIT ? a->wait : NOTE_WAIT);
     if (same_place(archive.record, seen->record, place)) {
         count_more(&archive, place, HANDED_OUT, 1);
         commit(&archive);

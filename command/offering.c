@@ -19,7 +19,7 @@ struct offering {
     struct archive archive;
     struct tally tally;
     int each, json, changed;
-    uint64_t found; /* packets in this recording */
+    uint64_t found; /* whether there is a sound packet in this recording */
     FILE *lines;    /* what is told of each packet once its batch is in the archive */
     double synced, rested;
 };
@@ -97,7 +97,7 @@ static void count_packet(struct offering *o, int place, unsigned number, int rep
 {
     struct tally *t = &o->tally;
     enum counter which = COUNTERS;
-    o->found += number == BH_ACCEPTED || number > BH_RESOURCE;
+    o->found += (uint64_t)sound;
     if (number != BH_ACCEPTED)
         t->refused[number]++;
     else if (repeat)
@@ -132,7 +132,8 @@ static int take_packet(struct offering *o, const uint8_t *packet, size_t n)
         damaged = tell_damage(a, place_of(a->record, place), fields[1], cause, sizeof cause);
     if (number == BH_ACCEPTED && bh_value(answer) == 0)
         keep_slot(a, place, fields[1]);
-    count_packet(o, place, number, bh_value(answer) != 0, judged || (*cause && is_sound(packet, n)), damaged);
+    int unjudged = number == BH_OTHER || number == BH_WIDE || (number == BH_UNKNOWN && o->found == 0);
+    count_packet(o, place, number, bh_value(answer) != 0, judged || (unjudged && is_sound(packet, n)), damaged);
     if (*cause && o->tally.cause[number][0] == '\0')
         memcpy(o->tally.cause[number], cause, sizeof cause);
     if (o->each)
@@ -238,7 +239,7 @@ static int offer_recording(struct offering *o, const char *archive, const char *
         tell_progress(&r);
     }
     o->tally.skipped += r.skipped;
-    detail("%s: %" PRIu64 " packets in %" PRIu64 " bytes", name, o->found, r.passed);
+    detail("%s: %" PRIu64 " bytes, %" PRIu64 " of them in no packet", name, r.passed, r.skipped);
     if (o->found == 0 && result == EXIT_ACCEPTED && !stop_asked()) {
         complain("%s: no packet found", name);
         result = EXIT_REFUSED;

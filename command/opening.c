@@ -93,11 +93,11 @@ int open_place(const struct arguments *a)
 
 /* ---- close */
 
-/* complete, and nobody has it */
+/* complete, or damaged and perhaps so, and nobody has it */
 static int is_unread(const struct archive *a, int place, uint16_t resource)
 {
     uint64_t answer = bh_status(a->record, BH_RECORD, a->store, a->store_size, resource);
-    return bh_number(answer) == BH_ACCEPTED && bh_lowest_empty(answer) < 0 && count_of(a, place, HANDED_OUT) == 0;
+    return (bh_number(answer) != BH_ACCEPTED || bh_lowest_empty(answer) < 0) && count_of(a, place, HANDED_OUT) == 0;
 }
 
 int close_place(const struct arguments *a)
