@@ -19,7 +19,7 @@ CFLAGS = -std=gnu11 -O2 -Wall -Wextra -Wconversion -Iinclude
 sources = crates.txt $(shell find crates -path '*/must-fail' -prune -o -type f -print)
 command = $(wildcard command/*.c command/*.h) include/brithelva.h
 
-.PHONY: all test quick left-out style reference reference-itself reference-cases cases demo library command checked kill steps limits largest example bench fuzz install uninstall clean
+.PHONY: all test quick left-out style reference reference-itself reference-cases cases demo library command safety checked kill steps limits largest example bench fuzz install uninstall clean
 
 all: build/run
 
@@ -44,7 +44,7 @@ demo: build/run
 # ---- tests. `test` is the gate: what shows a fault in seconds, then every proof and every wrong edit from nothing (`rt ci`), then what runs on the
 # proved library. tests/gate runs these parts one by one, and beside each other what a + joins; its last line counts what passed.
 before = style reference
-in_c = library command kill limits example fuzz+largest+steps
+in_c = library command safety+kill limits example fuzz+largest+steps
 ifeq ($(machine),x86_64)
 in_c += checked
 endif
@@ -93,8 +93,13 @@ command: build/run
 	@tests/demo build/run
 	@tests/command build/run
 
+# the command on a disk that rots and fills up, with closed descriptors, streams and odd outputs
+safety: build/run
+	@tests/safety build/run
+
 checked: build/checked
 	@ASAN_OPTIONS=detect_leaks=0 tests/command build/checked
+	@ASAN_OPTIONS=detect_leaks=0 tests/safety build/checked
 
 # the command with its own faults looked for at run time
 build/checked: build/libbrithelva.a $(command)
