@@ -89,6 +89,11 @@ void new_archive(const char *path, uint64_t store_size)
 
 /* ---- reading */
 
+static int agrees(const uint8_t *state)
+{
+    return number_at(state + AT_STATE_CHECK, 4) == bh_crc32(state, AT_STATE_CHECK);
+}
+
 /* the newer of the two states, of those that agree with their checks, stands in the first's place from here on */
 static void choose_state(struct archive *a)
 {
@@ -97,7 +102,7 @@ static void choose_state(struct archive *a)
     for (int k = 0; k < 2; k++) {
         const uint8_t *copy = a->image + AT_STATES + k * PAGE;
         a->in_place[k] = number_at(copy + AT_GENERATION, 8);
-        if (number_at(copy + AT_STATE_CHECK, 4) != bh_crc32(copy, AT_STATE_CHECK))
+        if (!agrees(copy))
             continue;
         if (a->copies++ == 0 || a->in_place[k] > newest)
             memmove(a->state, copy, STATE);
@@ -157,7 +162,8 @@ static void replay(struct archive *a)
 {
     for (size_t n; (n = next_change(a, a->used)) > 0; a->used += n) {
         uint64_t expected = generation(a) + 1;
-        if (each_part(a, a->journal + a->used + CHANGE_HEAD, a->journal + a->used + n, put_into_image) != 0 || generation(a) != expected)
+        int put = each_part(a, a->journal + a->used + CHANGE_HEAD, a->journal + a->used + n, put_into_image) == 0;
+        if (!put || generation(a) != expected || !agrees(a->state))
             damaged(a->path, "a damaged archive: its journal has a change that no command writes");
     }
 }
