@@ -214,25 +214,18 @@ static uint8_t *read_image(const struct archive *a, size_t n)
     return image;
 }
 
-/* An archive of version 1: its image as version 2 has it, and, where it is to be written, a file with that image in its place. */
-static void carry_over(struct archive *a, const struct stat *about)
+/* An archive of version 1 is read as version 2 would have it. */
+static void load_old(struct archive *a, size_t n)
 {
-    if (about->st_size > 512 + BH_USABLE_STORE)
+    if (n > 512 + BH_USABLE_STORE)
         damaged(a->path, "a damaged archive: its header and its length do not go together");
-    uint8_t *old = read_image(a, (size_t)about->st_size), *image = carried_image(a->path, old, (size_t)about->st_size);
+    uint8_t *old = read_image(a, n), *image = carried_image(a->path, old, n);
     if (image == NULL)
         damaged(a->path, "a damaged archive of version 1: its header, its record and its length do not go together (refusal 9 Record)");
     point_into(a, image, number_at(old + AT_STORE_SIZE, 8));
     free(old);
-    choose_state(a);
     a->version = 1;
-    if (!a->writing)
-        return;
-    a->version = VERSION;
-    int fd = write_image(a->path, image, a->size, about);
-    close(a->fd);
-    a->fd = fd;
-    remark("%s: carried over from version 1 to version 2; what its unprotected slots held is taken as it was found", a->path);
+    choose_state(a);
 }
 
 static void load(struct archive *a)
@@ -244,7 +237,7 @@ static void load(struct archive *a)
         trouble("%s: %s", a->path, strerror(errno));
     judge_head(a->path, head, (size_t)got);
     if (number_at(head + AT_VERSION, 4) == 1) {
-        carry_over(a, &about);
+        load_old(a, (size_t)about.st_size);
         return;
     }
     uint64_t store_size = number_at(head + AT_STORE_SIZE, 8);
@@ -315,9 +308,15 @@ void retake_archive(struct archive *a)
 {
     if (take_lock(a, LONGEST_WAIT) != 0)
         busy(a->path);
+    if (a->version == 1 && !still_named(a)) {
+        /* another command has carried it over */
+        close_archive(a);
+        *a = open_archive(a->path, 1, LONGEST_WAIT);
+        return;
+    }
     if (!still_named(a))
         trouble("%s: another file has taken its name meanwhile", a->path);
-    if (unchanged(a))
+    if (a->version == 1 || unchanged(a))
         return;
     free(a->image);
     load(a);
@@ -378,8 +377,31 @@ void change(struct archive *a, const uint8_t *at, size_t n)
     a->growing += PART_HEAD + n;
 }
 
+/* The first change of an archive of version 1 goes into a file of version 2 with it, which takes its name in one step. */
+static void carry_over(struct archive *a)
+{
+    struct stat about;
+    if (fstat(a->fd, &about) != 0)
+        trouble("%s: %s", a->path, strerror(errno));
+    put_number(a->state + AT_GENERATION, 8, generation(a) + 1);
+    seal_state(a);
+    memcpy(a->image + AT_STATES + PAGE, a->state, STATE);
+    memset(a->journal, 0, a->journal_size);
+    int fd = write_image(a->path, a->image, a->size, &about);
+    close(a->fd);
+    a->fd = fd;
+    a->version = VERSION;
+    a->growing = 0;
+    a->in_place[0] = a->in_place[1] = generation(a);
+    remark("%s: carried over from version 1 to version 2; what its unprotected slots held is taken as it was found", a->path);
+}
+
 void commit(struct archive *a)
 {
+    if (a->version == 1) {
+        carry_over(a);
+        return;
+    }
     uint8_t *head = a->journal + a->used;
     memcpy(head + AT_CHANGE_BEHIND, a->state + AT_MARK, 8);
     put_number(a->state + AT_GENERATION, 8, generation(a) + 1);
@@ -396,7 +418,7 @@ void commit(struct archive *a)
 
 void sync_archive(struct archive *a)
 {
-    if (sync_file(a->fd) != 0)
+    if (a->version == VERSION && sync_file(a->fd) != 0)
         trouble("%s: %s", a->path, strerror(errno));
 }
 
@@ -453,6 +475,6 @@ void settle(struct archive *a)
 
 void write_ahead(struct archive *a, const uint8_t *at, size_t n)
 {
-    if (n > 0 && write_at(a->fd, at, n, at - a->image) != 0)
+    if (n > 0 && a->version == VERSION && write_at(a->fd, at, n, at - a->image) != 0)
         not_written(a);
 }
