@@ -249,6 +249,8 @@ static void load(struct archive *a)
     memcpy(settled, a->state, STATE);
     replay(a);
     judge_record(a);
+    if (a->writing && a->copies < 2)
+        complain("%s: one of the two copies of its record was damaged; it is written anew", a->path);
     /* what an older copy would need of the journal is about to be overwritten */
     if (a->writing && (a->copies < 2 || a->in_place[0] != a->in_place[1]))
         write_states(a, settled);

@@ -65,12 +65,13 @@ static void look_at_place(struct look *l, struct bh_place p)
 }
 
 /* Whether a copy of the record is spoilt, by the disk or by a loss of power while it was written. That is no packet's loss, and any command that changes the archive
- * writes it anew; but a second one would cost everything. */
+ * writes it anew, and says so; but a second one would cost everything. */
 static int is_copy_spoilt(const struct look *l)
 {
-    if (l->archive.copies < 2)
-        complain("%s: one of the two copies of its record was damaged; %s", l->archive.path, l->mend ? "it is written anew" : "--mend writes it anew");
-    return l->archive.copies < 2 && !l->mend;
+    int spoilt = l->archive.copies < 2 && !l->mend;
+    if (spoilt)
+        complain("%s: one of the two copies of its record was damaged; --mend writes it anew", l->archive.path);
+    return spoilt;
 }
 
 static int looks_at(const struct arguments *a, struct bh_place p)
