@@ -145,7 +145,9 @@ struct finding judge_slot(struct archive *a, struct bh_place p, uint32_t number,
         return judge_mended(a, slot, n, coded, mend, (struct finding){number, MENDABLE, "is no coded row", row, (unsigned)bytes});
     if (differs == 0)
         return (struct finding){number, SOUND, "", -1, 0};
-    if (!p.protection || n == 0 || !in_one_byte(differs) || check_debt(a, unit, 2 + n) != 0)
+    if (check_debt(a, unit, 2 + n) != 0)
+        return (struct finding){number, BROKEN, "shares a check with its neighbours, which differs", -1, 0};
+    if (!p.protection || n == 0 || !in_one_byte(differs))
         return (struct finding){number, BROKEN, "differs from its check", -1, 0};
     if (mend)
         renew_check(a, unit, 0);

@@ -12,9 +12,9 @@ enum { NAMED = 10 }; /* so many damaged packets are named one by one */
 static void name_damage(const struct finding *f)
 {
     if (f->row >= 0)
-        complain("hand-out refused: packet %" PRIu32 " is not as it was stored: its row %d %s", f->packet, f->row, f->words);
+        complain("hand-out refused: packet %" PRIu32 " is in doubt: its row %d %s", f->packet, f->row, f->words);
     else
-        complain("hand-out refused: packet %" PRIu32 " is not as it was stored: it %s", f->packet, f->words);
+        complain("hand-out refused: packet %" PRIu32 " is in doubt: it %s", f->packet, f->words);
 }
 
 /* Every slot of the place has to be as it was stored; else those that are not are named, and nothing is written. */

@@ -6,7 +6,7 @@
 struct look {
     struct archive archive;
     int mend, json;
-    uint64_t packets, damaged, mended; /* looked at; not as they were stored; put right */
+    uint64_t packets, damaged, mended; /* looked at; damaged or in doubt; put right */
 };
 
 static void tell_json(const struct bh_place *p, const struct finding *f, int mended, const char *between)
@@ -101,7 +101,7 @@ int verify(const struct arguments *a)
     else if (talk != QUIET && l.damaged + l.mended == 0)
         printf("%" PRIu64 " packets, each as it was stored\n", l.packets);
     else if (talk != QUIET)
-        printf("%" PRIu64 " packets, %" PRIu64 " put right, %" PRIu64 " not as they were stored\n", l.packets, l.mended, l.damaged);
+        printf("%" PRIu64 " packets, %" PRIu64 " put right, %" PRIu64 " damaged or in doubt\n", l.packets, l.mended, l.damaged);
     close_archive(&l.archive);
     return l.damaged > 0 || spoilt ? EXIT_REFUSED : EXIT_ACCEPTED;
 }
