@@ -104,7 +104,10 @@ ssize_t read_at(int fd, void *to, size_t n, off_t at)
 /* what is no file on a disk has nothing to wait for */
 int sync_file(int fd)
 {
-    return fdatasync(fd) == 0 || errno == EINVAL || errno == EROFS ? 0 : -1;
+    while (fdatasync(fd) != 0)
+        if (errno != EINTR)
+            return errno == EINVAL || errno == EROFS ? 0 : -1;
+    return 0;
 }
 
 /* ---- names */
