@@ -173,15 +173,15 @@ pub extern "C" fn bh_offer(held: &[u8], store: &mut [u8], packet: &[u8]) -> u64
     answers::offered_as(offered)
 }
 
-// How a resource stands: the value is the filled slots + 2^24 · (the lowest empty one + 1), with 0 for the latter where none is empty.
+// How a resource and type stand: the value is the filled slots + 2^24 · (the lowest empty one + 1), with 0 for the latter where none is empty.
 #[no_mangle]
-pub extern "C" fn bh_status(held: &[u8], store: &[u8], resource: u16) -> u64
-    ensures { λ r. ⌜ r ≡ statusSays (now (held .entry)) (now (store .entry)) resource ⌝ }
+pub extern "C" fn bh_status(held: &[u8], store: &[u8], resource: u16, kind: u8) -> u64
+    ensures { λ r. ⌜ r ≡ statusSays (now (held .entry)) (now (store .entry)) (record { resource = resource; kind = kind }) ⌝ }
 {
     if held.len() != 128 {
         return NO_RECORD;
     }
-    let standing = standing::status(face::record_in(held), store, resource);
+    let standing = standing::status(face::record_in(held), store, resource, kind);
     answers::standing_as(standing)
 }
 
@@ -191,28 +191,29 @@ pub extern "C" fn bh_hand_out(
     held: &[u8],
     store: &[u8],
     resource: u16,
+    kind: u8,
     length: u64,
     out: &mut [u8],
 ) -> u64
-    ensures { λ r. ⌜ Says (handSays (now (held .entry)) (now (store .entry)) resource length (now (out .entry))) r (now (out .exit)) ⌝ }
+    ensures { λ r. ⌜ Says (handSays (now (held .entry)) (now (store .entry)) (record { resource = resource; kind = kind }) length (now (out .entry))) r (now (out .exit)) ⌝ }
 {
     if held.len() != 128 {
         return NO_RECORD;
     }
     let before = face::record_in(held);
-    let verdict = readout::hand_out(before, store, resource, length as usize, out);
+    let verdict = readout::hand_out(before, store, resource, kind, length as usize, out);
     answers::verdict_of(verdict)
 }
 
-// Closes a resource's place of the record. The store is only read.
+// Closes the place of a resource and type. The store is only read.
 #[no_mangle]
-pub extern "C" fn bh_close(held: &mut [u8], store: &[u8], resource: u16) -> u64
-    ensures { λ r. ⌜ Keeps (closeSays (now (held .entry)) (now (store .entry)) resource) r (now (held .exit)) (now (store .entry)) ⌝ }
+pub extern "C" fn bh_close(held: &mut [u8], store: &[u8], resource: u16, kind: u8) -> u64
+    ensures { λ r. ⌜ Keeps (closeSays (now (held .entry)) (now (store .entry)) (record { resource = resource; kind = kind })) r (now (held .exit)) (now (store .entry)) ⌝ }
 {
     if held.len() != 128 {
         return NO_RECORD;
     }
-    let kept = opening::close(face::record_in(held), store, resource);
+    let kept = opening::close(face::record_in(held), store, resource, kind);
     put_kept(held, kept)
 }
 

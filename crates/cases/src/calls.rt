@@ -168,13 +168,14 @@ fn call_record(
         return brithelva::bh_offer(held, store, bytes);
     }
     let resource = words::number16(line, 1);
+    let kind = words::number8(line, 2);
     if command == commands::STATUS {
-        return brithelva::bh_status(held, store, resource);
+        return brithelva::bh_status(held, store, resource, kind);
     }
     if command == commands::HAND {
-        return brithelva::bh_hand_out(held, store, resource, words::number(line, 2), out);
+        return brithelva::bh_hand_out(held, store, resource, kind, words::number(line, 3), out);
     }
-    brithelva::bh_close(held, store, resource)
+    brithelva::bh_close(held, store, resource, kind)
 }
 
 // One call.

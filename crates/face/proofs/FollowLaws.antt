@@ -18,7 +18,7 @@ use Rattle.places.specs.declared.Place.{Place}
 use Rattle.places.specs.declared.Record.{Record}
 use Rattle.places.specs.declared.Found.{Found}
 use Rattle.places.specs.declared.Found.the-variants.{At, Nothing}
-use Rattle.places.specs.Places.{unused, placeOf, good, placeNamed}
+use Rattle.places.specs.Places.{Name, settingsName, unused, placeOf, good, placeNamed}
 use Rattle.places.proofs.Facts.{PlaceFacts, named-facts, end-sum}
 use Rattle.places.proofs.Keeping.{at-set}
 use Rattle.opening.specs.Open.{Plan, refuse, take, planOf, openOf, closedAt, closeOf}
@@ -102,13 +102,13 @@ open-eight h s g count e = by (planOf h (length s) g count) refl
     by (refuse r) d = rw (refused-record h s g count r d) e
     by (take i start) d =
         let t = taking h (length s) g count i start d in
-        let f = named-facts (length s) (set (h .places) i (placeOf g count start)) (open-good h (length s) g count i start t) (g .resource) i (open-named h (length s) g count i start t) in
+        let f = named-facts (length s) (set (h .places) i (placeOf g count start)) (open-good h (length s) g count i start t) (settingsName g) i (open-named h (length s) g count i start t) in
         rw (open-by h s g count (take i start) d)
         (eight-set (h .places) i (placeOf g count start) e (subst Typed (open-own h (length s) g count i start t) (facts-typed (length s) _ f)))
 
-close-eight : (h : Record) (s : List ℕ) (resource : ℕ) → Eight (h .places) → Eight (closeOf h s resource .«record» .places)
+close-eight : (h : Record) (s : List ℕ) (x : Name) → Eight (h .places) → Eight (closeOf h s x .«record» .places)
 unfolding closeOf
-close-eight h s resource e = by (not (good (length s) (h .places))) (placeNamed (h .places) resource)
+close-eight h s x e = by (not (good (length s) (h .places))) (placeNamed (h .places) x)
   where
     by : (b : Bool) (f : Found) → Eight (cond b (record { «record» = h; verdict = Refused Refusal.Record }) (closedAt h f) .«record» .places)
     by true f = e
@@ -124,14 +124,14 @@ module _ (h s : List ℕ) (bytes : Bytes h) (n : length h ≡ 128) where
       let e = open-eight (recordIn h) s g count (eight-in h bytes) in
       rw (eq-eqb (length h) 128 n) (record-again (openOf (recordIn h) s g count .kept .«record») (e .long) (e .each))
 
-  close-follows : (resource : ℕ) → recordIn (closeSays h s resource .held) ≡ closeOf (recordIn h) s resource .«record»
+  close-follows : (x : Name) → recordIn (closeSays h s x .held) ≡ closeOf (recordIn h) s x .«record»
   unfolding closeSays
-  close-follows resource =
-      let e = close-eight (recordIn h) s resource (eight-in h bytes) in
-      rw (eq-eqb (length h) 128 n) (record-again (closeOf (recordIn h) s resource .«record») (e .long) (e .each))
+  close-follows x =
+      let e = close-eight (recordIn h) s x (eight-in h bytes) in
+      rw (eq-eqb (length h) 128 n) (record-again (closeOf (recordIn h) s x .«record») (e .long) (e .each))
 
 pub records-follow : RecordsFollow
 records-follow = record {
   «open» = λ h s g count bytes n. open-follows h s bytes n g count;
-  close = λ h s resource bytes n. close-follows h s bytes n resource;
+  close = λ h s x bytes n. close-follows h s bytes n x;
 }

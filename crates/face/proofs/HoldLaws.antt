@@ -9,6 +9,7 @@ use lib.Dec.{eqb}
 use lib.ListN.{length}
 use Rattle.settings.specs.declared.Settings.{Settings}
 use Rattle.places.specs.declared.Record.{Record}
+use Rattle.places.specs.Places.{Name}
 use Rattle.opening.specs.declared.Kept.{Kept}
 use Rattle.refusals.specs.declared.Verdict.{Verdict}
 use Rattle.record.specs.declared.Offered.{Offered}
@@ -40,19 +41,19 @@ module _ (h s : List ℕ) where
           leaves = rw t (o .leaves ∙ ap (λ (y : Record). openOf y s g count .store) e);
         }
 
-  module _ (resource : ℕ) (r : ℕ) where
-    pub close-bad : (length h ≡ 128 → ⊥) → r ≡ badRecord → Keeps (closeSays h s resource) r h s
+  module _ (x : Name) (r : ℕ) where
+    pub close-bad : (length h ≡ 128 → ⊥) → r ≡ badRecord → Keeps (closeSays h s x) r h s
     unfolding closeSays
     close-bad d e =
         let t : eqb (length h) 128 ≡ false = ne-eqb (length h) 128 d in
         record { answers = rw t e; holds = rw t; leaves = rw t }
 
-    pub close-says : (held : Record) (kept : Kept) (h′ : List ℕ) → length h ≡ 128 → held ≡ recordIn h → kept ≡ closeOf held s resource
-        → h′ ≡ recordBytes (kept .«record») → r ≡ answerOf (verdictTold (kept .verdict)) → Keeps (closeSays h s resource) r h′ s
+    pub close-says : (held : Record) (kept : Kept) (h′ : List ℕ) → length h ≡ 128 → held ≡ recordIn h → kept ≡ closeOf held s x
+        → h′ ≡ recordBytes (kept .«record») → r ≡ answerOf (verdictTold (kept .verdict)) → Keeps (closeSays h s x) r h′ s
     unfolding closeSays
     close-says held kept h′ n e o b a =
         let t : eqb (length h) 128 ≡ true = eq-eqb (length h) 128 n in
-        let k : kept ≡ closeOf (recordIn h) s resource = o ∙ ap (λ (y : Record). closeOf y s resource) e in
+        let k : kept ≡ closeOf (recordIn h) s x = o ∙ ap (λ (y : Record). closeOf y s x) e in
         record {
           answers = rw t (a ∙ ap (λ (y : Kept). answerOf (verdictTold (y .verdict))) k);
           holds = rw t (b ∙ ap (λ (y : Kept). recordBytes (y .«record»)) k);
@@ -77,17 +78,17 @@ module _ (h s : List ℕ) where
           leaves = rw t (l ∙ ap (λ (y : Record). offerOf y s q .store) e);
         }
 
-  module _ (resource n : ℕ) (out : List ℕ) (r : ℕ) where
-    pub hand-bad : (length h ≡ 128 → ⊥) → r ≡ badRecord → Says (handSays h s resource n out) r out
+  module _ (x : Name) (n : ℕ) (out : List ℕ) (r : ℕ) where
+    pub hand-bad : (length h ≡ 128 → ⊥) → r ≡ badRecord → Says (handSays h s x n out) r out
     unfolding handSays
     hand-bad d e = let t : eqb (length h) 128 ≡ false = ne-eqb (length h) 128 d in record { answers = rw t e; leaves = rw t }
 
-    pub hand-says : (held : Record) (v : Verdict) (out′ : List ℕ) → length h ≡ 128 → held ≡ recordIn h → v ≡ handOutOf held s resource n out .answer
-        → out′ ≡ handOutOf held s resource n out .output → r ≡ answerOf (verdictTold v) → Says (handSays h s resource n out) r out′
+    pub hand-says : (held : Record) (v : Verdict) (out′ : List ℕ) → length h ≡ 128 → held ≡ recordIn h → v ≡ handOutOf held s x n out .answer
+        → out′ ≡ handOutOf held s x n out .output → r ≡ answerOf (verdictTold v) → Says (handSays h s x n out) r out′
     unfolding handSays
     hand-says held v out′ k e a l d =
         let t : eqb (length h) 128 ≡ true = eq-eqb (length h) 128 k in
         record {
-          answers = rw t (d ∙ ap (λ (y : Verdict). answerOf (verdictTold y)) (a ∙ ap (λ (y : Record). handOutOf y s resource n out .answer) e));
-          leaves = rw t (l ∙ ap (λ (y : Record). handOutOf y s resource n out .output) e);
+          answers = rw t (d ∙ ap (λ (y : Verdict). answerOf (verdictTold y)) (a ∙ ap (λ (y : Record). handOutOf y s x n out .answer) e));
+          leaves = rw t (l ∙ ap (λ (y : Record). handOutOf y s x n out .output) e);
         }

@@ -26,7 +26,7 @@ use Rattle.pack.proofs.Plans.{pack-refused}
 use Rattle.places.specs.declared.Record.{Record}
 use Rattle.places.specs.declared.Found.{Found}
 use Rattle.places.specs.declared.Found.the-variants.{At, Nothing}
-use Rattle.places.specs.Places.{good, placeNamed}
+use Rattle.places.specs.Places.{Name, good, placeNamed}
 use Rattle.record.specs.declared.Offered.{Offered}
 use Rattle.record.specs.declared.Offered.the-variants.{Stored, Repeat}
 use Rattle.opening.specs.Open.{openOf, closedAt, closeOf}
@@ -120,9 +120,9 @@ open-refused-keeps h s g count bytes =
     let p = refused-plan (recordIn h) s g count r e in
     (refused-record (recordIn h) s g count r p, refused-store (recordIn h) s g count r p))
 
-close-refused-record : (h : Record) (s : List ℕ) (resource : ℕ) (r : Refusal) → closeOf h s resource .verdict ≡ Refused r → closeOf h s resource .«record» ≡ h
+close-refused-record : (h : Record) (s : List ℕ) (x : Name) (r : Refusal) → closeOf h s x .verdict ≡ Refused r → closeOf h s x .«record» ≡ h
 unfolding closeOf
-close-refused-record h s resource r = by (not (good (length s) (h .places))) (placeNamed (h .places) resource)
+close-refused-record h s x r = by (not (good (length s) (h .places))) (placeNamed (h .places) x)
   where
     by : (b : Bool) (f : Found) → cond b (record { «record» = h; verdict = Refused Refusal.Record }) (closedAt h f) .verdict ≡ Refused r
         → cond b (record { «record» = h; verdict = Refused Refusal.Record }) (closedAt h f) .«record» ≡ h
@@ -130,10 +130,10 @@ close-refused-record h s resource r = by (not (good (length s) (h .places))) (pl
     by false Nothing e = refl
     by false (At i) e = let z : _≡_ {A = ℕ} 0 1 = cc in absurd (omega arith)
 
-pub close-refused-keeps : (h s : List ℕ) (resource : ℕ) → Bytes h → AllKept (closeSays h s resource) h s
+pub close-refused-keeps : (h s : List ℕ) (x : Name) → Bytes h → AllKept (closeSays h s x) h s
 unfolding closeSays
-close-refused-keeps h s resource bytes =
-    put-back-kept h s (closeOf (recordIn h) s resource .verdict) (closeOf (recordIn h) s resource .«record») s bytes (λ r e. (close-refused-record (recordIn h) s resource r e, refl))
+close-refused-keeps h s x bytes =
+    put-back-kept h s (closeOf (recordIn h) s x .verdict) (closeOf (recordIn h) s x .«record») s bytes (λ r e. (close-refused-record (recordIn h) s x r e, refl))
 
 pub offer-refused-keeps : (h s q : List ℕ) → AllKept (offerSays h s q) h s
 unfolding offerSays
@@ -146,15 +146,15 @@ offer-refused-keeps h s q = by (eqb (length h) 128) (offerOf (recordIn h) s q .a
     by true Repeat e d = absurd (d refl)
     by true (Offered.Refused r) e d = (refl, offer-refused (recordIn h) s q r e)
 
-pub hand-refused-keeps : (h s : List ℕ) (resource n : ℕ) (out : List ℕ) → SaidKept (handSays h s resource n out) out
+pub hand-refused-keeps : (h s : List ℕ) (x : Name) (n : ℕ) (out : List ℕ) → SaidKept (handSays h s x n out) out
 unfolding handSays
-hand-refused-keeps h s resource n out = by (eqb (length h) 128) (handOutOf (recordIn h) s resource n out .answer) refl
+hand-refused-keeps h s x n out = by (eqb (length h) 128) (handOutOf (recordIn h) s x n out .answer) refl
   where
-    by : (t : Bool) (v : Verdict) → handOutOf (recordIn h) s resource n out .answer ≡ v
-        → SaidKept (cond t (record { answer = answerOf (verdictTold v); output = handOutOf (recordIn h) s resource n out .output }) (record { answer = badRecord; output = out })) out
+    by : (t : Bool) (v : Verdict) → handOutOf (recordIn h) s x n out .answer ≡ v
+        → SaidKept (cond t (record { answer = answerOf (verdictTold v); output = handOutOf (recordIn h) s x n out .output }) (record { answer = badRecord; output = out })) out
     by false v e d = refl
     by true Accepted e d = absurd (d refl)
-    by true (Refused r) e d = hand-refused out (recordIn h) s resource n r e
+    by true (Refused r) e d = hand-refused out (recordIn h) s x n r e
 
 -- ---- all of it
 
@@ -166,6 +166,6 @@ refusals-change-nothing = record {
   pack = λ file g n out. output-kept (packSays file g n out) out (pack-refused-keeps file g n out);
   «open» = λ h s g count bytes. record-kept (openSays h s g count) h s (open-refused-keeps h s g count bytes);
   offer = λ h s q. record-kept (offerSays h s q) h s (offer-refused-keeps h s q);
-  handOut = λ h s resource n out. output-kept (handSays h s resource n out) out (hand-refused-keeps h s resource n out);
-  close = λ h s resource bytes. record-kept (closeSays h s resource) h s (close-refused-keeps h s resource bytes);
+  handOut = λ h s x n out. output-kept (handSays h s x n out) out (hand-refused-keeps h s x n out);
+  close = λ h s x bytes. record-kept (closeSays h s x) h s (close-refused-keeps h s x bytes);
 }

@@ -13,7 +13,7 @@ use Rattle.refusals.specs.declared.Refusal.the-variants.{Slot}
 use Rattle.places.specs.declared.Record.{Record}
 use Rattle.places.specs.declared.Found.{Found}
 use Rattle.places.specs.declared.Found.the-variants.{At, Nothing}
-use Rattle.places.specs.Places.{unused, good, placeNamed}
+use Rattle.places.specs.Places.{Name, unused, good, placeNamed}
 use Rattle.places.proofs.Facts.{named-facts}
 use Rattle.contents.specs.Contents.{Slot as Content, contents, anyWrong, filled, lowestEmpty}
 use Rattle.contents.proofs.Places.{length-contents}
@@ -34,29 +34,29 @@ standing-short c h = by (anyWrong c) (lowestEmpty c 0) refl
     by false (At k) e = omega (arith, filled-most c, lowest-found c k e .below)
     by false Nothing e = omega (arith, filled-most c)
 
-status-short : (h : Record) (s : List ℕ) (resource : ℕ) → answerOf (standingTold (statusOf h s resource)) < 18446744073709551616
+status-short : (h : Record) (s : List ℕ) (x : Name) → answerOf (standingTold (statusOf h s x)) < 18446744073709551616
 unfolding statusOf
-status-short h s resource = by (good (length s) (h .places)) refl (placeNamed (h .places) resource) refl
+status-short h s x = by (good (length s) (h .places)) refl (placeNamed (h .places) x) refl
   where
-    by : (b : Bool) → good (length s) (h .places) ≡ b → (f : Found) → placeNamed (h .places) resource ≡ f
+    by : (b : Bool) → good (length s) (h .places) ≡ b → (f : Found) → placeNamed (h .places) x ≡ f
         → answerOf (standingTold (cond b (statusFound h s f) (Standing.Refused Refusal.Record))) < 18446744073709551616
     by false g f e = omega arith
     by true g Nothing e = omega arith
     by true g (At i) e =
         let p = getD (h .places) i unused in
-        let most : p .count ≤ 1048575 = named-facts (length s) (h .places) g resource i e .count-most in
+        let most : p .count ≤ 1048575 = named-facts (length s) (h .places) g x i e .count-most in
         standing-short (contents p s) (omega (arith, length-contents p s))
 
-module _ (h s : List ℕ) (resource : ℕ) (r : ℕ) where
-  pub status-bad : (length h ≡ 128 → ⊥) → r ≡ badRecord → r ≡ statusSays h s resource
+module _ (h s : List ℕ) (x : Name) (r : ℕ) where
+  pub status-bad : (length h ≡ 128 → ⊥) → r ≡ badRecord → r ≡ statusSays h s x
   unfolding statusSays
   status-bad d e = let t : eqb (length h) 128 ≡ false = ne-eqb (length h) 128 d in rw t e
 
-  pub status-says : (held : Record) (o : Standing) → length h ≡ 128 → held ≡ recordIn h → o ≡ statusOf held s resource → r ≡ answerOf (standingTold o) → r ≡ statusSays h s resource
+  pub status-says : (held : Record) (o : Standing) → length h ≡ 128 → held ≡ recordIn h → o ≡ statusOf held s x → r ≡ answerOf (standingTold o) → r ≡ statusSays h s x
   unfolding statusSays
   status-says held o n e a d =
       let t : eqb (length h) 128 ≡ true = eq-eqb (length h) 128 n in
-      rw t (d ∙ ap (λ (y : Standing). answerOf (standingTold y)) (a ∙ ap (λ (y : Record). statusOf y s resource) e))
+      rw t (d ∙ ap (λ (y : Standing). answerOf (standingTold y)) (a ∙ ap (λ (y : Record). statusOf y s x) e))
 
-pub standing-fits : (held : Record) (s : List ℕ) (resource : ℕ) (o : Standing) → o ≡ statusOf held s resource → answerOf (standingTold o) < 18446744073709551616
-standing-fits held s resource o e = subst (λ (y : Standing). answerOf (standingTold y) < 18446744073709551616) (sym e) (status-short held s resource)
+pub standing-fits : (held : Record) (s : List ℕ) (x : Name) (o : Standing) → o ≡ statusOf held s x → answerOf (standingTold o) < 18446744073709551616
+standing-fits held s x o e = subst (λ (y : Standing). answerOf (standingTold y) < 18446744073709551616) (sym e) (status-short held s x)

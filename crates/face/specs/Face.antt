@@ -17,6 +17,7 @@ use Rattle.packet.specs.Packet.{readOf}
 use Rattle.packet.specs.Told.{readingTold}
 use Rattle.pack.specs.Pack.{packOf}
 use Rattle.pack.specs.Told.{packedTold}
+use Rattle.places.specs.Places.{Name}
 use Rattle.opening.specs.Open.{openOf, closeOf}
 use Rattle.record.specs.Offer.{offerOf}
 use Rattle.record.specs.Told.{offeredTold}
@@ -102,12 +103,12 @@ openSays h s g count =
     })
     (record { answer = badRecord; held = h; store = s })
 
-unfoldable pub closeSays : List ℕ → List ℕ → ℕ → Kept
-closeSays h s resource =
+unfoldable pub closeSays : List ℕ → List ℕ → Name → Kept
+closeSays h s x =
     cond (eqb (length h) 128)
     (record {
-      answer = answerOf (verdictTold (closeOf (recordIn h) s resource .verdict));
-      held = recordBytes (closeOf (recordIn h) s resource .«record»);
+      answer = answerOf (verdictTold (closeOf (recordIn h) s x .verdict));
+      held = recordBytes (closeOf (recordIn h) s x .«record»);
       store = s;
     })
     (record { answer = badRecord; held = h; store = s })
@@ -120,14 +121,14 @@ offerSays h s q =
     (record { answer = badRecord; held = h; store = s })
 
 -- the value is filled + 2^24 · (lowest empty + 1), or filled alone where none is empty
-unfoldable pub statusSays : List ℕ → List ℕ → ℕ → ℕ
-statusSays h s resource = cond (eqb (length h) 128) (answerOf (standingTold (statusOf (recordIn h) s resource))) badRecord
+unfoldable pub statusSays : List ℕ → List ℕ → Name → ℕ
+statusSays h s x = cond (eqb (length h) 128) (answerOf (standingTold (statusOf (recordIn h) s x))) badRecord
 
-unfoldable pub handSays : List ℕ → List ℕ → ℕ → ℕ → List ℕ → Said
-handSays h s resource n out =
+unfoldable pub handSays : List ℕ → List ℕ → Name → ℕ → List ℕ → Said
+handSays h s x n out =
     cond (eqb (length h) 128)
     (record {
-      answer = answerOf (verdictTold (handOutOf (recordIn h) s resource n out .answer));
-      output = handOutOf (recordIn h) s resource n out .output;
+      answer = answerOf (verdictTold (handOutOf (recordIn h) s x n out .answer));
+      output = handOutOf (recordIn h) s x n out .output;
     })
     (record { answer = badRecord; output = out })

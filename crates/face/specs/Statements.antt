@@ -7,6 +7,7 @@ use Prim.Native.Nat.{ℕ, _%_}
 use lib.ListN.{length}
 use Rattle.code.specs.Code.{Bytes}
 use Rattle.settings.specs.declared.Settings.{Settings}
+use Rattle.places.specs.Places.{Name}
 use Rattle.opening.specs.Open.{openOf, closeOf}
 use Rattle.face.specs.Layout.{recordIn}
 use Rattle.face.specs.Face.{Said, Says, Kept, Keeps, encodeSays, repairSays, readSays, packSays, openSays, offerSays, handSays, closeSays}
@@ -31,10 +32,10 @@ pub record RefusalsChangeNothing : Type 0 where
   pub pack : (file : List ℕ) (g : Settings) (n : ℕ) (out : List ℕ) → OutputKept (packSays file g n out) out
   pub «open» : (h s : List ℕ) (g : Settings) (count : ℕ) → Bytes h → RecordKept (openSays h s g count) h s
   pub offer : (h s q : List ℕ) → RecordKept (offerSays h s q) h s
-  pub handOut : (h s : List ℕ) (resource n : ℕ) (out : List ℕ) → OutputKept (handSays h s resource n out) out
-  pub close : (h s : List ℕ) (resource : ℕ) → Bytes h → RecordKept (closeSays h s resource) h s
+  pub handOut : (h s : List ℕ) (x : Name) (n : ℕ) (out : List ℕ) → OutputKept (handSays h s x n out) out
+  pub close : (h s : List ℕ) (x : Name) → Bytes h → RecordKept (closeSays h s x) h s
 
 -- after open and close the bytes hold the record that the call on records answers: calls through the face follow one another as those do
 pub record RecordsFollow : Type 0 where
   pub «open» : (h s : List ℕ) (g : Settings) (count : ℕ) → Bytes h → length h ≡ 128 → recordIn (openSays h s g count .held) ≡ openOf (recordIn h) s g count .kept .«record»
-  pub close : (h s : List ℕ) (resource : ℕ) → Bytes h → length h ≡ 128 → recordIn (closeSays h s resource .held) ≡ closeOf (recordIn h) s resource .«record»
+  pub close : (h s : List ℕ) (x : Name) → Bytes h → length h ≡ 128 → recordIn (closeSays h s x .held) ≡ closeOf (recordIn h) s x .«record»

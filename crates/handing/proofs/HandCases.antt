@@ -20,7 +20,7 @@ use Rattle.layout.proofs.Scatter.{scattered-all}
 use Rattle.places.specs.declared.Place.{Place}
 use Rattle.places.specs.declared.Record.{Record}
 use Rattle.places.specs.declared.Found.the-variants.{At, Nothing}
-use Rattle.places.specs.Places.{unused, endOf, good, placeNamed}
+use Rattle.places.specs.Places.{Name, unused, endOf, good, placeNamed}
 use Rattle.places.proofs.Facts.{named-facts}
 use Rattle.contents.specs.Contents.{Slot as Content, contents, anyWrong, lowestEmpty, joined}
 use Rattle.handing.specs.Hand.{Handing, refusing, handed, allZero, handRows, handJoined, handContents, usableIn, handPlaceOf, handFound, handOutOf}
@@ -191,35 +191,35 @@ usable-made p s u = by (eqb (p .protection) 0) refl
 
 -- ---- by the record
 
-module _ (h : Record) (s : List ℕ) (resource : ℕ) where
-  pub out-record : (n : ℕ) (out : List ℕ) → good (length s) (h .places) ≡ false → Comes (handOutOf h s resource n out) (Refused Refusal.Record) out
+module _ (h : Record) (s : List ℕ) (x : Name) where
+  pub out-record : (n : ℕ) (out : List ℕ) → good (length s) (h .places) ≡ false → Comes (handOutOf h s x n out) (Refused Refusal.Record) out
   unfolding handOutOf
   out-record n out b = comes (refusing Refusal.Record out) (rw b)
 
   module _ (b : good (length s) (h .places) ≡ true) where
     module _ (n : ℕ) (out : List ℕ) where
-      out-good : handOutOf h s resource n out ≡ handFound h s n out (placeNamed (h .places) resource)
+      out-good : handOutOf h s x n out ≡ handFound h s n out (placeNamed (h .places) x)
       unfolding handOutOf
       out-good = rw b
 
-      pub out-unknown : placeNamed (h .places) resource ≡ Nothing → Comes (handOutOf h s resource n out) (Refused Unknown) out
+      pub out-unknown : placeNamed (h .places) x ≡ Nothing → Comes (handOutOf h s x n out) (Refused Unknown) out
       out-unknown a = comes (refusing Unknown out) (out-good ∙ ap (handFound h s n out) a)
 
-      pub out-found : (i : ℕ) → placeNamed (h .places) resource ≡ At i
-          → handOutOf h s resource n out ≡ handContents (getD (h .places) i unused) (contents (getD (h .places) i unused) s) n out
+      pub out-found : (i : ℕ) → placeNamed (h .places) x ≡ At i
+          → handOutOf h s x n out ≡ handContents (getD (h .places) i unused) (contents (getD (h .places) i unused) s) n out
       out-found i a = out-good ∙ ap (handFound h s n out) a
 
     -- the place that was found is usable
-    found-usable : (i : ℕ) → placeNamed (h .places) resource ≡ At i → Usable (getD (h .places) i unused) s
+    found-usable : (i : ℕ) → placeNamed (h .places) x ≡ At i → Usable (getD (h .places) i unused) s
     found-usable i a =
-        let f = named-facts (length s) (h .places) b resource i a in
+        let f = named-facts (length s) (h .places) b x i a in
         record { ends = f .ends-within; rows = λ d. f .rows-least (one (getD (h .places) i unused .protection) (f .protection-most) d) }
       where
         one : (x : ℕ) → x ≤ 1 → (x ≡ 0 → ⊥) → x ≡ 1
         one zero l d = absurd (d refl)
         one (suc x) l d = omega arith
 
-    pub out-placed : (i : ℕ) → placeNamed (h .places) resource ≡ At i → (n : ℕ) (out : List ℕ) → handOutOf h s resource n out ≡ handPlaceOf (getD (h .places) i unused) s n out
+    pub out-placed : (i : ℕ) → placeNamed (h .places) x ≡ At i → (n : ℕ) (out : List ℕ) → handOutOf h s x n out ≡ handPlaceOf (getD (h .places) i unused) s n out
     out-placed i a n out =
         let p : Place = getD (h .places) i unused in
         out-found n out i a ∙ sym (place-usable p s n out (usable-made p s (found-usable i a)))

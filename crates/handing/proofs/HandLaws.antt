@@ -1,5 +1,5 @@
 -- What Hand out promises: document 01, section 5. Of slots that all hold the payloads of a file the file is handed out, with and without protection; a refusal
--- changes nothing; nothing is seen of the store but the contents of the resource's place. Assumes nothing.
+-- changes nothing; nothing is seen of the store but the contents of the place. Assumes nothing.
 use mathlib.Core.Path.{_≡_, refl, sym, ap, ap₂, _∙_}
 use mathlib.Core.Bool.{Bool, true, false, cond, not}
 use mathlib.Core.List.{List, _++_}
@@ -20,7 +20,7 @@ use Rattle.places.specs.declared.Place.{Place}
 use Rattle.places.specs.declared.Record.{Record}
 use Rattle.places.specs.declared.Found.{Found}
 use Rattle.places.specs.declared.Found.the-variants.{At, Nothing}
-use Rattle.places.specs.Places.{unused, good, placeNamed}
+use Rattle.places.specs.Places.{Name, unused, good, placeNamed}
 use Rattle.contents.specs.Contents.{Slot as Content, wrong, holding, contents, anyWrong, filled, lowestEmpty, joined}
 use Rattle.contents.proofs.Filled.{holding-right, holding-all, holding-filled, holding-lowest, joined-whole}
 use Rattle.handing.specs.Hand.{Handing, refusing, handed, allZero, handRows, handJoined, handFilled, handContents, handFound, handOutOf}
@@ -142,19 +142,19 @@ module _ (out : List ℕ) where
   leaves-found h s n (At i) = leaves-contents (getD (h .places) i unused) (contents (getD (h .places) i unused) s) n
   leaves-found h s n Nothing = leaves-refusing Unknown
 
-  pub hand-refused : (h : Record) (s : List ℕ) (resource n : ℕ) (r : Refusal) → handOutOf h s resource n out .answer ≡ Refused r → handOutOf h s resource n out .output ≡ out
+  pub hand-refused : (h : Record) (s : List ℕ) (x : Name) (n : ℕ) (r : Refusal) → handOutOf h s x n out .answer ≡ Refused r → handOutOf h s x n out .output ≡ out
   unfolding handOutOf
-  hand-refused h s resource n =
-      leaves-or (good (length s) (h .places)) _ _ (leaves-found h s n (placeNamed (h .places) resource)) (leaves-refusing Refusal.Record)
+  hand-refused h s x n =
+      leaves-or (good (length s) (h .places)) _ _ (leaves-found h s n (placeNamed (h .places) x)) (leaves-refusing Refusal.Record)
 
--- ---- two stores of one length, with the same contents at the resource's place
+-- ---- two stores of one length, with the same contents at the place
 
-module _ (h : Record) (s t : List ℕ) (resource : ℕ) (l : length s ≡ length t)
-    (same : (i : ℕ) → placeNamed (h .places) resource ≡ At i → contents (getD (h .places) i unused) s ≡ contents (getD (h .places) i unused) t) where
-  pub hand-same : (n : ℕ) (out : List ℕ) → handOutOf h s resource n out ≡ handOutOf h t resource n out
+module _ (h : Record) (s t : List ℕ) (x : Name) (l : length s ≡ length t)
+    (same : (i : ℕ) → placeNamed (h .places) x ≡ At i → contents (getD (h .places) i unused) s ≡ contents (getD (h .places) i unused) t) where
+  pub hand-same : (n : ℕ) (out : List ℕ) → handOutOf h s x n out ≡ handOutOf h t x n out
   unfolding handOutOf
   hand-same n out =
-      ap₂ (λ (x : ℕ) (y : Handing). cond (good x (h .places)) y (refusing Refusal.Record out)) l (by (placeNamed (h .places) resource) same)
+      ap₂ (λ (x : ℕ) (y : Handing). cond (good x (h .places)) y (refusing Refusal.Record out)) l (by (placeNamed (h .places) x) same)
     where
       by : (e : Found) → ((i : ℕ) → e ≡ At i → contents (getD (h .places) i unused) s ≡ contents (getD (h .places) i unused) t) → handFound h s n out e ≡ handFound h t n out e
       by (At i) f = ap (λ (x : List Content). handContents (getD (h .places) i unused) x n out) (f i refl)

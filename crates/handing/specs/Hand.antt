@@ -1,4 +1,4 @@
--- Hand out: document 01, section 5. Refusals in the order 9, 10, 15, 21, 22, 23, 24, 26.
+-- Hand out: document 01, section 5; by resource and type, document 02, R-1. Refusals in the order 9, 10, 15, 21, 22, 23, 24, 26.
 -- Assumes nothing.
 use mathlib.Core.Bool.{Bool, true, cond, not, _&&_, _||_}
 use mathlib.Core.List.{List, [], _∷_, _++_}
@@ -14,7 +14,7 @@ use Rattle.places.specs.declared.Place.{Place}
 use Rattle.places.specs.declared.Record.{Record}
 use Rattle.places.specs.declared.Found.{Found}
 use Rattle.places.specs.declared.Found.the-variants.{At, Nothing}
-use Rattle.places.specs.Places.{unused, endOf, good, placeNamed}
+use Rattle.places.specs.Places.{Name, unused, endOf, good, placeNamed}
 use Rattle.contents.specs.Contents.{Slot as Content, contents, anyWrong, lowestEmpty, joined}
 
 -- what is answered, and what the output then holds
@@ -65,6 +65,6 @@ abbrev pub handFound : Record → List ℕ → ℕ → List ℕ → Found → Ha
 handFound h s n out (At i) = handContents (getD (h .places) i unused) (contents (getD (h .places) i unused) s) n out
 handFound h s n out Nothing = refusing Unknown out
 
-unfoldable pub handOutOf : Record → List ℕ → ℕ → ℕ → List ℕ → Handing
-handOutOf h s resource n out =
-    cond (good (length s) (h .places)) (handFound h s n out (placeNamed (h .places) resource)) (refusing Refusal.Record out)
+unfoldable pub handOutOf : Record → List ℕ → Name → ℕ → List ℕ → Handing
+handOutOf h s x n out =
+    cond (good (length s) (h .places)) (handFound h s n out (placeNamed (h .places) x)) (refusing Refusal.Record out)

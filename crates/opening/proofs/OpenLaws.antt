@@ -17,7 +17,7 @@ use Rattle.settings.specs.declared.Settings.{Settings}
 use Rattle.settings.specs.Settings.{settingsFit}
 use Rattle.places.specs.declared.Record.{Record}
 use Rattle.places.specs.declared.Found.the-variants.{At, Nothing}
-use Rattle.places.specs.Places.{unused, inUse, usable, coverOf, endOf, meets, placeOf, good, placeNamed, firstUnused}
+use Rattle.places.specs.Places.{Name, settingsName, unused, inUse, usable, coverOf, endOf, meets, placeOf, good, placeNamed, firstUnused}
 use Rattle.places.specs.Room.{free}
 use Rattle.places.proofs.Facts.{usable-limit, usable-within}
 use Rattle.places.proofs.Holders.{unused-at, unused-none, named-new, named-other}
@@ -77,13 +77,13 @@ module _ (h : Record) (n : ℕ) (g : Settings) (count i start : ℕ) (t : Taking
   pub open-own : getD (set (h .places) i (placeOf g count start)) i unused ≡ placeOf g count start
   open-own = getD-set-same (h .places) i (placeOf g count start) unused open-below
 
-  -- the resource is found at the new place, and every other where it was
-  pub open-named : placeNamed (set (h .places) i (placeOf g count start)) (g .resource) ≡ At i
+  -- its name is found at the new place, and every other where it was
+  pub open-named : placeNamed (set (h .places) i (placeOf g count start)) (settingsName g) ≡ At i
   open-named =
-      named-new (h .places) i (placeOf g count start) (g .resource) (t .absent) open-below
-      (names-yes (placeOf g count start) (g .resource) (resource-used g (t .fitting .fits)) refl)
+      named-new (h .places) i (placeOf g count start) (settingsName g) (t .absent) open-below
+      (names-yes (placeOf g count start) (settingsName g) (resource-used g (t .fitting .fits)) refl)
 
-  pub open-named-other : (r : ℕ) → (g .resource ≡ r → ⊥) → placeNamed (set (h .places) i (placeOf g count start)) r ≡ placeNamed (h .places) r
+  pub open-named-other : (r : Name) → (settingsName g ≡ r → ⊥) → placeNamed (set (h .places) i (placeOf g count start)) r ≡ placeNamed (h .places) r
   open-named-other r d = named-other (h .places) i (placeOf g count start) r (unused-at (h .places) i (t .unused) .1) d
 
 -- ---- and what the store then holds
@@ -159,11 +159,11 @@ module _ (h : Record) (s : List ℕ) (g : Settings) (count : ℕ) where
 -- ---- Held, Full and Room, each exactly if nothing before refuses and ..
 
 module _ (h : Record) (n : ℕ) (g : Settings) (count : ℕ) where
-  -- .. a place holds the resource
-  pub held-only : planOf h n g count ≡ refuse Held → (j : ℕ) × (placeNamed (h .places) (g .resource) ≡ At j)
+  -- .. a place holds the resource and type
+  pub held-only : planOf h n g count ≡ refuse Held → (j : ℕ) × (placeNamed (h .places) (settingsName g) ≡ At j)
   held-only e = by (rw e at (reason h n g count))
     where
-      by : Reason h n g count (refuse Held) → (j : ℕ) × (placeNamed (h .places) (g .resource) ≡ At j)
+      by : Reason h n g count (refuse Held) → (j : ℕ) × (placeNamed (h .places) (settingsName g) ≡ At j)
       by (held f j a) = (j, a)
 
   -- .. every place is in use
@@ -180,6 +180,6 @@ module _ (h : Record) (n : ℕ) (g : Settings) (count : ℕ) where
       by : Reason h n g count (refuse Room) → (x : ℕ) → free n (coverOf count (g .size)) (h .places) x ≡ false
       by (lacking f a i u l) = lowest-none n (coverOf count (g .size)) (h .places) l
 
-  pub room-then : Fitting h n g count → placeNamed (h .places) (g .resource) ≡ Nothing → (i : ℕ) → firstUnused (h .places) ≡ At i
+  pub room-then : Fitting h n g count → placeNamed (h .places) (settingsName g) ≡ Nothing → (i : ℕ) → firstUnused (h .places) ≡ At i
       → ((x : ℕ) → free n (coverOf count (g .size)) (h .places) x ≡ false) → planOf h n g count ≡ refuse Room
   room-then f a i u none = plan-room h n g count f a i u (none-lowest n (coverOf count (g .size)) (h .places) none)

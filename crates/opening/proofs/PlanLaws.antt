@@ -14,7 +14,7 @@ use Rattle.settings.specs.Settings.{settingsFit}
 use Rattle.places.specs.declared.Record.{Record}
 use Rattle.places.specs.declared.Found.{Found}
 use Rattle.places.specs.declared.Found.the-variants.{At, Nothing}
-use Rattle.places.specs.Places.{coverOf, placeOf, countFits, good, placeNamed, firstUnused}
+use Rattle.places.specs.Places.{settingsName, coverOf, placeOf, countFits, good, placeNamed, firstUnused}
 use Rattle.places.specs.Room.{lowestStart}
 use Rattle.contents.specs.Slots.{cleared}
 use Rattle.opening.specs.declared.Planned.the-variants.{Refuse, Take}
@@ -52,14 +52,14 @@ module _ (h : Record) (n : ℕ) (g : Settings) (count : ℕ) where
       plan-count e = rw (b, f, e)
 
       module _ (e : countFits count ≡ true) where
-        plan-fits : planOf h n g count ≡ withHolder h n (coverOf count (g .size)) (placeNamed (h .places) (g .resource))
+        plan-fits : planOf h n g count ≡ withHolder h n (coverOf count (g .size)) (placeNamed (h .places) (settingsName g))
         unfolding planOf
         plan-fits = rw (b, f, e)
 
-        pub plan-held : (j : ℕ) → placeNamed (h .places) (g .resource) ≡ At j → planOf h n g count ≡ refuse Held
+        pub plan-held : (j : ℕ) → placeNamed (h .places) (settingsName g) ≡ At j → planOf h n g count ≡ refuse Held
         plan-held j a = plan-fits ∙ ap (withHolder h n (coverOf count (g .size))) a
 
-        pub plan-new : placeNamed (h .places) (g .resource) ≡ Nothing
+        pub plan-new : placeNamed (h .places) (settingsName g) ≡ Nothing
             → planOf h n g count ≡ withUnused h n (coverOf count (g .size)) (firstUnused (h .places))
         plan-new a = plan-fits ∙ ap (withHolder h n (coverOf count (g .size))) a
 
@@ -74,7 +74,7 @@ pub record Fitting (h : Record) (n : ℕ) (g : Settings) (count : ℕ) : Type 0 
 -- place i is unused, and the bytes go from the start on
 pub record Taking (h : Record) (n : ℕ) (g : Settings) (count i start : ℕ) : Type 0 where
   pub fitting : Fitting h n g count
-  pub absent : placeNamed (h .places) (g .resource) ≡ Nothing
+  pub absent : placeNamed (h .places) (settingsName g) ≡ Nothing
   pub unused : firstUnused (h .places) ≡ At i
   pub lowest : lowestStart n (coverOf count (g .size)) (h .places) ≡ At start
 
@@ -82,20 +82,20 @@ pub record Taking (h : Record) (n : ℕ) (g : Settings) (count i start : ℕ) : 
 pub data Reason (h : Record) (n : ℕ) (g : Settings) (count : ℕ) : Plan → Type 0 where
   unsound : good n (h .places) ≡ false → Reason h n g count (refuse Refusal.Record)
   unfit : good n (h .places) ≡ true → (settingsFit g && countFits count) ≡ false → Reason h n g count (refuse Field)
-  held : Fitting h n g count → (j : ℕ) → placeNamed (h .places) (g .resource) ≡ At j → Reason h n g count (refuse Held)
-  full : Fitting h n g count → placeNamed (h .places) (g .resource) ≡ Nothing → firstUnused (h .places) ≡ Nothing → Reason h n g count (refuse Full)
-  lacking : Fitting h n g count → placeNamed (h .places) (g .resource) ≡ Nothing → (i : ℕ) → firstUnused (h .places) ≡ At i
+  held : Fitting h n g count → (j : ℕ) → placeNamed (h .places) (settingsName g) ≡ At j → Reason h n g count (refuse Held)
+  full : Fitting h n g count → placeNamed (h .places) (settingsName g) ≡ Nothing → firstUnused (h .places) ≡ Nothing → Reason h n g count (refuse Full)
+  lacking : Fitting h n g count → placeNamed (h .places) (settingsName g) ≡ Nothing → (i : ℕ) → firstUnused (h .places) ≡ At i
       → lowestStart n (coverOf count (g .size)) (h .places) ≡ Nothing → Reason h n g count (refuse Room)
   taken : {i start : ℕ} → Taking h n g count i start → Reason h n g count (take i start)
 
 module _ (h : Record) (n : ℕ) (g : Settings) (count : ℕ) where
-  new : Fitting h n g count → placeNamed (h .places) (g .resource) ≡ Nothing → planOf h n g count ≡ withUnused h n (coverOf count (g .size)) (firstUnused (h .places))
+  new : Fitting h n g count → placeNamed (h .places) (settingsName g) ≡ Nothing → planOf h n g count ≡ withUnused h n (coverOf count (g .size)) (firstUnused (h .places))
   new t a = plan-new h n g count (t .sound) (t .fits) (t .counted) a
 
-  pub plan-full : Fitting h n g count → placeNamed (h .places) (g .resource) ≡ Nothing → firstUnused (h .places) ≡ Nothing → planOf h n g count ≡ refuse Full
+  pub plan-full : Fitting h n g count → placeNamed (h .places) (settingsName g) ≡ Nothing → firstUnused (h .places) ≡ Nothing → planOf h n g count ≡ refuse Full
   plan-full t a u = new t a ∙ room-full h n (coverOf count (g .size)) u
 
-  pub plan-room : Fitting h n g count → placeNamed (h .places) (g .resource) ≡ Nothing → (i : ℕ) → firstUnused (h .places) ≡ At i
+  pub plan-room : Fitting h n g count → placeNamed (h .places) (settingsName g) ≡ Nothing → (i : ℕ) → firstUnused (h .places) ≡ At i
       → lowestStart n (coverOf count (g .size)) (h .places) ≡ Nothing → planOf h n g count ≡ refuse Room
   plan-room t a i u l = new t a ∙ room-none h n (coverOf count (g .size)) i u l
 
@@ -105,23 +105,23 @@ module _ (h : Record) (n : ℕ) (g : Settings) (count : ℕ) where
   pub reason : Reason h n g count (planOf h n g count)
   reason = judged (good n (h .places)) (settingsFit g) (countFits count) refl refl refl
     where
-      placed : Fitting h n g count → placeNamed (h .places) (g .resource) ≡ Nothing → (i : ℕ) → firstUnused (h .places) ≡ At i
+      placed : Fitting h n g count → placeNamed (h .places) (settingsName g) ≡ Nothing → (i : ℕ) → firstUnused (h .places) ≡ At i
           → (l : Found) → lowestStart n (coverOf count (g .size)) (h .places) ≡ l → Reason h n g count (planOf h n g count)
       placed t a i u (At s) l =
           let r : Taking h n g count i s = record { fitting = t; absent = a; unused = u; lowest = l } in
           rw (taking-plan i s r) (taken r)
       placed t a i u Nothing l = rw (plan-room t a i u l) (lacking t a i u l)
 
-      searched : Fitting h n g count → placeNamed (h .places) (g .resource) ≡ Nothing → (u : Found) → firstUnused (h .places) ≡ u → Reason h n g count (planOf h n g count)
+      searched : Fitting h n g count → placeNamed (h .places) (settingsName g) ≡ Nothing → (u : Found) → firstUnused (h .places) ≡ u → Reason h n g count (planOf h n g count)
       searched t a (At i) u = placed t a i u (lowestStart n (coverOf count (g .size)) (h .places)) refl
       searched t a Nothing u = rw (plan-full t a u) (full t a u)
 
-      named : Fitting h n g count → (a : Found) → placeNamed (h .places) (g .resource) ≡ a → Reason h n g count (planOf h n g count)
+      named : Fitting h n g count → (a : Found) → placeNamed (h .places) (settingsName g) ≡ a → Reason h n g count (planOf h n g count)
       named t (At j) a = rw (plan-held h n g count (t .sound) (t .fits) (t .counted) j a) (held t j a)
       named t Nothing a = searched t a (firstUnused (h .places)) refl
 
       judged : (b f c : Bool) → good n (h .places) ≡ b → settingsFit g ≡ f → countFits count ≡ c → Reason h n g count (planOf h n g count)
-      judged true true true b f c = named (record { sound = b; fits = f; counted = c }) (placeNamed (h .places) (g .resource)) refl
+      judged true true true b f c = named (record { sound = b; fits = f; counted = c }) (placeNamed (h .places) (settingsName g)) refl
       judged true true false b f c = rw (plan-count h n g count b f c) (unfit b (rw (f, c)))
       judged true false c b f e = rw (plan-settings h n g count b f) (unfit b (rw f))
       judged false f c b e d = rw (plan-record h n g count b) (unsound b)

@@ -1,4 +1,4 @@
--- Open and Close: document 01, section 5. Refusals in the orders 9, 17, 18, 19, 20 and 9, 10.
+-- Open and Close: document 01, section 5; by resource and type, document 02, R-1. Refusals in the orders 9, 17, 18, 19, 20 and 9, 10.
 -- Assumes nothing.
 use mathlib.Core.Path.{_≡_}
 use mathlib.Core.Bool.{cond, not, _&&_}
@@ -13,7 +13,7 @@ use Rattle.settings.specs.Settings.{settingsFit}
 use Rattle.places.specs.declared.Record.{Record}
 use Rattle.places.specs.declared.Found.{Found}
 use Rattle.places.specs.declared.Found.the-variants.{At, Nothing}
-use Rattle.places.specs.Places.{unused, coverOf, placeOf, countFits, good, placeNamed, firstUnused}
+use Rattle.places.specs.Places.{Name, settingsName, unused, coverOf, placeOf, countFits, good, placeNamed, firstUnused}
 use Rattle.places.specs.Room.{lowestStart}
 use Rattle.contents.specs.Slots.{cleared}
 use Rattle.opening.specs.declared.Kept.{Kept}
@@ -42,7 +42,7 @@ unfoldable pub planOf : Record → ℕ → Settings → ℕ → Plan
 planOf h n g count =
     cond (not (good n (h .places))) (refuse Refusal.Record)
     (cond (not (settingsFit g && countFits count)) (refuse Field)
-    (withHolder h n (coverOf count (g .size)) (placeNamed (h .places) (g .resource))))
+    (withHolder h n (coverOf count (g .size)) (placeNamed (h .places) (settingsName g))))
 
 -- what is answered with the record, and what the store then holds
 pub record Opening : Type 0 where
@@ -70,7 +70,7 @@ abbrev pub closedAt : Record → Found → Kept
 closedAt h (At i) = record { «record» = record { places = set (h .places) i unused }; verdict = Accepted }
 closedAt h Nothing = record { «record» = h; verdict = Refused Unknown }
 
-unfoldable pub closeOf : Record → List ℕ → ℕ → Kept
-closeOf h s resource =
+unfoldable pub closeOf : Record → List ℕ → Name → Kept
+closeOf h s x =
     cond (not (good (length s) (h .places))) (record { «record» = h; verdict = Refused Refusal.Record })
-    (closedAt h (placeNamed (h .places) resource))
+    (closedAt h (placeNamed (h .places) x))

@@ -54,7 +54,7 @@ fn plan_open(held: Record, n: usize, settings: Settings, count: u32) -> Planned
     if !places::count_fits(count) {
         return Planned::Refuse(Refusal::Field);
     }
-    if let Found::At(_) = places::find_place(held, settings.resource) {
+    if let Found::At(_) = places::find_place(held, settings.resource, settings.kind) {
         return Planned::Refuse(Refusal::Held);
     }
     room_for(held, n, places::cover_of(count, settings.size))
@@ -111,9 +111,9 @@ pub fn open_house(
     open(held, store, settings::house(resource, kind, update), count)
 }
 
-// Makes the place that holds a resource unused, all its fields 0. The store stays. Refused, the record is as it came.
-pub fn close(held: Record, store: &[u8], resource: u16) -> Kept
-    ensures { λ r. ⌜ r ≡ closeOf held (now (store .entry)) resource ⌝ }
+// Makes the place that holds a resource and a type unused, all its fields 0. The store stays. Refused, the record is as it came.
+pub fn close(held: Record, store: &[u8], resource: u16, kind: u8) -> Kept
+    ensures { λ r. ⌜ r ≡ closeOf held (now (store .entry)) (record { resource = resource; kind = kind }) ⌝ }
 {
     if !room::is_good(held, store.len()) {
         return Kept {
@@ -121,7 +121,7 @@ pub fn close(held: Record, store: &[u8], resource: u16) -> Kept
             verdict: Verdict::Refused(Refusal::Record),
         };
     }
-    let Found::At(i) = places::find_place(held, resource) else {
+    let Found::At(i) = places::find_place(held, resource, kind) else {
         return Kept {
             record: held,
             verdict: Verdict::Refused(Refusal::Unknown),

@@ -15,7 +15,7 @@ use Rattle.refusals.specs.declared.Refusal.the-variants.{Short, Mark, Length, �
 use Rattle.packet.specs.declared.Packet.{Packet}
 use Rattle.packet.specs.declared.Reading.{Reading}
 use Rattle.packet.specs.declared.Reading.the-variants.{Sent, Refused}
-use Rattle.packet.specs.Packet.{resourceIn, fieldsIn, marked, badProtection, badNumber, badRows, judged, readOf, headerOf}
+use Rattle.packet.specs.Packet.{resourceIn, kindIn, fieldsIn, marked, badProtection, badNumber, badRows, judged, readOf, headerOf}
 use Rattle.packet.specs.Range.{InRange}
 
 -- ---- a header that was written
@@ -81,6 +81,10 @@ header-bytes f r m = small-at (headerOf f) (omega arith)
 pub resource-in : (q : List ℕ) → fieldsIn q .resource ≡ resourceIn q
 unfolding fieldsIn
 resource-in q = refl
+
+pub kind-in : (q : List ℕ) → fieldsIn q .kind ≡ kindIn q
+unfolding fieldsIn
+kind-in q = refl
 
 -- the fields depend on the first fourteen bytes alone
 module _ (q : List ℕ) where

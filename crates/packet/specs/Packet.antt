@@ -14,6 +14,10 @@ use Rattle.packet.specs.declared.Reading.the-variants.{Sent, Refused}
 abbrev pub resourceIn : List ℕ → ℕ
 resourceIn q = getD q 3 0 * 256 + getD q 4 0
 
+-- the two high bits of byte 12
+abbrev pub kindIn : List ℕ → ℕ
+kindIn q = getD q 12 0 / 64
+
 -- the fields, in the table's order
 unfoldable pub fieldsIn : List ℕ → Packet
 fieldsIn q = record {
@@ -22,7 +26,7 @@ fieldsIn q = record {
   update = getD q 7 0 % 16;
   length = getD q 8 0 * 16 + getD q 9 0 / 16;
   count = getD q 9 0 % 16 * 65536 + getD q 10 0 * 256 + getD q 11 0;
-  kind = getD q 12 0 / 64;
+  kind = kindIn q;
   protection = getD q 12 0 / 16 % 4;
   rows = getD q 12 0 % 16 * 16 + getD q 13 0 / 16;
   reserved = getD q 13 0 % 16;

@@ -5,22 +5,16 @@ use mathlib.Core.Logic.{_⊎_, inl, inr, ⊎-map}
 use mathlib.Core.Bool.{Bool, true, false, not, _||_, and-comm, or-comm, and-false, Bool·not-not}
 use Prim.Native.Nat.{ℕ, _<_, _≤_}
 use native.Mathlib.Omega.{arith}
-use borrow.Author.Tests.{eq-eqb, ne-eqb, le-leb, lt-leb, leb-true, leb-false, eqb-true, eqb-false, not-true, not-false}
-use lib.Dec.{eqb, leb}
+use borrow.Author.Tests.{le-leb, lt-leb, leb-true, leb-false, not-true, not-false}
+use lib.Dec.{leb}
 use Rattle.places.specs.declared.Place.{Place}
-use Rattle.places.specs.Places.{inUse, endOf, meets, agree}
+use Rattle.places.specs.Places.{inUse, placeName, sameName, endOf, meets, agree}
 use Rattle.ground.proofs.Truth.{differ, either, neither, or-right}
-
-eqb-sym : (a b : ℕ) → eqb a b ≡ eqb b a
-eqb-sym a b = by (eqb a b) refl
-  where
-    by : (x : Bool) → eqb a b ≡ x → x ≡ eqb b a
-    by true e = sym (eq-eqb b a (sym (eqb-true a b e)))
-    by false e = sym (ne-eqb b a (λ z. eqb-false a b e (sym z)))
+use Rattle.places.proofs.Named.{same-name, other-name, same-name-sym}
 
 pub agree-sym : (p q : Place) → agree p q ≡ agree q p
 unfolding agree meets
-agree-sym p q = rw (and-comm (inUse p) (inUse q), eqb-sym (p .resource) (q .resource), or-comm (leb (endOf p) (q .start)) (leb (endOf q) (p .start)))
+agree-sym p q = rw (and-comm (inUse p) (inUse q), same-name-sym (placeName p) (placeName q), or-comm (leb (endOf p) (q .start)) (leb (endOf q) (p .start)))
 
 module _ (p q : Place) where
   -- an unused place agrees with every place
@@ -33,15 +27,15 @@ module _ (p q : Place) where
   agree-right u = rw (u, and-false)
 
   module _ (u : inUse p ≡ true) (v : inUse q ≡ true) where
-    -- places in use agree by their resources and their bytes
-    agree-used : agree p q ≡ not (eqb (p .resource) (q .resource) || meets p q)
+    -- places in use agree by their names and their bytes
+    agree-used : agree p q ≡ not (sameName (placeName p) (placeName q) || meets p q)
     unfolding agree
     agree-used = rw (u, v)
 
-    pub agree-shared : p .resource ≡ q .resource → agree p q ≡ false
-    agree-shared e = agree-used ∙ rw (eq-eqb _ _ e)
+    pub agree-shared : placeName p ≡ placeName q → agree p q ≡ false
+    agree-shared e = agree-used ∙ rw (same-name _ _ e)
 
-    pub agree-other : agree p q ≡ true → p .resource ≡ q .resource → ⊥
+    pub agree-other : agree p q ≡ true → placeName p ≡ placeName q → ⊥
     agree-other e z = differ (sym e ∙ agree-shared z)
 
     pub agree-apart : agree p q ≡ true → (endOf p ≤ q .start) ⊎ (endOf q ≤ p .start)
@@ -49,12 +43,12 @@ module _ (p q : Place) where
     agree-apart e =
         ⊎-map (leb-true (endOf p) (q .start)) (leb-true (endOf q) (p .start))
         (either (leb (endOf p) (q .start)) (leb (endOf q) (p .start))
-        (not-false _ (neither (eqb (p .resource) (q .resource)) (meets p q) (not-true _ (sym agree-used ∙ e)) .1)))
+        (not-false _ (neither (sameName (placeName p) (placeName q)) (meets p q) (not-true _ (sym agree-used ∙ e)) .1)))
 
-    module _ (d : p .resource ≡ q .resource → ⊥) where
+    module _ (d : placeName p ≡ placeName q → ⊥) where
       agree-bytes : agree p q ≡ (leb (endOf p) (q .start) || leb (endOf q) (p .start))
       unfolding meets
-      agree-bytes = agree-used ∙ rw (ne-eqb _ _ d) (Bool·not-not _)
+      agree-bytes = agree-used ∙ rw (other-name _ _ d) (Bool·not-not _)
 
       pub agree-before : endOf p ≤ q .start → agree p q ≡ true
       agree-before l = agree-bytes ∙ rw (le-leb _ _ l)

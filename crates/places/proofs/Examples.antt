@@ -11,11 +11,17 @@ use Rattle.settings.specs.Settings.{settingsFit}
 use Rattle.places.specs.declared.Place.{Place}
 use Rattle.places.specs.declared.Found.{Found}
 use Rattle.places.specs.declared.Found.the-variants.{At, Nothing}
-use Rattle.places.specs.Places.{unused, freshRecord, coverOf, endOf, meets, placeOf, rangesFit, fits, agree, good, firstFrom, placeNamed, firstUnused}
+use Rattle.places.specs.Places.{unused, freshRecord, Name, sameName, coverOf, endOf, meets, placeOf, rangesFit, fits, agree, good, firstFrom, placeNamed, firstUnused}
 use Rattle.places.specs.Room.{clear, free, lowestFrom, lowestStart}
 
 abbrev asked : ℕ → Settings
 asked resource = record { resource = resource; kind = 1; update = 0; protection = 0; rows = 0; size = 8 }
+
+abbrev file : ℕ → Name
+file resource = record { resource = resource; kind = 1 }
+
+abbrev description : ℕ → Name
+description resource = record { resource = resource; kind = 2 }
 
 abbrev one : List Place
 one = set (freshRecord .places) 0 (placeOf (asked 7) 5 0)
@@ -34,9 +40,9 @@ unfolding lowestStart lowestFrom free clear endOf
 opens = (refl, refl, refl, refl)
 
 judged : (good 100 two ≡ true) × (good 100 closed ≡ true)
-unfolding good fits agree meets rangesFit settingsFit endOf
+unfolding good fits agree sameName meets rangesFit settingsFit endOf
 judged = (refl, refl)
 
-found : (firstUnused two ≡ At 2) × (firstUnused closed ≡ At 0) × (placeNamed two 9 ≡ At 1) × (placeNamed closed 7 ≡ Nothing)
-unfolding firstFrom
-found = (refl, refl, refl, refl)
+found : (firstUnused two ≡ At 2) × (firstUnused closed ≡ At 0) × (placeNamed two (file 9) ≡ At 1) × (placeNamed two (description 9) ≡ Nothing) × (placeNamed closed (file 7) ≡ Nothing)
+unfolding firstFrom sameName
+found = (refl, refl, refl, refl, refl)

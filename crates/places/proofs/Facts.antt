@@ -14,10 +14,10 @@ use Rattle.settings.specs.Settings.{settingsFit, rowsHeld}
 use Rattle.settings.proofs.Laws.{SettingsFacts, settings-facts}
 use Rattle.places.specs.declared.Place.{Place}
 use Rattle.places.specs.declared.Found.the-variants.{At}
-use Rattle.places.specs.Places.{unused, inUse, names, usable, endOf, settingsIn, countFits, rangesFit, fits, good, placeNamed}
+use Rattle.places.specs.Places.{unused, inUse, Name, placeName, names, usable, endOf, settingsIn, countFits, rangesFit, fits, good, placeNamed}
 use Rattle.ground.proofs.Truth.{and-both}
 use Rattle.places.proofs.Searches.{first-is}
-use Rattle.places.proofs.Named.{names-in-use, names-resource}
+use Rattle.places.proofs.Named.{names-in-use, names-name}
 use Rattle.places.proofs.Agreeing.{agree-apart, agree-other}
 use Rattle.places.proofs.Keeping.{good-at, good-pair, fits-used}
 
@@ -127,7 +127,7 @@ module _ (n : ℕ) (ps : List Place) (g : good n ps ≡ true) where
   pub good-facts : (i : ℕ) → i < length ps → inUse (getD ps i unused) ≡ true → PlaceFacts n (getD ps i unused)
   good-facts i h u = place-facts n (getD ps i unused) (good-at n ps i g h) u
 
-  pub named-facts : (x i : ℕ) → placeNamed ps x ≡ At i → PlaceFacts n (getD ps i unused)
+  pub named-facts : (x : Name) (i : ℕ) → placeNamed ps x ≡ At i → PlaceFacts n (getD ps i unused)
   named-facts x i e =
       let r = first-is (λ p. names p x) ps i e in
       good-facts i (r .within) (names-in-use (getD ps i unused) x (r .passes))
@@ -137,12 +137,12 @@ module _ (n : ℕ) (ps : List Place) (g : good n ps ≡ true) where
     pub good-apart : (i ≡ j → ⊥) → inUse (getD ps i unused) ≡ true → inUse (getD ps j unused) ≡ true → (endOf (getD ps i unused) ≤ getD ps j unused .start) ⊎ (endOf (getD ps j unused) ≤ getD ps i unused .start)
     good-apart d u v = agree-apart (getD ps i unused) (getD ps j unused) u v (good-pair n ps i j g hi hj d)
 
-    -- and hold different resources
-    pub good-other : (i ≡ j → ⊥) → inUse (getD ps i unused) ≡ true → inUse (getD ps j unused) ≡ true → getD ps i unused .resource ≡ getD ps j unused .resource → ⊥
+    -- and hold different names
+    pub good-other : (i ≡ j → ⊥) → inUse (getD ps i unused) ≡ true → inUse (getD ps j unused) ≡ true → placeName (getD ps i unused) ≡ placeName (getD ps j unused) → ⊥
     good-other d u v = agree-other (getD ps i unused) (getD ps j unused) u v (good-pair n ps i j g hi hj d)
 
-    -- so at most one place names a resource
-    pub one-holder : (x : ℕ) → names (getD ps i unused) x ≡ true → names (getD ps j unused) x ≡ true → i ≡ j
+    -- so at most one place names a resource and type
+    pub one-holder : (x : Name) → names (getD ps i unused) x ≡ true → names (getD ps j unused) x ≡ true → i ≡ j
     one-holder x a b = by (eqb i j) refl
       where
         by : (t : Bool) → eqb i j ≡ t → i ≡ j
@@ -150,4 +150,4 @@ module _ (n : ℕ) (ps : List Place) (g : good n ps ≡ true) where
         by false e =
             absurd
             (good-other (eqb-false i j e) (names-in-use (getD ps i unused) x a) (names-in-use (getD ps j unused) x b)
-            (names-resource (getD ps i unused) x a ∙ sym (names-resource (getD ps j unused) x b)))
+            (names-name (getD ps i unused) x a ∙ sym (names-name (getD ps j unused) x b)))

@@ -14,7 +14,7 @@ use Rattle.settings.specs.Settings.{settingsFit}
 use Rattle.settings.proofs.Laws.{settings-facts}
 use Rattle.places.specs.declared.Place.{Place}
 use Rattle.places.specs.declared.Found.the-variants.{At, Nothing}
-use Rattle.places.specs.Places.{unused, freshRecord, inUse, names, usable, coverOf, endOf, settingsIn, placeOf, countFits, rangesFit, fits, agree, good, placeNamed}
+use Rattle.places.specs.Places.{unused, freshRecord, inUse, placeName, settingsName, names, usable, coverOf, endOf, settingsIn, placeOf, countFits, rangesFit, fits, agree, good, placeNamed}
 use Rattle.places.specs.Room.{clear, free, lowestStart}
 use Rattle.ground.proofs.Truth.{differ, and-join, or-right, fails}
 use Rattle.places.proofs.Named.{in-use, names-yes}
@@ -57,14 +57,14 @@ module _ (g : Settings) (count start : ℕ) where
 
   -- ---- and agrees with every other
 
-  pub placed-agrees : (q : Place) → (g .resource ≡ 0 → ⊥) → names q (g .resource) ≡ false → clear start (coverOf count (g .size)) q ≡ true → agree (placeOf g count start) q ≡ true
+  pub placed-agrees : (q : Place) → (g .resource ≡ 0 → ⊥) → names q (settingsName g) ≡ false → clear start (coverOf count (g .size)) q ≡ true → agree (placeOf g count start) q ≡ true
   placed-agrees q r d c = by (inUse q) refl
     where
       by : (b : Bool) → inUse q ≡ b → agree (placeOf g count start) q ≡ true
       by false u = agree-right (placeOf g count start) q u
       by true u =
           let p = placeOf g count start in
-          let d' : p .resource ≡ q .resource → ⊥ = λ z. differ (sym (names-yes q (g .resource) r (sym z)) ∙ d) in
+          let d' : placeName p ≡ placeName q → ⊥ = λ z. differ (sym (names-yes q (settingsName g) r (sym z)) ∙ d) in
           ⊎-elim
           (λ h. agree-behind p q (in-use p r) u d' h)
           (λ h. agree-before p q (in-use p r) u d' (rw placed-end h))
@@ -74,13 +74,13 @@ module _ (g : Settings) (count start : ℕ) where
 settings-resource : (g : Settings) → settingsFit g ≡ true → g .resource ≡ 0 → ⊥
 settings-resource g s z = omega (arith, settings-facts g s .resource)
 
--- a good record stays good where a place of a resource that no place holds is set on free bytes
-module _ (n : ℕ) (ps : List Place) (g : Settings) (count start i : ℕ) (s : settingsFit g ≡ true) (k : countFits count ≡ true) (m : placeNamed ps (g .resource) ≡ Nothing) (h : good n ps ≡ true) where
+-- a good record stays good where a place of a name that no place holds is set on free bytes
+module _ (n : ℕ) (ps : List Place) (g : Settings) (count start i : ℕ) (s : settingsFit g ≡ true) (k : countFits count ≡ true) (m : placeNamed ps (settingsName g) ≡ Nothing) (h : good n ps ≡ true) where
   pub placed-good : free n (coverOf count (g .size)) ps start ≡ true → good n (set ps i (placeOf g count start)) ≡ true
   placed-good f =
       let r = free-is n (coverOf count (g .size)) ps start f in
       good-set n ps i (placeOf g count start) h (placed-fits g count start n s k (r .ends))
-      (λ j l d. placed-agrees g count start (getD ps j unused) (settings-resource g s) (missing-names ps (g .resource) m j l) (r .clears j l))
+      (λ j l d. placed-agrees g count start (getD ps j unused) (settings-resource g s) (missing-names ps (settingsName g) m j l) (r .clears j l))
 
   -- as Open does, at the lowest start
   pub opened-good : lowestStart n (coverOf count (g .size)) ps ≡ At start → good n (set ps i (placeOf g count start)) ≡ true

@@ -1,4 +1,4 @@
--- The record of eight places: document 01, section 5, and when refusal 9 is given (section 6).
+-- The record of eight places: document 01, section 5, and when refusal 9 is given (section 6). A place is found by resource and type: document 02, R-1.
 -- Assumes nothing.
 use mathlib.Core.Bool.{Bool, true, cond, not, _&&_, _||_}
 use mathlib.Core.List.{List, [], _∷_}
@@ -22,9 +22,23 @@ freshRecord = record { places = replicate 8 unused }
 abbrev pub inUse : Place → Bool
 inUse p = not (eqb (p .resource) 0)
 
--- which place a call means: the one in use that holds the resource
-abbrev pub names : Place → ℕ → Bool
-names p resource = inUse p && eqb (p .resource) resource
+-- what a place is found by: resource and type together
+pub record Name : Type 0 where
+  pub resource : ℕ
+  pub kind : ℕ
+
+abbrev pub placeName : Place → Name
+placeName p = record { resource = p .resource; kind = p .kind }
+
+abbrev pub settingsName : Settings → Name
+settingsName g = record { resource = g .resource; kind = g .kind }
+
+unfoldable pub sameName : Name → Name → Bool
+sameName x y = eqb (x .resource) (y .resource) && eqb (x .kind) (y .kind)
+
+-- which place a call means: the one in use that holds both
+abbrev pub names : Place → Name → Bool
+names p x = inUse p && sameName (placeName p) x
 
 -- only the first 16,777,216 bytes of a longer store of n bytes are used
 abbrev pub usable : ℕ → ℕ
@@ -70,9 +84,9 @@ rangesFit p = settingsFit (settingsIn p) && (eqb (p .rows) (rowsHeld (settingsIn
 unfoldable pub fits : ℕ → Place → Bool
 fits n p = not (inUse p) || (rangesFit p && leb (endOf p) (usable n))
 
--- two places that are in use share neither resource nor byte
+-- two places that are in use do not share both resource and type, nor a byte
 unfoldable pub agree : Place → Place → Bool
-agree p q = not (inUse p && inUse q) || not (eqb (p .resource) (q .resource) || meets p q)
+agree p q = not (inUse p && inUse q) || not (sameName (placeName p) (placeName q) || meets p q)
 
 abbrev pub all : (Place → Bool) → List Place → Bool
 all f [] = true
@@ -88,9 +102,9 @@ unfoldable pub firstFrom : (Place → Bool) → List Place → ℕ → Found
 firstFrom f [] i = Nothing
 firstFrom f (p ∷ ps) i = cond (f p) (At i) (firstFrom f ps (suc i))
 
--- the place of a resource, and the first unused one
-abbrev pub placeNamed : List Place → ℕ → Found
-placeNamed ps resource = firstFrom (λ p. names p resource) ps 0
+-- the place of a resource and type, and the first unused one
+abbrev pub placeNamed : List Place → Name → Found
+placeNamed ps x = firstFrom (λ p. names p x) ps 0
 
 abbrev pub firstUnused : List Place → Found
 firstUnused ps = firstFrom (λ p. not (inUse p)) ps 0

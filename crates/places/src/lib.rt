@@ -1,7 +1,7 @@
 // The record of eight places: document 01, section 5. Whether it is good for a store, and where there is room in it, is told by crate room; every call here
 // answers for any record.
 ghost use mathlib.Core.Path.{_≡_};
-ghost use Rattle.places.specs.Places.{freshRecord, coverOf, placeOf, countFits, placeNamed, firstUnused};
+ghost use Rattle.places.specs.Places.{freshRecord, coverOf, placeOf, countFits, names, placeNamed, firstUnused};
 use settings::Settings;
 
 // A place in use holds what a file is collected under and where its slots start. It is in use exactly if its resource is not 0.
@@ -45,16 +45,26 @@ pub fn fresh() -> Record
     }
 }
 
-// The place that holds a resource. None holds 0.
-pub fn find_place(held: Record, resource: u16) -> Found
-    ensures { λ r. ⌜ r ≡ placeNamed (held .places) resource ⌝ }
+// Whether a place is the one that a resource and a type together mean. An unused one is meant by none.
+pub fn holds(p: Place, resource: u16, kind: u8) -> bool
+    ensures { λ r. ⌜ r ≡ names p (record { resource = resource; kind = kind }) ⌝ }
 {
-    if resource == 0 {
-        return Found::Nothing;
+    if p.resource == 0 {
+        return false;
     }
+    if p.resource != resource {
+        return false;
+    }
+    p.kind == kind
+}
+
+// The place that holds a resource and a type.
+pub fn find_place(held: Record, resource: u16, kind: u8) -> Found
+    ensures { λ r. ⌜ r ≡ placeNamed (held .places) (record { resource = resource; kind = kind }) ⌝ }
+{
     let mut i: usize = 0;
     while i < 8 {
-        if held.places[i].resource == resource {
+        if holds(held.places[i], resource, kind) {
             return Found::At(i);
         }
         i += 1;

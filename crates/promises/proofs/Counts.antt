@@ -17,7 +17,7 @@ use Rattle.pack.specs.Pack.{countOf, packetOf}
 use Rattle.pack.proofs.Laws.{fieldsOf, packet-reads, length-tables}
 use Rattle.places.specs.declared.Place.{Place}
 use Rattle.places.specs.Places.{placeOf}
-use Rattle.record.specs.Offer.{Offering, differs, offerJudged}
+use Rattle.record.specs.Offer.{packetName, Offering, differs, offerJudged}
 use Rattle.record.specs.Told.{offeredTold}
 use Rattle.record.proofs.OfferCases.{judge-other, offer-placed}
 use Rattle.record.proofs.OfferFacts.{same-file}
@@ -40,15 +40,15 @@ count-differs p f d = by (differs p f) refl
 
 -- ---- two files, carried by one list
 
-fair-join : (g : Settings) (file : List ℕ) {cs ds : List Call} → AllFair g file cs → AllFair g file ds → AllFair g file (cs ++ ds)
+pub fair-join : (g : Settings) (file : List ℕ) {cs ds : List Call} → AllFair g file cs → AllFair g file ds → AllFair g file (cs ++ ds)
 fair-join g file AllFair.ended e = e
 fair-join g file (AllFair.next f fs) e = AllFair.next f (fair-join g file fs e)
 
-offers-before : (g : Settings) (file : List ℕ) (n : ℕ) {cs : List Call} (ds : List Call) → Offers g file n cs → Offers g file n (cs ++ ds)
+pub offers-before : (g : Settings) (file : List ℕ) (n : ℕ) {cs : List Call} (ds : List Call) → Offers g file n cs → Offers g file n (cs ++ ds)
 offers-before g file n ds (Offers.here c) = Offers.here c
 offers-before g file n ds (Offers.later o) = Offers.later (offers-before g file n ds o)
 
-offers-behind : (g : Settings) (file : List ℕ) (n : ℕ) (cs : List Call) {ds : List Call} → Offers g file n ds → Offers g file n (cs ++ ds)
+pub offers-behind : (g : Settings) (file : List ℕ) (n : ℕ) (cs : List Call) {ds : List Call} → Offers g file n ds → Offers g file n (cs ++ ds)
 offers-behind g file n [] o = o
 offers-behind g file n (c ∷ cs) o = Offers.later (offers-behind g file n cs o)
 
@@ -93,7 +93,7 @@ one-and-two-packets =
 pub one-count : OneCount step
 unfolding step
 one-count x q f i read h d =
-    ap (λ (o : Offering). offeredTold (o .answer)) (offer-placed (x .held) (x .store) q (h .sound) f read i (held-found x (f .resource) i h)
+    ap (λ (o : Offering). offeredTold (o .answer)) (offer-placed (x .held) (x .store) q (h .sound) f read i (held-found x (packetName f) i h)
     ∙ ap (offerJudged (placeAt x i) (x .store)) (judge-other (placeAt x i) f q (count-differs (placeAt x i) f d)))
 
 -- as many tables, as many packets

@@ -6,8 +6,7 @@ use mathlib.Core.Bool.{Bool, true, false}
 use mathlib.Core.List.{List, []}
 use Prim.Native.Nat.{ℕ, _<_}
 use native.Mathlib.Omega.{arith}
-use borrow.Author.Tests.{eqb-true, ne-eqb}
-use lib.Dec.{eqb, ltb}
+use lib.Dec.{ltb}
 use lib.ListN.{length, getD, replicate, getD-replicate}
 use Rattle.refusals.specs.declared.Refusal.the-variants.{Size}
 use Rattle.refusals.specs.Told.{refusedAs, verdictTold}
@@ -17,24 +16,25 @@ use Rattle.packet.specs.declared.Packet.{Packet}
 use Rattle.packet.specs.declared.Reading.{Reading}
 use Rattle.packet.specs.declared.Reading.the-variants.{Sent}
 use Rattle.settings.specs.declared.Settings.{Settings}
-use Rattle.packet.specs.Packet.{readOf, resourceIn}
+use Rattle.packet.specs.Packet.{readOf}
 use Rattle.layout.specs.Layout.{tablesOf}
 use Rattle.pack.specs.Pack.{countOf, payloadOf}
 use Rattle.pack.proofs.Laws.{fieldsOf}
 use Rattle.places.specs.declared.Place.{Place}
 use Rattle.places.specs.declared.Found.the-variants.{At, Nothing}
-use Rattle.places.specs.Places.{unused, good, placeNamed, placeOf}
+use Rattle.places.specs.Places.{settingsName, sameName, unused, good, placeNamed, placeOf}
 use Rattle.ground.proofs.Truth.{and-both}
+use Rattle.places.proofs.Named.{name-same, other-name}
 use Rattle.contents.specs.Contents.{Slot as Content, wrong, holding, contents}
 use Rattle.contents.proofs.Places.{length-contents}
 use Rattle.opening.specs.Open.{Plan, refuse, take as taken, planOf, carriedOut, Opening, openOf}
-use Rattle.record.specs.Offer.{Offering, Judged, refuse as refuse-packet, put, judge, differs, offerJudged, offerOf, judgeBy}
+use Rattle.record.specs.Offer.{packetName, nameIn, Offering, Judged, refuse as refuse-packet, put, judge, differs, offerJudged, offerOf, judgeBy}
 use Rattle.handing.specs.Hand.{Handing, handContents, handOutOf}
 use Rattle.opening.proofs.PlanLaws.{Taking, taking, taking-plan, open-by}
 use Rattle.opening.proofs.OpenLaws.{open-named, open-own, open-empty, open-keeps, open-keeps-length, accepted-plan, refused-record, refused-store}
 use Rattle.opening.proofs.CloseLaws.{close-keeps-good}
 use Rattle.record.proofs.OfferCases.{offer-unread, offer-placed}
-use Rattle.record.proofs.OfferFacts.{read-resource}
+use Rattle.record.proofs.OfferFacts.{read-name}
 use Rattle.record.proofs.OfferLaws.{Placed, Sound, heldAfter, held-after, slots-kept, offer-sound, offer-holds, offer-length}
 use Rattle.handing.proofs.HandCases.{out-found}
 use Rattle.promises.specs.Calls.{Call, State, step, run, names, about}
@@ -75,7 +75,7 @@ module _ (g : Settings) (file : List ℕ) (p : Protected g file) (i start : ℕ)
 
   pub record Collecting (x : State) : Type 0 where
     pub sound : good (length (x .store)) (x .held .places) ≡ true
-    pub named : placeNamed (x .held .places) (g .resource) ≡ At i
+    pub named : placeNamed (x .held .places) (settingsName g) ≡ At i
     pub place : getD (x .held .places) i unused ≡ own
     pub slots : (k : ℕ) → k < countOf g (length file) → (slot-in k x ≡ holding []) ⊎ (slot-in k x ≡ holding (payloadOf g file k))
 
@@ -92,7 +92,7 @@ module _ (g : Settings) (file : List ℕ) (p : Protected g file) (i start : ℕ)
   stays x c = record { collecting = c; keeps = λ k h. h }
 
   -- contents as they were
-  same-contents-go : (x y : State) → Collecting x → good (length (y .store)) (y .held .places) ≡ true → Kept (g .resource) (x .held) (x .store) (y .held) (y .store) → GoesOn x y
+  same-contents-go : (x y : State) → Collecting x → good (length (y .store)) (y .held .places) ≡ true → Kept (settingsName g) (x .held) (x .store) (y .held) (y .store) → GoesOn x y
   same-contents-go x y c sound k =
       let same : contents own (y .store) ≡ contents own (x .store) =
       ap (λ (o : Place). contents o (y .store)) (sym (c .place)) ∙ k .same-contents i (c .named) ∙ ap (λ (o : Place). contents o (x .store)) (c .place) in
@@ -106,15 +106,15 @@ module _ (g : Settings) (file : List ℕ) (p : Protected g file) (i start : ℕ)
         keeps = λ n h. rw same h;
       }
 
-  unnamed-go : (c : Call) (x : State) → Collecting x → about (g .resource) c ≡ false → GoesOn x (step c x .state)
-  unnamed-go c x k e = same-contents-go x (step c x .state) k (step-good c x (k .sound)) (step-leaves (g .resource) c x e)
+  unnamed-go : (c : Call) (x : State) → Collecting x → about (settingsName g) c ≡ false → GoesOn x (step c x .state)
+  unnamed-go c x k e = same-contents-go x (step c x .state) k (step-good c x (k .sound)) (step-leaves (settingsName g) c x e)
 
-  -- a resource that is held is not opened again
+  -- a resource and type that are held are not opened again
   open-go : (s : Settings) (count : ℕ) (x : State) → Collecting x → GoesOn x (step (opening s count) x .state)
   unfolding step
-  open-go s count x c = by (eqb (s .resource) (g .resource)) refl
+  open-go s count x c = by (sameName (settingsName s) (settingsName g)) refl
     where
-      refusal : s .resource ≡ g .resource → (q : Plan) → planOf (x .held) (length (x .store)) s count ≡ q
+      refusal : settingsName s ≡ settingsName g → (q : Plan) → planOf (x .held) (length (x .store)) s count ≡ q
           → GoesOn x (record { held = openOf (x .held) (x .store) s count .kept .«record»; store = openOf (x .held) (x .store) s count .store })
       refusal o (refuse r) e = rw (refused-record (x .held) (x .store) s count r e, refused-store (x .held) (x .store) s count r e) (stays x c)
       refusal o (taken j at) e =
@@ -123,9 +123,9 @@ module _ (g : Settings) (file : List ℕ) (p : Protected g file) (i start : ℕ)
           let z : _≡_ {A = ℕ} 0 1 = cc in
           absurd (omega arith)
 
-      by : (b : Bool) → eqb (s .resource) (g .resource) ≡ b
+      by : (b : Bool) → sameName (settingsName s) (settingsName g) ≡ b
           → GoesOn x (record { held = openOf (x .held) (x .store) s count .kept .«record»; store = openOf (x .held) (x .store) s count .store })
-      by true e = refusal (eqb-true _ _ e) (planOf (x .held) (length (x .store)) s count) refl
+      by true e = refusal (name-same _ _ e) (planOf (x .held) (length (x .store)) s count) refl
       by false e = unnamed-go (opening s count) x c e
 
   -- an offer that leaves the store
@@ -137,8 +137,8 @@ module _ (g : Settings) (file : List ℕ) (p : Protected g file) (i start : ℕ)
 
   -- ---- an offer that is judged to bring packet n's payload fills its slot
 
-  module _ (x : State) (c : Collecting x) (q : List ℕ) (f : Packet) (read : readOf q ≡ Sent f) (of : f .resource ≡ g .resource) where
-    found-there : placeNamed (x .held .places) (f .resource) ≡ At i
+  module _ (x : State) (c : Collecting x) (q : List ℕ) (f : Packet) (read : readOf q ≡ Sent f) (of : packetName f ≡ settingsName g) where
+    found-there : placeNamed (x .held .places) (packetName f) ≡ At i
     found-there = ap (placeNamed (x .held .places)) of ∙ c .named
 
     module _ (n : ℕ) (brings : judge own f q ≡ put n (payloadOf g file n)) where
@@ -200,14 +200,14 @@ module _ (g : Settings) (file : List ℕ) (p : Protected g file) (i start : ℕ)
   -- ---- any other offer
 
   noise-go : (q : List ℕ) → BringsNoOther g file q → (x : State) → Collecting x → GoesOn x (step (offering q) x .state)
-  noise-go q none x c = by (names (g .resource) q) refl
+  noise-go q none x c = by (names (settingsName g) q) refl
     where
-      reading : resourceIn q ≡ g .resource → (a : Reading) → readOf q ≡ a → GoesOn x (step (offering q) x .state)
-      reading z (Sent f) e = judged-go x c q f e (read-resource q f e ∙ z) none (judge own f q) refl
+      reading : nameIn q ≡ settingsName g → (a : Reading) → readOf q ≡ a → GoesOn x (step (offering q) x .state)
+      reading z (Sent f) e = judged-go x c q f e (read-name q f e ∙ z) none (judge own f q) refl
       reading z (Reading.Refused r) e = unmoved-go q x c (ap (λ (o : Offering). o .store) (offer-unread (x .held) (x .store) q (c .sound) r e))
 
-      by : (t : Bool) → names (g .resource) q ≡ t → GoesOn x (step (offering q) x .state)
-      by true e = reading (eqb-true (resourceIn q) (g .resource) (and-both (ltb 4 (length q)) _ e .1)) (readOf q) refl
+      by : (t : Bool) → names (settingsName g) q ≡ t → GoesOn x (step (offering q) x .state)
+      by true e = reading (name-same (nameIn q) (settingsName g) (and-both (ltb 12 (length q)) _ e .1)) (readOf q) refl
       by false e = unnamed-go (offering q) x c e
 
   -- ---- any fair call
@@ -221,7 +221,7 @@ module _ (g : Settings) (file : List ℕ) (p : Protected g file) (i start : ℕ)
   fair-go c (Fair.opens s count) x k = open-go s count x k
   fair-go c (Fair.asks r) x k = stays x k
   fair-go c (Fair.hands r n out) x k = stays x k
-  fair-go c (Fair.closes r d) x k = unnamed-go (closing r) x k (ne-eqb r (g .resource) d)
+  fair-go c (Fair.closes r d) x k = unnamed-go (closing r) x k (other-name r (settingsName g) d)
 
   fair-run : {cs : List Call} → AllFair g file cs → (x : State) → Collecting x → GoesOn x (run step cs x .state)
   fair-run AllFair.ended x k = stays x k
@@ -242,9 +242,9 @@ module _ (g : Settings) (file : List ℕ) (p : Protected g file) (i start : ℕ)
 
   module _ (x : State) (c : Collecting x) (all : (k : ℕ) → k < countOf g (length file) → Has k x) where
     -- hand out at any length, by what the place holds
-    handed : (n : ℕ) (out : List ℕ) → handOutOf (x .held) (x .store) (g .resource) n out ≡ handContents own (contents own (x .store)) n out
+    handed : (n : ℕ) (out : List ℕ) → handOutOf (x .held) (x .store) (settingsName g) n out ≡ handContents own (contents own (x .store)) n out
     handed n out =
-        out-found (x .held) (x .store) (g .resource) (c .sound) n out i (c .named)
+        out-found (x .held) (x .store) (settingsName g) (c .sound) n out i (c .named)
         ∙ ap (λ (o : Place). handContents o (contents o (x .store)) n out) (c .place)
 
     hands : HandsOut step g file x
@@ -254,7 +254,7 @@ module _ (g : Settings) (file : List ℕ) (p : Protected g file) (i start : ℕ)
         (handed (length file) out ∙ contents-handed g file p (contents own (x .store)) (length-contents own (x .store)) all start out room)
 
     pub refuses : (n : ℕ) (out : List ℕ) → (tablesOf (g .rows) n ≡ tablesOf (g .rows) (length file) → ⊥)
-        → step (handing (g .resource) n out) x .answer ≡ record { told = refusedAs Size; output = out }
+        → step (handing (settingsName g) n out) x .answer ≡ record { told = refusedAs Size; output = out }
     unfolding step
     refuses n out d =
         ap (λ (h : Handing). record { told = verdictTold (h .answer); output = h .output })
@@ -272,7 +272,7 @@ opened-collecting g file p x i start t =
     ap (λ (o : Opening). contents (placeOf g n start) (o .store)) done ∙ open-empty (x .held) (x .store) g n i start t in
     record {
       sound = step-good (opening g n) x (t .fitting .sound);
-      named = ap (λ (o : Opening). placeNamed (o .kept .«record» .places) (g .resource)) done ∙ open-named (x .held) (length (x .store)) g n i start t;
+      named = ap (λ (o : Opening). placeNamed (o .kept .«record» .places) (settingsName g)) done ∙ open-named (x .held) (length (x .store)) g n i start t;
       place = ap (λ (o : Opening). getD (o .kept .«record» .places) i unused) done ∙ open-own (x .held) (length (x .store)) g n i start t;
       slots = λ k l. inl (ap (λ (c : List Content). getD c k wrong) empty ∙ getD-replicate n k (holding []) wrong l);
     }

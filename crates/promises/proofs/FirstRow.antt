@@ -23,7 +23,7 @@ use Rattle.code.proofs.Exact.{repair-coded}
 use Rattle.places.specs.declared.Record.{Record}
 use Rattle.places.specs.declared.Place.{Place}
 use Rattle.places.proofs.Facts.{named-facts}
-use Rattle.places.specs.Places.{endOf, good, placeOf, freshRecord}
+use Rattle.places.specs.Places.{settingsName, endOf, good, placeOf, freshRecord}
 use Rattle.contents.specs.Contents.{Slot as Content, wrong, holding, contents, slotAt, slotOf}
 use Rattle.contents.proofs.Bytes.{length-stored}
 use Rattle.contents.proofs.Places.{reading-slots, storing-sets}
@@ -213,7 +213,7 @@ offered-first = rw (begun .sound, copy-reads two zeros protected 0 (omega arith)
 
 -- what is handed out of a store, by what the slot holds
 handed-of : (t : List ℕ) (c : Content) → length t ≡ length store → contents (placeOf two 1 0) t ≡ c ∷ [] → (out : List ℕ)
-    → handOutOf held t 5 478 out ≡ handContents (placeOf two 1 0) (c ∷ []) 478 out
+    → handOutOf held t (settingsName two) 478 out ≡ handContents (placeOf two 1 0) (c ∷ []) 478 out
 unfolding handOutOf
 handed-of t c l e out = rw (ap (λ (n : ℕ). good n (held .places)) l ∙ begun .sound, begun .named, begun .place, e) refl
 
@@ -235,7 +235,7 @@ first-row-lost : HandsOut mendingFirst two zeros (record { held = held; store = 
 unfolding mendingFirst step
 first-row-lost d = by (agrees altered body) refl
   where
-    told : answer (handOutOf held (offerBy firstRowOnly held store altered .store) 5 478 zeros) ≡ record { told = acceptedWith []; output = zeros ++ drop 478 zeros }
+    told : answer (handOutOf held (offerBy firstRowOnly held store altered .store) (settingsName two) 478 zeros) ≡ record { told = acceptedWith []; output = zeros ++ drop 478 zeros }
     told = d zeros (omega arith)
 
     by : (b : Bool) → agrees altered body ≡ b → ⊥
@@ -244,18 +244,18 @@ first-row-lost d = by (agrees altered body) refl
         let after : offerBy firstRowOnly held store altered .store ≡ stored store (slotAt (placeOf two 1 0) 0) body =
         ap (λ (o : Offering). o .store) (offered-first ∙ ap (λ (b : Bool). offerJudged (placeOf two 1 0) store (cond b (put 0 body) (refuse Crc))) e
         ∙ ap (λ (c : Content). storing store (slotAt (placeOf two 1 0) 0) body (putInto c body)) slot) in
-        let ends : endOf (placeOf two 1 0) ≤ length store = subst (λ (p : Place). endOf p ≤ length store) (begun .place) (named-facts (length store) (held .places) (begun .sound) 5 0 (begun .named) .ends-within) in
+        let ends : endOf (placeOf two 1 0) ≤ length store = subst (λ (p : Place). endOf p ≤ length store) (begun .place) (named-facts (length store) (held .places) (begun .sound) (settingsName two) 0 (begun .named) .ends-within) in
         let holds : contents (placeOf two 1 0) (stored store (slotAt (placeOf two 1 0) 0) body) ≡ holding body ∷ [] =
         storing-sets (placeOf two 1 0) store 0 body ends (omega arith) refl ∙ ap (λ (c : List Content). set c 0 (holding body)) empty in
-        let handed : handOutOf held (offerBy firstRowOnly held store altered .store) 5 478 zeros ≡ handContents (placeOf two 1 0) (holding body ∷ []) 478 zeros =
-        ap (λ (t : List ℕ). handOutOf held t 5 478 zeros) after
+        let handed : handOutOf held (offerBy firstRowOnly held store altered .store) (settingsName two) 478 zeros ≡ handContents (placeOf two 1 0) (holding body ∷ []) 478 zeros =
+        ap (λ (t : List ℕ). handOutOf held t (settingsName two) 478 zeros) after
         ∙ handed-of (stored store (slotAt (placeOf two 1 0) 0) body) (holding body) (length-stored store (slotAt (placeOf two 1 0) 0) body) holds zeros in
         let z : _≡_ {A = ℕ} 1 0 = sym wrong-file ∙ ap (λ (h : Handing). getD (h .output) 239 0) (sym handed) ∙ ap (λ (a : Answer). getD (a .output) 239 0) told in
         omega arith
     by false e =
         let kept : offerBy firstRowOnly held store altered .store ≡ store = ap (λ (o : Offering). o .store) (offered-first ∙ ap (λ (b : Bool). offerJudged (placeOf two 1 0) store (cond b (put 0 body) (refuse Crc))) e) in
-        let handed : handOutOf held (offerBy firstRowOnly held store altered .store) 5 478 zeros ≡ record { answer = Verdict.Refused (Missing 0); output = zeros } =
-        ap (λ (t : List ℕ). handOutOf held t 5 478 zeros) kept ∙ handed-of store (holding []) refl empty zeros ∙ missing in
+        let handed : handOutOf held (offerBy firstRowOnly held store altered .store) (settingsName two) 478 zeros ≡ record { answer = Verdict.Refused (Missing 0); output = zeros } =
+        ap (λ (t : List ℕ). handOutOf held t (settingsName two) 478 zeros) kept ∙ handed-of store (holding []) refl empty zeros ∙ missing in
         let z : _≡_ {A = ℕ} 21 0 = ap (λ (h : Handing). verdictTold (h .answer) .number) (sym handed) ∙ ap (λ (a : Answer). a .told .number) told in
         omega arith
 

@@ -11,17 +11,18 @@ use Rattle.crc.specs.Crc.{crc32Of}
 use Rattle.packet.specs.declared.Packet.{Packet}
 use Rattle.packet.specs.declared.Reading.the-variants.{Sent}
 use Rattle.settings.specs.declared.Settings.{Settings}
-use Rattle.packet.specs.Packet.{resourceIn, readOf}
+use Rattle.packet.specs.Packet.{readOf}
 use Rattle.packet.proofs.Laws.{SentFacts}
 use Rattle.pack.specs.Pack.{countOf, payloadOf, packetOf}
 use Rattle.pack.proofs.Laws.{fieldsOf, packet-payload, packet-front, packet-crc, packet-sent, packet-reads, payload-most, payload-coded}
-use Rattle.places.specs.Places.{placeOf}
+use Rattle.places.specs.Places.{settingsName, placeOf}
+use Rattle.places.proofs.Named.{same-name}
 use Rattle.ground.proofs.Truth.{and-join}
 use Rattle.record.specs.Mend.{payloadIn}
 use Rattle.sealing.specs.Sealing.{crcIn, agrees}
-use Rattle.record.specs.Offer.{put, judge, differs}
+use Rattle.record.specs.Offer.{nameIn, put, judge, differs}
 use Rattle.record.proofs.MendLaws.{Altered, Intact, read-copy}
-use Rattle.record.proofs.OfferFacts.{read-known, read-resource, SameFile, same-serves}
+use Rattle.record.proofs.OfferFacts.{read-known, read-name, SameFile, same-serves}
 use Rattle.record.proofs.OfferLaws.{judge-copy}
 use Rattle.promises.specs.Calls.{names}
 use Rattle.promises.specs.Statements.{Protected, Copy}
@@ -29,7 +30,7 @@ use Rattle.promises.specs.Statements.{Protected, Copy}
 -- a packet's fields are those of the file's own place
 module _ (g : Settings) (file : List ℕ) (n start : ℕ) where
   own-fields : SameFile (placeOf g (countOf g (length file)) start) (fieldsOf g file n)
-  own-fields = record { kind = refl; update = refl; count = refl; protection = refl; rows = λ o. refl }
+  own-fields = record { update = refl; count = refl; protection = refl; rows = λ o. refl }
 
   pub not-different : differs (placeOf g (countOf g (length file)) start) (fieldsOf g file n) ≡ false
   not-different = same-serves (placeOf g (countOf g (length file)) start) (fieldsOf g file n) own-fields
@@ -65,10 +66,10 @@ module _ (g : Settings) (file : List ℕ) (p : Protected g file) (n : ℕ) (belo
         (λ z. omega (arith, p .protection)) (omega (arith, ap length body, payload-most g file (p .fit) n))
         ∙ ap (put n) body
 
-    pub copy-names : names (g .resource) q ≡ true
+    pub copy-names : names (settingsName g) q ≡ true
     copy-names =
         let least : 19 ≤ length q = read-known q (fieldsOf g file n) copy-reads .least in
-        and-join (lt-ltb 4 (length q) (omega arith)) (eq-eqb (resourceIn q) (g .resource) (sym (read-resource q (fieldsOf g file n) copy-reads)))
+        and-join (lt-ltb 12 (length q) (omega arith)) (same-name (nameIn q) (settingsName g) (sym (read-name q (fieldsOf g file n) copy-reads)))
 
 -- one copy for two files: the number is the same, and so is the payload
 pub same-payload : (g : Settings) (a b : List ℕ) (pa : Protected g a) (pb : Protected g b) (n m : ℕ)

@@ -13,6 +13,7 @@ pub mod Slots
 pub mod Cases
 pub mod Turned
 pub mod Counts
+pub mod Beside
 pub mod Misread
 pub mod Replaced
 pub mod FirstRow

@@ -13,7 +13,7 @@ use Rattle.layout.proofs.Coded.{coded-tables, tables-reach, undone-file, undone
 use Rattle.settings.specs.declared.Settings.{Settings}
 use Rattle.pack.specs.Pack.{countOf, payloadOf}
 use Rattle.pack.proofs.Laws.{fieldsOf, rows-positive, sent-coded, joined-payloads}
-use Rattle.places.specs.Places.{placeOf}
+use Rattle.places.specs.Places.{settingsName, placeOf}
 use Rattle.ground.proofs.Truth.{differ}
 use Rattle.record.specs.Offer.{judge}
 use Rattle.promises.specs.Calls.{Call, names}
@@ -38,7 +38,7 @@ module _ (g : Settings) (a b : List ℕ) (pa : Protected g a) (pb : Protected g 
       same-payload g a b pa pb n m l lm q ca (subst (Copy g b m) s cb)
   served n l q ca c e (Fair.other q′ none) =
       let s : q′ ≡ q = cc in
-      differ (sym (copy-names g a pa n l q ca) ∙ subst (λ (x : List ℕ). names (g .resource) x ≡ false) s none)
+      differ (sym (copy-names g a pa n l q ca) ∙ subst (λ (x : List ℕ). names (settingsName g) x ≡ false) s none)
   served n l q ca c e (Fair.noise q′ only) =
       let s : q′ ≡ q = cc in
       cc (subst (BringsNoOther g b) s only (fieldsOf g a n) (copy-reads g a pa n l q ca) n (payloadOf g a n)

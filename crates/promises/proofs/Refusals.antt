@@ -19,7 +19,7 @@ use Rattle.pack.proofs.Plans.{pack-refused}
 use Rattle.places.specs.declared.Record.{Record}
 use Rattle.places.specs.declared.Found.{Found}
 use Rattle.places.specs.declared.Found.the-variants.{At, Nothing}
-use Rattle.places.specs.Places.{good, placeNamed}
+use Rattle.places.specs.Places.{Name, good, placeNamed}
 use Rattle.opening.specs.declared.Kept.{Kept}
 use Rattle.record.specs.declared.Offered.{Offered}
 use Rattle.opening.specs.Open.{Plan, refuse, take, planOf, carriedOut, openOf, closedAt, closeOf}
@@ -47,7 +47,7 @@ pack-keeps file g n out = by (packOf file g n out .answer) refl
     by (Written k) z d = absurd (d refl)
     by (Packed.Refused t) z d = pack-refused file g n out t z
 
-hand-keeps : (h : Record) (s : List ℕ) (r n : ℕ) (out : List ℕ) → Turned (verdictTold (handOutOf h s r n out .answer)) → handOutOf h s r n out .output ≡ out
+hand-keeps : (h : Record) (s : List ℕ) (r : Name) (n : ℕ) (out : List ℕ) → Turned (verdictTold (handOutOf h s r n out .answer)) → handOutOf h s r n out .output ≡ out
 hand-keeps h s r n out = by (handOutOf h s r n out .answer) refl
   where
     by : (v : Verdict) → handOutOf h s r n out .answer ≡ v → Turned (verdictTold v) → handOutOf h s r n out .output ≡ out
@@ -74,7 +74,7 @@ close-by true h f d = refl
 close-by false h (At i) d = absurd (d refl)
 close-by false h Nothing d = refl
 
-close-keeps : (h : Record) (s : List ℕ) (r : ℕ) → CloseKeeps h (closeOf h s r)
+close-keeps : (h : Record) (s : List ℕ) (r : Name) → CloseKeeps h (closeOf h s r)
 unfolding closeOf
 close-keeps h s r = close-by (not (good (length s) (h .places))) h (placeNamed (h .places) r)
 

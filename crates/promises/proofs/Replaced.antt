@@ -20,7 +20,7 @@ use Rattle.pack.specs.Pack.{payloadOf, packetOf}
 use Rattle.pack.proofs.Laws.{fieldsOf, payload-some, payload-most, payload-rows, joined-file}
 use Rattle.places.specs.declared.Place.{Place}
 use Rattle.places.specs.declared.Found.the-variants.{At}
-use Rattle.places.specs.Places.{endOf, placeNamed, placeOf}
+use Rattle.places.specs.Places.{settingsName, endOf, placeNamed, placeOf}
 use Rattle.places.proofs.Facts.{named-facts}
 use Rattle.contents.specs.Contents.{Slot as Content, holding, slotAt, slotOf}
 use Rattle.contents.specs.Slots.{stored}
@@ -28,7 +28,7 @@ use Rattle.contents.proofs.Slots.{slot-within, slot-stored, fits-made}
 use Rattle.contents.proofs.Places.{reading-slots}
 use Rattle.record.specs.declared.Offered.{Offered}
 use Rattle.record.specs.declared.Offered.the-variants.{Refused}
-use Rattle.record.specs.Offer.{Offering, put, judge, putInto, storing, offerJudged, offerOf}
+use Rattle.record.specs.Offer.{packetName, Offering, put, judge, putInto, storing, offerJudged, offerOf}
 use Rattle.record.specs.Told.{offeredTold}
 use Rattle.record.proofs.OfferCases.{offer-placed}
 use Rattle.promises.specs.Calls.{State, Outcome, step, telling}
@@ -129,7 +129,7 @@ slot-replaced : slotOf own replaced 0 ≡ holding (payloadOf one other 0)
 slot-replaced =
     let most : length (payloadOf one other 0) ≤ 255 = payload-most one other (protected-other .fit) 0 in
     let ends : endOf own ≤ length (full .store) =
-    subst (λ (p : Place). endOf p ≤ length (full .store)) (there .place) (named-facts (length (full .store)) (full .held .places) (there .sound) 5 0 (there .named) .ends-within) in
+    subst (λ (p : Place). endOf p ≤ length (full .store)) (there .place) (named-facts (length (full .store)) (full .held .places) (there .sound) (settingsName one) 0 (there .named) .ends-within) in
     slot-stored own (full .store) 0 (payloadOf one other 0) (omega (arith, slot-within own 0 (omega arith) .1))
     (fits-made own (length (payloadOf one other 0)) most (inr (payload-rows one other (protected-other .fit) refl 0)))
 
@@ -144,7 +144,7 @@ not-empty : (i n : ℕ) (b : List ℕ) → Carried full later i n b → slotIn f
 not-empty i n b c e =
     let read : Sent (c .fields) ≡ Sent (fieldsOf one other 0) = sym (c .read) ∙ later-reads in
     let fields : c .fields ≡ fieldsOf one other 0 = cc in
-    let at : At i ≡ At 0 = sym (held-found full (c .fields .resource) i (c .held)) ∙ ap (λ (f : Packet). placeNamed (full .held .places) (f .resource)) fields ∙ there .named in
+    let at : At i ≡ At 0 = sym (held-found full (packetName (c .fields)) i (c .held)) ∙ ap (λ (f : Packet). placeNamed (full .held .places) (packetName f)) fields ∙ there .named in
     let first : i ≡ 0 = cc in
     let zeroth : n ≡ 0 = c .number ∙ ap (λ (f : Packet). f .number) fields in
     let none : holding [] ≡ holding (payloadOf one byte 0) =

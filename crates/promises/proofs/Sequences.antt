@@ -1,29 +1,28 @@
--- Two sequences: two states with one record whose stores show the same at a resource's place answer every call about it alike, and stay so.
+-- Two sequences: two states with one record whose stores show the same at the place of a resource and type answer every call about them alike, and stay so.
 -- Assumes nothing.
 use mathlib.Core.Path.{_≡_, refl, sym, ap, ap₂, _∙_, subst}
 use mathlib.Core.Bool.{Bool, true, false, cond, not}
 use mathlib.Core.List.{List, _∷_}
 use Prim.Native.Nat.{ℕ}
 use native.Mathlib.Omega.{arith}
-use borrow.Author.Tests.{eqb-true}
 use lib.Dec.{ltb}
 use lib.ListN.{length, getD, set}
 use Rattle.refusals.specs.declared.Refusal.{Refusal}
 use Rattle.refusals.specs.declared.Verdict.{Verdict}
 use Rattle.refusals.specs.Told.{verdictTold}
 use Rattle.settings.specs.declared.Settings.{Settings}
-use Rattle.packet.specs.Packet.{resourceIn}
 use Rattle.places.specs.declared.Place.{Place}
 use Rattle.places.specs.declared.Record.{Record}
 use Rattle.places.specs.declared.Found.{Found}
 use Rattle.places.specs.declared.Found.the-variants.{At, Nothing}
-use Rattle.places.specs.Places.{unused, good, placeNamed, placeOf}
+use Rattle.places.specs.Places.{Name, settingsName, unused, good, placeNamed, placeOf}
 use Rattle.ground.proofs.Truth.{differ, and-both}
+use Rattle.places.proofs.Named.{name-same}
 use Rattle.contents.specs.Contents.{contents}
 use Rattle.opening.specs.declared.Kept.{Kept as Record-kept}
 use Rattle.opening.specs.Open.{Plan, refuse, take, planOf, carriedOut, Opening, openOf, closedAt, closeOf}
 use Rattle.record.specs.declared.Offered.{Offered}
-use Rattle.record.specs.Offer.{offerOf}
+use Rattle.record.specs.Offer.{nameIn, offerOf}
 use Rattle.record.specs.Told.{offeredTold}
 use Rattle.standing.specs.declared.Standing.{Standing}
 use Rattle.standing.specs.Status.{statusOf}
@@ -41,12 +40,12 @@ use Rattle.promises.specs.Statements.{Alike, answersAbout, TwoSequences}
 use Rattle.promises.proofs.Views.{Kept, offer-leaves, step-leaves, step-length}
 
 -- two stores of one length that show the same at r's place
-pub record Like (r : ℕ) (h : Record) (s t : List ℕ) : Type 0 where
+pub record Like (r : Name) (h : Record) (s t : List ℕ) : Type 0 where
   pub sized : length s ≡ length t
   pub seen : (i : ℕ) → placeNamed (h .places) r ≡ At i → contents (getD (h .places) i unused) s ≡ contents (getD (h .places) i unused) t
 
 -- two states so
-pub record LikeStates (r : ℕ) (x y : State) : Type 0 where
+pub record LikeStates (r : Name) (x y : State) : Type 0 where
   pub same-held : x .held ≡ y .held
   pub like : Like r (x .held) (x .store) (y .store)
 
@@ -56,10 +55,10 @@ found-same i j e = cc
 nothing-found : {A : Type 0} (i : ℕ) (f : Found) → f ≡ Nothing → f ≡ At i → A
 nothing-found i f p q = absurd (let z : _≡_ {A = ℕ} 0 1 = cc in omega arith)
 
-module _ (r : ℕ) (h : Record) (s t : List ℕ) (l : Like r h s t) where
+module _ (r : Name) (h : Record) (s t : List ℕ) (l : Like r h s t) where
   -- ---- close
 
-  like-close : (x : ℕ) → closeOf h s x ≡ closeOf h t x
+  like-close : (x : Name) → closeOf h s x ≡ closeOf h t x
   unfolding closeOf
   like-close x = ap (λ (n : ℕ). cond (not (good n (h .places))) (record { «record» = h; verdict = Verdict.Refused Refusal.Record }) (closedAt h (placeNamed (h .places) x))) (l .sized)
 
@@ -89,7 +88,7 @@ module _ (r : ℕ) (h : Record) (s t : List ℕ) (l : Like r h s t) where
       carried-kept g count (planOf h (length s) g count) ∙ ap (λ (n : ℕ). carriedOut h t g count (planOf h n g count) .kept) (l .sized)
 
   -- r itself opened: refused on both sides, or empty on both
-  open-own-like : (g : Settings) (count : ℕ) → g .resource ≡ r → Like r (openOf h s g count .kept .«record») (openOf h s g count .store) (openOf h t g count .store)
+  open-own-like : (g : Settings) (count : ℕ) → settingsName g ≡ r → Like r (openOf h s g count .kept .«record») (openOf h s g count .store) (openOf h t g count .store)
   open-own-like g count own = by (planOf h (length s) g count) refl
     where
       there : (p : Plan) → planOf h (length s) g count ≡ p → planOf h (length t) g count ≡ p
@@ -119,7 +118,7 @@ module _ (r : ℕ) (h : Record) (s t : List ℕ) (l : Like r h s t) where
 
   like-offer : (q : List ℕ) → names r q ≡ true → offerOf h s q .answer ≡ offerOf h t q .answer
   like-offer q own =
-      let named : resourceIn q ≡ r = eqb-true (resourceIn q) r (and-both (ltb 4 (length q)) _ own .1) in
+      let named : nameIn q ≡ r = name-same (nameIn q) r (and-both (ltb 12 (length q)) _ own .1) in
       alike-answer h s t q (l .sized) (λ i n. l .seen i (ap (placeNamed (h .places)) (sym named) ∙ n))
 
   offer-own-like : (q : List ℕ) → Like r h (offerOf h s q .store) (offerOf h t q .store)
@@ -131,7 +130,7 @@ module _ (r : ℕ) (h : Record) (s t : List ℕ) (l : Like r h s t) where
 -- ---- any call
 
 -- a call that is not about r, on both sides
-unnamed-like : (r : ℕ) (h h′ : Record) (s t s′ t′ : List ℕ) → Like r h s t → Kept r h s h′ s′ → length s′ ≡ length s
+unnamed-like : (r : Name) (h h′ : Record) (s t s′ t′ : List ℕ) → Like r h s t → Kept r h s h′ s′ → length s′ ≡ length s
     → ((i : ℕ) → placeNamed (h .places) r ≡ At i → contents (getD (h .places) i unused) t′ ≡ contents (getD (h .places) i unused) t) → length t′ ≡ length t → Like r h′ s′ t′
 unnamed-like r h h′ s t s′ t′ l k es kt et = record {
   sized = es ∙ l .sized ∙ sym et;
@@ -141,12 +140,12 @@ unnamed-like r h h′ s t s′ t′ l k es kt et = record {
 }
 
 -- what is to be shown of a call: the states stay alike, and what is about r is answered alike
-record StepAlike (r : ℕ) (c : Call) (x y : State) : Type 0 where
+record StepAlike (r : Name) (c : Call) (x y : State) : Type 0 where
   states : LikeStates r (step c x .state) (step c y .state)
   answers : about r c ≡ true → step c x .answer ≡ step c y .answer
 
 -- the record after a call depends on the record and the store's length
-held-after : (r : ℕ) (c : Call) (h : Record) (s t : List ℕ) → Like r h s t → step c (record { held = h; store = s }) .state .held ≡ step c (record { held = h; store = t }) .state .held
+held-after : (r : Name) (c : Call) (h : Record) (s t : List ℕ) → Like r h s t → step c (record { held = h; store = s }) .state .held ≡ step c (record { held = h; store = t }) .state .held
 unfolding step
 held-after r (packing file g n out) h s t l = refl
 held-after r (opening g count) h s t l = ap (λ (k : Record-kept). k .«record») (like-open r h s t l g count)
@@ -156,30 +155,30 @@ held-after r (handing x n out) h s t l = refl
 held-after r (closing x) h s t l = ap (λ (k : Record-kept). k .«record») (like-close r h s t l x)
 
 -- about r, on both sides
-named-step : (r : ℕ) (c : Call) (h : Record) (s t : List ℕ) → Like r h s t → about r c ≡ true
+named-step : (r : Name) (c : Call) (h : Record) (s t : List ℕ) → Like r h s t → about r c ≡ true
     → (step c (record { held = h; store = s }) .answer ≡ step c (record { held = h; store = t }) .answer)
     × Like r (step c (record { held = h; store = s }) .state .held) (step c (record { held = h; store = s }) .state .store) (step c (record { held = h; store = t }) .state .store)
 unfolding step
 named-step r (packing file g n out) h s t l e = (refl, l)
 named-step r (opening g count) h s t l e =
-    (ap (λ (k : Record-kept). telling (verdictTold (k .verdict))) (like-open r h s t l g count), open-own-like r h s t l g count (eqb-true (g .resource) r e))
+    (ap (λ (k : Record-kept). telling (verdictTold (k .verdict))) (like-open r h s t l g count), open-own-like r h s t l g count (name-same (settingsName g) r e))
 named-step r (offering q) h s t l e = (ap (λ (a : Offered). telling (offeredTold a)) (like-offer r h s t l q e), offer-own-like r h s t l q)
 named-step r (asking x) h s t l e =
-    let same : x ≡ r = eqb-true x r e in
+    let same : x ≡ r = name-same x r e in
     (ap (λ (a : Standing). telling (standingTold a)) (ap (statusOf h s) same ∙ status-same h s t r (l .sized) (l .seen) ∙ sym (ap (statusOf h t) same)), l)
 named-step r (handing x n out) h s t l e =
-    let same : x ≡ r = eqb-true x r e in (
+    let same : x ≡ r = name-same x r e in (
       ap (λ (a : Handing). record { told = verdictTold (a .answer); output = a .output })
-          (ap (λ (y : ℕ). handOutOf h s y n out) same ∙ hand-same h s t r (l .sized) (l .seen) n out ∙ sym (ap (λ (y : ℕ). handOutOf h t y n out) same)),
+          (ap (λ (y : Name). handOutOf h s y n out) same ∙ hand-same h s t r (l .sized) (l .seen) n out ∙ sym (ap (λ (y : Name). handOutOf h t y n out) same)),
       l,
     )
 named-step r (closing x) h s t l e =
-    let same : x ≡ r = eqb-true x r e in (
+    let same : x ≡ r = name-same x r e in (
       ap (λ (k : Record-kept). telling (verdictTold (k .verdict))) (like-close r h s t l x),
-      subst (λ (y : ℕ). Like r (closeOf h s y .«record») s t) (sym same) (close-own-like r h s t l),
+      subst (λ (y : Name). Like r (closeOf h s y .«record») s t) (sym same) (close-own-like r h s t l),
     )
 
-common : (r : ℕ) (c : Call) (h : Record) (s t : List ℕ) → Like r h s t → StepAlike r c (record { held = h; store = s }) (record { held = h; store = t })
+common : (r : Name) (c : Call) (h : Record) (s t : List ℕ) → Like r h s t → StepAlike r c (record { held = h; store = s }) (record { held = h; store = t })
 common r c h s t l = by (about r c) refl
   where
     by : (b : Bool) → about r c ≡ b → StepAlike r c (record { held = h; store = s }) (record { held = h; store = t })
@@ -196,7 +195,7 @@ common r c h s t l = by (about r c) refl
       answers = λ z. differ (sym z ∙ e);
     }
 
-step-alike : (r : ℕ) (c : Call) (x y : State) → LikeStates r x y → StepAlike r c x y
+step-alike : (r : Name) (c : Call) (x y : State) → LikeStates r x y → StepAlike r c x y
 step-alike r c x y k =
     let same : record { held = x .held; store = y .store } ≡ y = λ i. record { held = k .same-held i; store = y .store } in
     subst (StepAlike r c x) same (common r c (x .held) (x .store) (y .store) (k .like))
@@ -204,7 +203,7 @@ step-alike r c x y k =
 -- ---- runs
 
 -- an offer that does not name r, on one side alone
-one-side : (r : ℕ) (q : List ℕ) (x y : State) → names r q ≡ false → LikeStates r x y → LikeStates r (step (offering q) x .state) y
+one-side : (r : Name) (q : List ℕ) (x y : State) → names r q ≡ false → LikeStates r x y → LikeStates r (step (offering q) x .state) y
 unfolding step
 one-side r q x y n k =
     let o = offer-leaves r (x .held) (x .store) q n in
@@ -216,13 +215,13 @@ one-side r q x y n k =
       };
     }
 
-turned : (r : ℕ) (x y : State) → LikeStates r x y → LikeStates r y x
+turned : (r : Name) (x y : State) → LikeStates r x y → LikeStates r y x
 turned r x y k = record {
   same-held = sym (k .same-held);
   like = subst (λ (h : Record). Like r h (y .store) (x .store)) (k .same-held) (record { sized = sym (k .like .sized); seen = λ i e. sym (k .like .seen i e) });
 }
 
-runs : (r : ℕ) {cs ds : List Call} → Alike r cs ds → (x y : State) → LikeStates r x y → answersAbout step r cs x ≡ answersAbout step r ds y
+runs : (r : Name) {cs ds : List Call} → Alike r cs ds → (x y : State) → LikeStates r x y → answersAbout step r cs x ≡ answersAbout step r ds y
 runs r Alike.ended x y k = refl
 runs r (Alike.both {cs} {ds} c a) x y k =
     let p = step-alike r c x y k in

@@ -20,7 +20,7 @@ use Rattle.packet.specs.Packet.{readOf}
 use Rattle.places.specs.declared.Place.{Place}
 use Rattle.places.specs.declared.Found.{Found}
 use Rattle.places.specs.declared.Found.the-variants.{At, Nothing}
-use Rattle.places.specs.Places.{unused, inUse, names as holds, good, endOf, placeNamed}
+use Rattle.places.specs.Places.{Name, unused, inUse, names as holds, good, endOf, placeNamed}
 use Rattle.ground.proofs.Truth.{differ, fails}
 use Rattle.places.proofs.Searches.{first-only}
 use Rattle.places.proofs.Named.{names-in-use}
@@ -36,7 +36,7 @@ use Rattle.record.specs.declared.Offered.the-variants.{Repeat}
 use Rattle.code.specs.Mend.{Mended, whole, broken}
 use Rattle.record.specs.Mend.{payloadIn, mendedIn}
 use Rattle.sealing.specs.Sealing.{agrees}
-use Rattle.record.specs.Offer.{differs, Judged, refuse, put, judgeMended, judge, judgeBy, putInto, Offering, storing, offerJudged, offerOf}
+use Rattle.record.specs.Offer.{packetName, differs, Judged, refuse, put, judgeMended, judge, judgeBy, putInto, Offering, storing, offerJudged, offerOf}
 use Rattle.record.specs.Told.{offeredTold}
 use Rattle.record.proofs.OfferCases.{payload-length, mended-plain, mended-rows}
 use Rattle.record.proofs.OfferFacts.{Read, read-known}
@@ -50,7 +50,7 @@ use Rattle.promises.specs.Calls.{State, step, telling}
 use Rattle.promises.specs.Statements.{RowsNear, placeAt, slotIn, Held, lowestValues, slotsTold, StatusBySlots, Carried, OthersStay, Accepts, OffersBySlots}
 use Rattle.promises.proofs.EachRow.{rows-near}
 
--- ---- the place that holds a resource
+-- ---- the place that holds a resource and type
 
 -- a place in use is one of the record's
 pub used-within : (x : State) (i : ℕ) → inUse (placeAt x i) ≡ true → i < length (x .held .places)
@@ -59,7 +59,7 @@ used-within x i u = ⊎-elim (λ l. l) (λ h. absurd (beyond h)) (lt-or-ge i (le
     beyond : length (x .held .places) ≤ i → ⊥
     beyond h = differ (sym u ∙ ap inUse (List·getD-eq-default (x .held .places) unused h))
 
-module _ (x : State) (r i : ℕ) where
+module _ (x : State) (r : Name) (i : ℕ) where
   pub held-found : Held x r i → placeNamed (x .held .places) r ≡ At i
   held-found h =
       let within : i < length (x .held .places) = used-within x i (names-in-use (placeAt x i) r (h .named)) in
@@ -160,14 +160,14 @@ module _ (x : State) (q : List ℕ) where
   abbrev Says : Offering → Type 0
   Says o = offeredTold (o .answer) .number ≡ 0 → Accepts x q (record { held = x .held; store = o .store }) (offeredTold (o .answer) .values)
 
-  module _ (g : good (length (x .store)) (x .held .places) ≡ true) (f : Packet) (read : readOf q ≡ Sent f) (i : ℕ) (found : placeNamed (x .held .places) (f .resource) ≡ At i) where
+  module _ (g : good (length (x .store)) (x .held .places) ≡ true) (f : Packet) (read : readOf q ≡ Sent f) (i : ℕ) (found : placeNamed (x .held .places) (packetName f) ≡ At i) where
     carried : (n : ℕ) (b : List ℕ) → judge (placeAt x i) f q ≡ put n b → Placed (placeAt x i) f n b → Carried x q i n b
     carried n b e w =
         let k = puts-known (placeAt x i) f q n b e in
         record {
           fields = f;
           read = read;
-          held = found-held x (f .resource) i g found;
+          held = found-held x (packetName f) i g found;
           serves = k .serves;
           number = w .number;
           below = w .below;
@@ -183,9 +183,9 @@ module _ (x : State) (q : List ℕ) where
         → Says (storing (x .store) (slotAt (placeAt x i) n) b (putInto c b))
     slot-said n b e w wrong z o = absurd (omega arith)
     slot-said n b e w (holding []) z o =
-        let used = names-in-use (placeAt x i) (f .resource) (found-names (x .held .places) (f .resource) i found .1) in
+        let used = names-in-use (placeAt x i) (packetName f) (found-names (x .held .places) (packetName f) i found .1) in
         let room : length b ≤ placeAt x i .slot = fits-room (placeAt x i) (length b) (w .fits) in
-        let ends : endOf (placeAt x i) ≤ length (x .store) = named-facts (length (x .store)) (x .held .places) g (f .resource) i found .ends-within in
+        let ends : endOf (placeAt x i) ≤ length (x .store) = named-facts (length (x .store)) (x .held .places) g (packetName f) i found .ends-within in
         Accepts.stored i n b (carried n b e w) z
         (slot-stored (placeAt x i) (x .store) n b (omega (arith, slot-within (placeAt x i) n (w .below) .1)) (w .fits))
         (others-stay x i n b used g (w .below) room)

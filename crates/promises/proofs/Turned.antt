@@ -25,11 +25,12 @@ use Rattle.settings.specs.Settings.{settingsFit}
 use Rattle.pack.specs.Pack.{packetOf}
 use Rattle.places.specs.declared.Place.{Place}
 use Rattle.places.specs.declared.Found.the-variants.{At, Nothing}
-use Rattle.places.specs.Places.{firstFrom, freshRecord, placeOf}
+use Rattle.places.specs.Places.{Name, settingsName, firstFrom, freshRecord, placeOf}
 use Rattle.contents.specs.Contents.{Slot as Content, holding, contents}
 use Rattle.opening.specs.Open.{take as take-plan, Opening}
 use Rattle.opening.proofs.PlanLaws.{Taking, taking-plan, open-by}
 use Rattle.opening.proofs.OpenLaws.{open-empty}
+use Rattle.record.specs.Offer.{packetName}
 use Rattle.record.proofs.OfferCases.{payload-length}
 use Rattle.record.proofs.OfferFacts.{read-known}
 use Rattle.handing.specs.Hand.{Handing, handContents, handOutOf}
@@ -74,8 +75,8 @@ opened = step (opening one 1) (fresh room) .state
 pub begun : Collecting one byte protected 0 0 opened
 begun = opened-collecting one byte protected (fresh room) 0 0 taking-one
 
-held : Held opened 5 0
-held = found-held opened 5 0 (begun .sound) (begun .named)
+held : Held opened (settingsName one) 0
+held = found-held opened (settingsName one) 0 (begun .sound) (begun .named)
 
 empty : contents (placeAt opened 0) (opened .store) ≡ holding [] ∷ []
 unfolding step
@@ -114,10 +115,10 @@ pub losing-turned : OffersBySlots losing → ⊥
 unfolding losing
 losing-turned d = stored-changes opened packet (0 ∷ []) (d opened packet refl) refl
 
-empty-handed : handOutOf (opened .held) (opened .store) 5 1 (0 ∷ []) ≡ record { answer = Refused (Missing 0); output = 0 ∷ [] }
+empty-handed : handOutOf (opened .held) (opened .store) (settingsName one) 1 (0 ∷ []) ≡ record { answer = Refused (Missing 0); output = 0 ∷ [] }
 unfolding handContents
 empty-handed =
-    out-found (opened .held) (opened .store) 5 (begun .sound) 1 (0 ∷ []) 0 (begun .named)
+    out-found (opened .held) (opened .store) (settingsName one) (begun .sound) 1 (0 ∷ []) 0 (begun .named)
     ∙ ap (λ (c : List Content). handContents (placeAt opened 0) c 1 (0 ∷ [])) empty
 
 pub losing-breaks-demand-3 : FromFresh losing → ⊥
@@ -129,13 +130,13 @@ losing-breaks-demand-3 d =
 
 -- ---- one that answers Stored always: the file's packet, where no place is open
 
-none-open : (s : List ℕ) (r i : ℕ) → Held (fresh s) r i → ⊥
+none-open : (s : List ℕ) (r : Name) (i : ℕ) → Held (fresh s) r i → ⊥
 unfolding firstFrom
 none-open s r i h = let e : Nothing ≡ At i = held-found (fresh s) r i h in let z : _≡_ {A = ℕ} 0 1 = cc in omega arith
 
-accepts-held : (x : State) (q : List ℕ) (y : State) {v : List ℕ} → Accepts x q y v → (r : ℕ) × (i : ℕ) × Held x r i
-accepts-held x q y (Accepts.stored i n b c empty full others) = (c .fields .resource, i, c .held)
-accepts-held x q y (Accepts.again i n b c full same) = (c .fields .resource, i, c .held)
+accepts-held : (x : State) (q : List ℕ) (y : State) {v : List ℕ} → Accepts x q y v → (r : Name) × (i : ℕ) × Held x r i
+accepts-held x q y (Accepts.stored i n b c empty full others) = (packetName (c .fields), i, c .held)
+accepts-held x q y (Accepts.again i n b c full same) = (packetName (c .fields), i, c .held)
 
 pub boasting-turned : OffersBySlots boasting → ⊥
 unfolding boasting
@@ -148,10 +149,10 @@ boasting-turned d =
 pub inventing-turned : StatusBySlots inventing → ⊥
 unfolding inventing
 inventing-turned d =
-    let said : step (asking 5) opened .answer ≡ telling (slotsTold (holding [] ∷ [])) =
-    ap (λ (o : Outcome). o .answer) (status-by-slots opened 5 0 held) ∙ ap (λ (c : List Content). telling (slotsTold c)) empty in
+    let said : step (asking (settingsName one)) opened .answer ≡ telling (slotsTold (holding [] ∷ [])) =
+    ap (λ (o : Outcome). o .answer) (status-by-slots opened (settingsName one) 0 held) ∙ ap (λ (c : List Content). telling (slotsTold c)) empty in
     let e : invented (telling (slotsTold (holding [] ∷ []))) ≡ telling (slotsTold (holding [] ∷ [])) =
-    ap invented (sym said) ∙ ap (λ (o : Outcome). o .answer) (d opened 5 0 held) ∙ ap (λ (c : List Content). telling (slotsTold c)) empty in
+    ap invented (sym said) ∙ ap (λ (o : Outcome). o .answer) (d opened (settingsName one) 0 held) ∙ ap (λ (c : List Content). telling (slotsTold c)) empty in
     let z : _≡_ {A = ℕ} 7 0 = ap (λ (a : Answer). getD (a .told .values) 0 0) e in
     omega arith
 

@@ -1,20 +1,19 @@
--- The calls upon a record and its store, each by the definition that its contract cites, and runs of calls: document 01, sections 4 and 5.
+-- The calls upon a record and its store, each by the definition that its contract cites, and runs of calls: document 01, sections 4 and 5; document 02, R-1.
 -- A program answers each call; ours is `step`, and every statement is about any program. Assumes nothing.
 use mathlib.Core.Bool.{Bool, _&&_}
 use mathlib.Core.List.{List, [], _∷_}
 use Prim.Native.Nat.{ℕ}
-use lib.Dec.{eqb, ltb}
+use lib.Dec.{ltb}
 use lib.ListN.{length}
 use Rattle.refusals.specs.Told.{Told, verdictTold}
 use Rattle.settings.specs.declared.Settings.{Settings}
-use Rattle.packet.specs.Packet.{resourceIn}
 use Rattle.settings.specs.Settings.{house}
 use Rattle.pack.specs.Pack.{packOf}
 use Rattle.pack.specs.Told.{packedTold}
 use Rattle.places.specs.declared.Record.{Record}
-use Rattle.places.specs.Places.{freshRecord}
+use Rattle.places.specs.Places.{Name, settingsName, sameName, freshRecord}
 use Rattle.opening.specs.Open.{openOf, closeOf}
-use Rattle.record.specs.Offer.{offerOf}
+use Rattle.record.specs.Offer.{nameIn, offerOf}
 use Rattle.record.specs.Told.{offeredTold}
 use Rattle.standing.specs.Status.{statusOf}
 use Rattle.standing.specs.Told.{standingTold}
@@ -27,12 +26,12 @@ pub data Call : Type 0 where
   opening : Settings → ℕ → Call
   -- a packet
   offering : List ℕ → Call
-  -- a resource
-  asking : ℕ → Call
-  -- resource, length, output
-  handing : ℕ → ℕ → List ℕ → Call
-  -- a resource
-  closing : ℕ → Call
+  -- resource and type
+  asking : Name → Call
+  -- resource and type, length, output
+  handing : Name → ℕ → List ℕ → Call
+  -- resource and type
+  closing : Name → Call
 
 -- the calls without settings are the calls at the house setting
 abbrev pub packingHouse : List ℕ → ℕ → ℕ → ℕ → ℕ → List ℕ → Call
@@ -97,15 +96,15 @@ run f (c ∷ cs) x = record { answers = f c x .answer ∷ run f cs (f c x .state
 abbrev pub fresh : List ℕ → State
 fresh s = record { held = freshRecord; store = s }
 
--- a packet names the resource in its bytes 3 and 4; a shorter input names none
-abbrev pub names : ℕ → List ℕ → Bool
-names r q = ltb 4 (length q) && eqb (resourceIn q) r
+-- a packet names resource and type by its bytes 3, 4 and the two high bits of byte 12; a shorter input names none
+abbrev pub names : Name → List ℕ → Bool
+names r q = ltb 12 (length q) && sameName (nameIn q) r
 
--- which calls are about a resource
-abbrev pub about : ℕ → Call → Bool
-about r (packing file g n out) = eqb (g .resource) r
-about r (opening g count) = eqb (g .resource) r
+-- which calls are about a resource and type
+abbrev pub about : Name → Call → Bool
+about r (packing file g n out) = sameName (settingsName g) r
+about r (opening g count) = sameName (settingsName g) r
 about r (offering q) = names r q
-about r (asking x) = eqb x r
-about r (handing x n out) = eqb x r
-about r (closing x) = eqb x r
+about r (asking x) = sameName x r
+about r (handing x n out) = sameName x r
+about r (closing x) = sameName x r

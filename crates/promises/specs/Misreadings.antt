@@ -22,7 +22,7 @@ use Rattle.contents.specs.Slots.{stored}
 use Rattle.code.specs.Mend.{Mended, whole}
 use Rattle.record.specs.Mend.{payloadIn, mendedIn}
 use Rattle.sealing.specs.Sealing.{agrees}
-use Rattle.record.specs.Offer.{Judged, refuse, put, judge}
+use Rattle.record.specs.Offer.{packetName, Judged, refuse, put, judge}
 use Rattle.promises.specs.Calls.{State, Program, step, telling}
 use Rattle.promises.specs.Calls.Call.{offering}
 use Rattle.promises.specs.Statements.{placeAt}
@@ -54,7 +54,7 @@ putFound x f q (At i) = putAt (placeAt x i) (x .store) (judge (placeAt x i) f q)
 putFound x f q Nothing = x .store
 
 abbrev pub putRead : State → List ℕ → Reading → List ℕ
-putRead x q (Sent f) = putFound x f q (placeNamed (x .held .places) (f .resource))
+putRead x q (Sent f) = putFound x f q (placeNamed (x .held .places) (packetName f))
 putRead x q (Refused r) = x .store
 
 unfoldable pub replacing : Told → Program

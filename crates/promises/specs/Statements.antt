@@ -1,13 +1,13 @@
--- What an institute may rely on: document 01, section 5, section 7, and the order's demands 2 and 3. Each statement is about any program; proofs/ shows them of `step`.
+-- What an institute may rely on: document 01, section 5, section 7, the order's demands 2 and 3, and document 02, R-1. Each statement is about any program; proofs/ shows them of `step`.
 -- docs/PROMISES.md says each in plain words. Assumes nothing.
 use mathlib.Core.Path.{_≡_}
 use mathlib.Core.Logic.{_⊎_}
-use mathlib.Core.Bool.{true, false, cond}
+use mathlib.Core.Bool.{Bool, true, false, cond}
 use mathlib.Core.List.{List, [], _∷_, _++_, map}
 use Prim.Native.Nat.{ℕ, _-_, _*_, _%_, _≤_, _<_}
 use lib.ListN.{length, getD, take, drop, replicate}
 use Rattle.ground.specs.Lists.{listed}
-use Rattle.refusals.specs.declared.Refusal.the-variants.{Other, Slot, Size}
+use Rattle.refusals.specs.declared.Refusal.the-variants.{Unknown, Other, Slot, Size}
 use Rattle.refusals.specs.Told.{Told, acceptedWith, refusedAs}
 use Rattle.code.specs.Code.{Bytes, distance}
 use Rattle.code.specs.Repair.{Near}
@@ -22,11 +22,11 @@ use Rattle.pack.specs.Pack.{largestFile, countOf, payloadOf, packetOf}
 use Rattle.places.specs.declared.Place.{Place}
 use Rattle.places.specs.declared.Found.{Found}
 use Rattle.places.specs.declared.Found.the-variants.{At, Nothing}
-use Rattle.places.specs.Places.{unused, inUse, names as holds, good, placeOf, coverOf}
+use Rattle.places.specs.Places.{Name, settingsName, unused, inUse, names as holds, good, placeOf, coverOf}
 use Rattle.contents.specs.Contents.{Slot as Content, holding, slotOf, contents, anyWrong, filled, lowestEmpty}
 use Rattle.record.specs.Mend.{payloadIn}
 use Rattle.sealing.specs.Sealing.{agrees}
-use Rattle.record.specs.Offer.{differs, judge, put}
+use Rattle.record.specs.Offer.{packetName, differs, judge, put}
 use Rattle.promises.specs.Calls.{Call, Answer, telling, State, Program, run, fresh, names, about}
 use Rattle.promises.specs.Calls.Call.{packing, opening, offering, asking, handing, closing}
 
@@ -79,21 +79,21 @@ pub record Copy (g : Settings) (file : List ℕ) (n : ℕ) (q : List ℕ) : Type
   pub rows : (i : ℕ) → distance (rowIn q i) (rowIn (packetOf g file n) i) ≤ 8
 
 -- q brings the file's own place no payload but the file's: there it is refused, whatever the store holds, or what it puts is what the file has under that number. Noise is
--- such an offer, with the resource in it or not: its fields are refused or differ from the place's, a row has no coded row within eight bytes, or the CRC differs
+-- such an offer, with the resource and type in it or not: its fields are refused or differ from the place's, a row has no coded row within eight bytes, or the CRC differs
 abbrev pub BringsNoOther : Settings → List ℕ → List ℕ → Type 0
 BringsNoOther g file q =
     (f : Packet) → readOf q ≡ Sent f → (n : ℕ) (b : List ℕ) → judge (placeOf g (countOf g (length file)) 0) f q ≡ put n b → b ≡ payloadOf g file n
 
--- what may stand in the list: a copy, an offer that does not name the resource, any other that brings no other payload, and every other call but one that closes the resource
+-- what may stand in the list: a copy, an offer that does not name the file's resource and type, any other that brings no other payload, and every other call but one that closes them
 pub data Fair (g : Settings) (file : List ℕ) : Call → Type 0 where
   copy : (n : ℕ) (q : List ℕ) → n < countOf g (length file) → Copy g file n q → Fair g file (offering q)
-  other : (q : List ℕ) → names (g .resource) q ≡ false → Fair g file (offering q)
+  other : (q : List ℕ) → names (settingsName g) q ≡ false → Fair g file (offering q)
   noise : (q : List ℕ) → BringsNoOther g file q → Fair g file (offering q)
   packs : (a : List ℕ) (s : Settings) (n : ℕ) (out : List ℕ) → Fair g file (packing a s n out)
   opens : (s : Settings) (count : ℕ) → Fair g file (opening s count)
-  asks : (r : ℕ) → Fair g file (asking r)
-  hands : (r n : ℕ) (out : List ℕ) → Fair g file (handing r n out)
-  closes : (r : ℕ) → (r ≡ g .resource → ⊥) → Fair g file (closing r)
+  asks : (r : Name) → Fair g file (asking r)
+  hands : (r : Name) (n : ℕ) (out : List ℕ) → Fair g file (handing r n out)
+  closes : (r : Name) → (r ≡ settingsName g → ⊥) → Fair g file (closing r)
 
 -- each call of the list may stand there
 pub data AllFair (g : Settings) (file : List ℕ) : List Call → Type 0 where
@@ -119,7 +119,7 @@ SomeCarry =
 abbrev pub HandsOut : Program → Settings → List ℕ → State → Type 0
 HandsOut f g file x =
     (out : List ℕ) → length file ≤ length out
-    → f (handing (g .resource) (length file) out) x .answer ≡ record { told = acceptedWith []; output = file ++ drop (length file) out }
+    → f (handing (settingsName g) (length file) out) x .answer ≡ record { told = acceptedWith []; output = file ++ drop (length file) out }
 
 -- from every state from which open with the file's own settings is accepted, which is number 0
 abbrev pub Demand3 : Program → Type 0
@@ -157,25 +157,25 @@ NoSecondLength =
 
 -- ---- two sequences
 
--- the same calls on both sides, but for offers that do not name r
-pub data Alike (r : ℕ) : List Call → List Call → Type 0 where
+-- the same calls on both sides, but for offers that do not name r, a resource and type
+pub data Alike (r : Name) : List Call → List Call → Type 0 where
   ended : Alike r [] []
   both : {cs ds : List Call} (c : Call) → Alike r cs ds → Alike r (c ∷ cs) (c ∷ ds)
   left : {cs ds : List Call} (q : List ℕ) → names r q ≡ false → Alike r cs ds → Alike r (offering q ∷ cs) ds
   right : {cs ds : List Call} (q : List ℕ) → names r q ≡ false → Alike r cs ds → Alike r cs (offering q ∷ ds)
 
 -- those of the answers to calls that are about r
-abbrev pub pick : ℕ → List Call → List Answer → List Answer
+abbrev pub pick : Name → List Call → List Answer → List Answer
 pick r [] answers = []
 pick r (c ∷ cs) [] = []
 pick r (c ∷ cs) (a ∷ rest) = cond (about r c) (a ∷ pick r cs rest) (pick r cs rest)
 
-abbrev pub answersAbout : Program → ℕ → List Call → State → List Answer
+abbrev pub answersAbout : Program → Name → List Call → State → List Answer
 answersAbout f r cs x = pick r cs (run f cs x .answers)
 
--- from a fresh record and the same store, every answer about the resource is the same
+-- from a fresh record and the same store, every answer about the resource and type is the same
 abbrev pub TwoSequences : Program → Type 0
-TwoSequences f = (r : ℕ) (s : List ℕ) (cs ds : List Call) → Alike r cs ds → answersAbout f r cs (fresh s) ≡ answersAbout f r ds (fresh s)
+TwoSequences f = (r : Name) (s : List ℕ) (cs ds : List Call) → Alike r cs ds → answersAbout f r cs (fresh s) ≡ answersAbout f r ds (fresh s)
 
 -- ---- a refusal changes nothing: an answer whose number is not 0
 
@@ -205,8 +205,8 @@ placeAt x i = getD (x .held .places) i unused
 abbrev pub slotIn : State → ℕ → ℕ → Content
 slotIn x i k = slotOf (placeAt x i) (x .store) k
 
--- the record is good for the store, and place i holds the resource
-pub record Held (x : State) (r i : ℕ) : Type 0 where
+-- the record is good for the store, and place i holds the resource and type
+pub record Held (x : State) (r : Name) (i : ℕ) : Type 0 where
   pub sound : good (length (x .store)) (x .held .places) ≡ true
   pub named : holds (placeAt x i) r ≡ true
 
@@ -222,7 +222,7 @@ slotsTold c = cond (anyWrong c) (refusedAs Slot) (acceptedWith (filled c ∷ low
 -- the status of a place that is open is told by its slots, and nothing changes
 abbrev pub StatusBySlots : Program → Type 0
 StatusBySlots f =
-    (x : State) (r i : ℕ) → Held x r i
+    (x : State) (r : Name) (i : ℕ) → Held x r i
     → f (asking r) x ≡ record { answer = telling (slotsTold (contents (placeAt x i) (x .store))); state = x }
 
 -- q carries b for slot n of place i: it is a packet of the place's file with that number, b is its payload, as it came without protection and near in each row with it, and
@@ -230,7 +230,7 @@ StatusBySlots f =
 pub record Carried (x : State) (q : List ℕ) (i n : ℕ) (b : List ℕ) : Type 0 where
   pub fields : Packet
   pub read : readOf q ≡ Sent fields
-  pub held : Held x (fields .resource) i
+  pub held : Held x (packetName fields) i
   pub serves : differs (placeAt x i) fields ≡ false
   pub number : n ≡ fields .number
   pub below : n < placeAt x i .count
@@ -266,7 +266,7 @@ DifferentCounts =
 -- a place has one count: there a packet with another is refused (11)
 abbrev pub OneCount : Program → Type 0
 OneCount f =
-    (x : State) (q : List ℕ) (fields : Packet) (i : ℕ) → readOf q ≡ Sent fields → Held x (fields .resource) i
+    (x : State) (q : List ℕ) (fields : Packet) (i : ℕ) → readOf q ≡ Sent fields → Held x (packetName fields) i
     → (fields .count ≡ placeAt x i .count → ⊥) → f (offering q) x .answer .told ≡ refusedAs Other
 
 -- what was collected as in demand 3 is not handed out at a length that needs another number of packets or of tables (23)
@@ -276,5 +276,56 @@ OtherLengthRefused f =
     → (x : State) → f (opening g (countOf g (length file))) x .answer .told .number ≡ 0
     → (cs : List Call) → Carries g file cs
     → (n : ℕ) → (countOf g n ≡ countOf g (length file) → ⊥) ⊎ (tablesOf (g .rows) n ≡ tablesOf (g .rows) (length file) → ⊥)
-    → (out : List ℕ) → f (handing (g .resource) n out) (run f cs (f (opening g (countOf g (length file))) x .state) .state) .answer
+    → (out : List ℕ) → f (handing (settingsName g) n out) (run f cs (f (opening g (countOf g (length file))) x .state) .state) .answer
     ≡ record { told = refusedAs Size; output = out }
+
+-- ---- a file and its description: document 02, R-1
+
+-- the two collections of a resource
+abbrev pub theFile : ℕ → Name
+theFile resource = record { resource = resource; kind = 1 }
+
+abbrev pub theDescription : ℕ → Name
+theDescription resource = record { resource = resource; kind = 2 }
+
+-- the calls, but for the offers that name r
+abbrev pub offersTo : Name → Call → Bool
+offersTo r (packing file g n out) = false
+offersTo r (opening g count) = false
+offersTo r (offering q) = names r q
+offersTo r (asking x) = false
+offersTo r (handing x n out) = false
+offersTo r (closing x) = false
+
+abbrev pub without : Name → List Call → List Call
+without r [] = []
+without r (c ∷ cs) = cond (offersTo r c) (without r cs) (c ∷ without r cs)
+
+-- they do not touch each other: whatever of the description is offered, every answer about the file is what it would be without, and the other way round
+pub record Untouched (f : Program) (resource : ℕ) (s : List ℕ) (cs : List Call) : Type 0 where
+  pub file : answersAbout f (theFile resource) cs (fresh s) ≡ answersAbout f (theFile resource) (without (theDescription resource) cs) (fresh s)
+  pub description : answersAbout f (theDescription resource) cs (fresh s) ≡ answersAbout f (theDescription resource) (without (theFile resource) cs) (fresh s)
+
+abbrev pub SideBySide : Program → Type 0
+SideBySide f = (resource : ℕ) (s : List ℕ) (cs : List Call) → Untouched f resource s cs
+
+-- collected at one time both come out: from every state in which the one and then the other is opened, by calls that carry both
+abbrev pub BothComeOut : Program → Type 0
+BothComeOut f =
+    (g d : Settings) (file text : List ℕ) → Protected g file → Protected d text
+    → (x y z : State) → y ≡ f (opening g (countOf g (length file))) x .state → f (opening g (countOf g (length file))) x .answer .told .number ≡ 0
+    → z ≡ f (opening d (countOf d (length text))) y .state → f (opening d (countOf d (length text))) y .answer .told .number ≡ 0
+    → (cs : List Call) → Carries g file cs → Carries d text cs
+    → HandsOut f g file (run f cs z .state) × HandsOut f d text (run f cs z .state)
+
+-- which is not empty: under two names, as a file's and its description's are, the packets of both carry both
+abbrev pub SomeCarryBoth : Type 0
+SomeCarryBoth =
+    (g d : Settings) (file text : List ℕ) → Protected g file → Protected d text → (settingsName g ≡ settingsName d → ⊥)
+    → (cs : List Call) × Carries g file cs × Carries d text cs
+
+-- an offered stream is Unknown (10), whatever is open
+abbrev pub StreamsUnknown : Program → Type 0
+StreamsUnknown f =
+    (x : State) (q : List ℕ) (fields : Packet) → good (length (x .store)) (x .held .places) ≡ true → readOf q ≡ Sent fields → fields .kind ≡ 0
+    → f (offering q) x .answer .told ≡ refusedAs Unknown

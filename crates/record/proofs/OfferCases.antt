@@ -33,7 +33,7 @@ use Rattle.record.specs.declared.Offered.the-variants.{Stored, Repeat, R
 use Rattle.code.specs.Mend.{Mended, whole, mendRows}
 use Rattle.record.specs.Mend.{payloadIn, mendedIn}
 use Rattle.sealing.specs.Sealing.{agrees}
-use Rattle.record.specs.Offer.{differs, refuse, put, judgeMended, judge, Offering, storing, offerJudged, offerOf, judgeBy, offerBy}
+use Rattle.record.specs.Offer.{packetName, differs, refuse, put, judgeMended, judge, Offering, storing, offerJudged, offerOf, judgeBy, offerBy}
 use Rattle.record.specs.InnerOffer.{Comes, judgeCrc, refusalIn}
 
 abbrev pub said : Offered → List ℕ → Offering
@@ -182,11 +182,11 @@ module _ (h : Record) (s q : List ℕ) where
     offer-unread r e = rw (g, e) refl
 
     module _ (f : Packet) (e : readOf q ≡ Sent f) where
-      pub offer-unknown : placeNamed (h .places) (f .resource) ≡ Nothing → offerOf h s q ≡ said (Refused Unknown) s
+      pub offer-unknown : placeNamed (h .places) (packetName f) ≡ Nothing → offerOf h s q ≡ said (Refused Unknown) s
       unfolding offerBy
       offer-unknown w = rw (g, e, w) refl
 
-      pub offer-placed : (i : ℕ) → placeNamed (h .places) (f .resource) ≡ At i
+      pub offer-placed : (i : ℕ) → placeNamed (h .places) (packetName f) ≡ At i
           → offerOf h s q ≡ offerJudged (getD (h .places) i unused) s (judge (getD (h .places) i unused) f q)
       unfolding offerBy
       offer-placed i w = rw (g, e, w) refl

@@ -14,14 +14,16 @@ use Rattle.refusals.specs.declared.Refusal.the-variants.{Short, Mark, Length, �
 use Rattle.packet.specs.declared.Packet.{Packet}
 use Rattle.packet.specs.declared.Reading.{Reading}
 use Rattle.packet.specs.declared.Reading.the-variants.{Sent, Refused}
-use Rattle.packet.specs.Packet.{resourceIn, fieldsIn, marked, badProtection, badNumber, badRows, judged, readOf}
-use Rattle.packet.proofs.Laws.{resource-in}
+use Rattle.packet.specs.Packet.{resourceIn, kindIn, fieldsIn, marked, badProtection, badNumber, badRows, judged, readOf}
+use Rattle.packet.proofs.Laws.{resource-in, kind-in}
 use Rattle.places.specs.declared.Place.{Place}
+use Rattle.places.specs.Places.{Name, names}
 use Rattle.ground.proofs.Truth.{neither}
+use Rattle.places.proofs.Named.{names-name}
 use Rattle.places.proofs.Facts.{PlaceFacts}
 use Rattle.contents.specs.Contents.{slotAt}
 use Rattle.contents.proofs.Slots.{slot-within}
-use Rattle.record.specs.Offer.{differs}
+use Rattle.record.specs.Offer.{packetName, nameIn, differs}
 
 -- ---- a packet that was read
 
@@ -71,13 +73,17 @@ read-known q f e =
           eqb-true _ _ (not-false _ (second-fails (eqb (f .protection) 1) _ (sym (ap (λ (x : Packet). badRows x (length q)) g) ∙ j .3) (eq-eqb _ _ o)));
     }
 
-pub read-resource : (q : List ℕ) (f : Packet) → readOf q ≡ Sent f → f .resource ≡ resourceIn q
-read-resource q f e = ap (λ (x : Packet). x .resource) (read-known q f e .fields) ∙ resource-in q
+-- it names what its bytes name
+pub read-name : (q : List ℕ) (f : Packet) → readOf q ≡ Sent f → packetName f ≡ nameIn q
+read-name q f e =
+    let k = read-known q f e .fields in
+    let r : f .resource ≡ resourceIn q = ap (λ (x : Packet). x .resource) k ∙ resource-in q in
+    let t : f .kind ≡ kindIn q = ap (λ (x : Packet). x .kind) k ∙ kind-in q in
+    λ i. record { resource = r i; kind = t i }
 
 -- ---- a packet of the file that a place collects
 
 pub record SameFile (p : Place) (f : Packet) : Type 0 where
-  pub kind : f .kind ≡ p .kind
   pub update : f .update ≡ p .update
   pub count : f .count ≡ p .count
   pub protection : f .protection ≡ p .protection
@@ -87,12 +93,10 @@ module _ (p : Place) (f : Packet) where
   pub same-file : differs p f ≡ false → SameFile p f
   unfolding differs
   same-file e =
-      let a = neither (not (eqb (f .kind) (p .kind))) _ e in
-      let b = neither (not (eqb (f .update) (p .update))) _ (a .1) in
+      let b = neither (not (eqb (f .update) (p .update))) _ e in
       let c = neither (not (eqb (f .count) (p .count))) _ (b .1) in
       let d = neither (not (eqb (f .protection) (p .protection))) _ (c .1) in
       record {
-        kind = eqb-true _ _ (not-false _ (a .0));
         update = eqb-true _ _ (not-false _ (b .0));
         count = eqb-true _ _ (not-false _ (c .0));
         protection = eqb-true _ _ (not-false _ (d .0));
@@ -102,22 +106,25 @@ module _ (p : Place) (f : Packet) where
   pub same-serves : SameFile p f → differs p f ≡ false
   unfolding differs
   same-serves s =
-      rw (eq-eqb _ _ (s .kind), eq-eqb _ _ (s .update), eq-eqb _ _ (s .count), eq-eqb _ _ (s .protection)) (by (eqb (f .protection) 1) refl)
+      rw (eq-eqb _ _ (s .update), eq-eqb _ _ (s .count), eq-eqb _ _ (s .protection)) (by (eqb (f .protection) 1) refl)
     where
       by : (t : Bool) → eqb (f .protection) 1 ≡ t → (t && not (eqb (f .rows) (p .rows))) ≡ false
       by true e = ap not (eq-eqb _ _ (s .rows (eqb-true _ _ e)))
       by false e = refl
 
--- its number is one of the place's slots
-pub slot-below : (n : ℕ) (p : Place) (f : Packet) → PlaceFacts n p → (0 < f .kind → f .number < f .count) → differs p f ≡ false → f .number < p .count
-slot-below n p f w b d =
-    let s = same-file p f d in
-    let k : 0 < f .kind = ⊎-elim (λ (e : p .kind ≡ 1). omega (arith, s .kind)) (λ (e : p .kind ≡ 2). omega (arith, s .kind)) (w .kind-either) in
-    omega (arith, b k, s .count)
+-- a place that a packet names holds no stream, so the packet is none
+pub no-stream : (n : ℕ) (p : Place) (f : Packet) → PlaceFacts n p → names p (packetName f) ≡ true → 0 < f .kind
+no-stream n p f w e =
+    let k : p .kind ≡ f .kind = ap (λ (x : Name). x .kind) (names-name p (packetName f) e) in
+    ⊎-elim (λ (o : p .kind ≡ 1). omega arith) (λ (o : p .kind ≡ 2). omega arith) (w .kind-either)
 
-pub slot-room : (n : ℕ) (p : Place) (f : Packet) → PlaceFacts n p → (0 < f .kind → f .number < f .count) → differs p f ≡ false
+-- its number is one of the place's slots
+pub slot-below : (p : Place) (f : Packet) → f .number < f .count → differs p f ≡ false → f .number < p .count
+slot-below p f b d = omega (arith, same-file p f d .count)
+
+pub slot-room : (n : ℕ) (p : Place) (f : Packet) → PlaceFacts n p → f .number < f .count → differs p f ≡ false
     → slotAt p (f .number) + (p .slot + 2) ≤ n
-slot-room n p f w b d = omega (arith, slot-within p (f .number) (slot-below n p f w b d) .1, w .ends-within)
+slot-room n p f w b d = omega (arith, slot-within p (f .number) (slot-below p f b d) .1, w .ends-within)
 
 -- where a slot starts, as the code reckons it
 pub slot-sum : (p : Place) (k : ℕ) → slotAt p k ≡ p .start + k * (p .slot + 2)

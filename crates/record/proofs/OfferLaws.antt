@@ -1,4 +1,4 @@
--- What an offer does, in terms of what places hold: document 01, section 5. It changes at most the addressed slot of the place that its resource names, and that from empty
+-- What an offer does, in terms of what places hold: document 01, section 5. It changes at most the addressed slot of the place that it names, and that from empty
 -- to the payload; and it depends on nothing else of the store but its length. The packet may be any list. Assumes nothing.
 use mathlib.Core.Path.{_≡_, refl, sym, ap, subst, _∙_}
 use mathlib.Core.Logic.{_⊎_, inl, inr, ⊎-map}
@@ -17,13 +17,13 @@ use Rattle.refusals.specs.declared.Refusal.the-variants.{Unknown, Other, Wide, 
 use Rattle.packet.specs.declared.Packet.{Packet}
 use Rattle.packet.specs.declared.Reading.{Reading}
 use Rattle.packet.specs.declared.Reading.the-variants.{Sent}
-use Rattle.packet.specs.Packet.{resourceIn, readOf}
+use Rattle.packet.specs.Packet.{readOf}
 use Rattle.places.specs.declared.Place.{Place}
 use Rattle.places.specs.declared.Record.{Record}
 use Rattle.places.specs.declared.Found.{Found}
 use Rattle.places.specs.declared.Found.the-variants.{At, Nothing}
-use Rattle.places.specs.Places.{unused, endOf, meets, good, placeNamed}
-use Rattle.places.proofs.Named.{names-resource, names-in-use}
+use Rattle.places.specs.Places.{Name, placeName, sameName, names, unused, endOf, meets, good, placeNamed}
+use Rattle.places.proofs.Named.{name-same, name-other, names-name, names-in-use}
 use Rattle.places.proofs.Facts.{PlaceFacts, named-facts, good-apart}
 use Rattle.places.proofs.Holders.{found-names}
 use Rattle.contents.specs.Contents.{Slot as Content, wrong, holding, slotAt, lengthFits, slotOf, contents}
@@ -35,9 +35,9 @@ use Rattle.record.specs.declared.Offered.the-variants.{Stored, Repeat, R
 use Rattle.code.specs.Mend.{Mended, whole, broken}
 use Rattle.record.specs.Mend.{payloadIn, mendedIn}
 use Rattle.sealing.specs.Sealing.{agrees}
-use Rattle.record.specs.Offer.{differs, Judged, refuse, put, judgeMended, judge, putInto, Offering, storing, offerJudged, offerOf, judgeBy}
+use Rattle.record.specs.Offer.{packetName, nameIn, differs, Judged, refuse, put, judgeMended, judge, putInto, Offering, storing, offerJudged, offerOf, judgeBy}
 use Rattle.record.proofs.OfferCases.{said, payload-length, judge-puts, offer-bad, offer-unread, offer-unknown, offer-placed}
-use Rattle.record.proofs.OfferFacts.{Read, read-known, read-resource, SameFile, same-file, same-serves, slot-below}
+use Rattle.record.proofs.OfferFacts.{Read, read-known, read-name, SameFile, same-file, same-serves, no-stream, slot-below}
 use Rattle.record.proofs.MendLaws.{mended-length, Altered, Intact, agrees-copy, mended-copy}
 
 -- ---- what is put fits the place
@@ -51,7 +51,7 @@ abbrev pub Sound : Place → Packet → Judged → Type 0
 Sound p f (refuse r) = Unit {0}
 Sound p f (put k b) = Placed p f k b
 
-module _ (n : ℕ) (p : Place) (f : Packet) (q : List ℕ) (w : PlaceFacts n p) (r : Read q f) where
+module _ (n : ℕ) (p : Place) (f : Packet) (q : List ℕ) (w : PlaceFacts n p) (named : names p (packetName f) ≡ true) (r : Read q f) where
   -- without protection any length is taken; with it the payload is whole rows
   rows-read : (f .protection ≡ 0) ⊎ ((length q - 18) % 255 ≡ 0)
   rows-read = by (eqb (f .protection) 0) refl
@@ -68,7 +68,7 @@ module _ (n : ℕ) (p : Place) (f : Packet) (q : List ℕ) (w : PlaceFacts n p) 
         let s = same-file p f d in
         record {
           number = refl;
-          below = slot-below n p f w (r .below) d;
+          below = slot-below p f (r .below (no-stream n p f w named)) d;
           fits = fits-made p (length b) (omega (arith, payload-length q h))
               (⊎-map (λ z. sym (s .protection) ∙ z) (λ z. ap (λ (x : ℕ). x % 255) e ∙ z) rows-read);
         }
@@ -215,19 +215,19 @@ storing-known p f q c c′ (put k b) e w a h = by (getD c k wrong) refl a h
 -- it is refused, or it comes to what the packet's place says
 pub data Case (h : Record) (s q : List ℕ) : Offering → Type 0 where
   refused : (r : Refusal) → Case h s q (said (Refused r) s)
-  placed : good (length s) (h .places) ≡ true → (f : Packet) → readOf q ≡ Sent f → (i : ℕ) → placeNamed (h .places) (f .resource) ≡ At i
+  placed : good (length s) (h .places) ≡ true → (f : Packet) → readOf q ≡ Sent f → (i : ℕ) → placeNamed (h .places) (packetName f) ≡ At i
       → Case h s q (offerJudged (getD (h .places) i unused) s (judge (getD (h .places) i unused) f q))
 
 module _ (h : Record) (s q : List ℕ) where
   pub offer-case : Case h s q (offerOf h s q)
   offer-case = record-judged (good (length s) (h .places)) refl
     where
-      found : good (length s) (h .places) ≡ true → (f : Packet) → readOf q ≡ Sent f → (w : Found) → placeNamed (h .places) (f .resource) ≡ w → Case h s q (offerOf h s q)
+      found : good (length s) (h .places) ≡ true → (f : Packet) → readOf q ≡ Sent f → (w : Found) → placeNamed (h .places) (packetName f) ≡ w → Case h s q (offerOf h s q)
       found g f e (At i) w = subst (Case h s q) (sym (offer-placed h s q g f e i w)) (placed g f e i w)
       found g f e Nothing w = subst (Case h s q) (sym (offer-unknown h s q g f e w)) (refused Unknown)
 
       fields-read : good (length s) (h .places) ≡ true → (x : Reading) → readOf q ≡ x → Case h s q (offerOf h s q)
-      fields-read g (Sent f) e = found g f e (placeNamed (h .places) (f .resource)) refl
+      fields-read g (Sent f) e = found g f e (placeNamed (h .places) (packetName f)) refl
       fields-read g (Reading.Refused r) e = subst (Case h s q) (sym (offer-unread h s q g r e)) (refused r)
 
       record-judged : (t : Bool) → good (length s) (h .places) ≡ t → Case h s q (offerOf h s q)
@@ -255,10 +255,10 @@ module _ (h : Record) (s q : List ℕ) where
   pub offer-repeat : offerOf h s q .answer ≡ Repeat → offerOf h s q .store ≡ s
   offer-repeat e = offer-unstored (λ (z : offerOf h s q .answer ≡ Stored). let o : _≡_ {A = ℕ} 0 1 = cc in omega arith)
 
-  -- ---- the place that the packet's resource names
-  module _ (g : good (length s) (h .places) ≡ true) (f : Packet) (e : readOf q ≡ Sent f) (i : ℕ) (w : placeNamed (h .places) (f .resource) ≡ At i) where
+  -- ---- the place that the packet names
+  module _ (g : good (length s) (h .places) ≡ true) (f : Packet) (e : readOf q ≡ Sent f) (i : ℕ) (w : placeNamed (h .places) (packetName f) ≡ At i) where
     pub offer-sound : Sound (getD (h .places) i unused) f (judge (getD (h .places) i unused) f q)
-    offer-sound = judge-sound (length s) (getD (h .places) i unused) f q (named-facts (length s) (h .places) g (f .resource) i w) (read-known q f e)
+    offer-sound = judge-sound (length s) (getD (h .places) i unused) f q (named-facts (length s) (h .places) g (packetName f) i w) (found-names (h .places) (packetName f) i w .1) (read-known q f e)
 
     pub offer-answer : offerOf h s q .answer ≡ answered (judge (getD (h .places) i unused) f q) (contents (getD (h .places) i unused) s)
     offer-answer =
@@ -269,7 +269,7 @@ module _ (h : Record) (s q : List ℕ) where
     offer-holds =
         ap (λ (o : Offering). contents (getD (h .places) i unused) (o .store)) (offer-placed h s q g f e i w)
         ∙ holds-at (getD (h .places) i unused) f s (judge (getD (h .places) i unused) f q) offer-sound
-        (named-facts (length s) (h .places) g (f .resource) i w .ends-within)
+        (named-facts (length s) (h .places) g (packetName f) i w .ends-within)
 
     pub offer-stored : offerOf h s q .answer ≡ Stored
         → Storing (getD (h .places) i unused) f q (contents (getD (h .places) i unused) s) (contents (getD (h .places) i unused) (offerOf h s q .store))
@@ -278,24 +278,24 @@ module _ (h : Record) (s q : List ℕ) where
         (sym offer-answer ∙ a) offer-holds
 
   -- ---- a place that it does not name
-  pub offer-other : (r j : ℕ) → placeNamed (h .places) r ≡ At j → (4 < length q → resourceIn q ≡ r → ⊥)
+  pub offer-other : (r : Name) (j : ℕ) → placeNamed (h .places) r ≡ At j → (12 < length q → nameIn q ≡ r → ⊥)
       → contents (getD (h .places) j unused) (offerOf h s q .store) ≡ contents (getD (h .places) j unused) s
   offer-other r j n d = by (offerOf h s q) offer-case
     where
       by : (o : Offering) → Case h s q o → contents (getD (h .places) j unused) (o .store) ≡ contents (getD (h .places) j unused) s
       by o (refused x) = refl
       by o (placed g f e i w) =
-          let a = found-names (h .places) (f .resource) i w in
+          let a = found-names (h .places) (packetName f) i w in
           let b = found-names (h .places) r j n in
           let least = read-known q f e .least in
-          let named : resourceIn q ≡ f .resource = sym (read-resource q f e) in
+          let named : nameIn q ≡ packetName f = sym (read-name q f e) in
           let apart : i ≡ j → ⊥ = λ (z : i ≡ j).
-          d (omega arith) (named ∙ sym (names-resource (getD (h .places) i unused) (f .resource) (a .1)) ∙ ap (λ (x : ℕ). getD (h .places) x unused .resource) z
-          ∙ names-resource (getD (h .places) j unused) r (b .1)) in
+          d (omega arith) (named ∙ sym (names-name (getD (h .places) i unused) (packetName f) (a .1)) ∙ ap (λ (x : ℕ). placeName (getD (h .places) x unused)) z
+          ∙ names-name (getD (h .places) j unused) r (b .1)) in
           leaves-at (getD (h .places) i unused) f s (judge (getD (h .places) i unused) f q) (offer-sound g f e i w) (getD (h .places) j unused)
           (apart-meets (getD (h .places) i unused) (getD (h .places) j unused)
           (good-apart (length s) (h .places) g i j (a .0) (b .0) apart
-          (names-in-use (getD (h .places) i unused) (f .resource) (a .1)) (names-in-use (getD (h .places) j unused) r (b .1))))
+          (names-in-use (getD (h .places) i unused) (packetName f) (a .1)) (names-in-use (getD (h .places) j unused) r (b .1))))
 
 -- ---- two stores of one length that hold the same at the place of a resource
 
@@ -307,21 +307,21 @@ module _ (h : Record) (s t q : List ℕ) (n : length s ≡ length t) where
   good-same x g = ap (λ (m : ℕ). good m (h .places)) (sym n) ∙ g
 
   -- an offer that names it is answered alike
-  pub alike-answer : ((i : ℕ) → placeNamed (h .places) (resourceIn q) ≡ At i → contents (getD (h .places) i unused) s ≡ contents (getD (h .places) i unused) t)
+  pub alike-answer : ((i : ℕ) → placeNamed (h .places) (nameIn q) ≡ At i → contents (getD (h .places) i unused) s ≡ contents (getD (h .places) i unused) t)
       → offerOf h s q .answer ≡ offerOf h t q .answer
   alike-answer same = judged (good (length s) (h .places)) refl
     where
-      found : good (length s) (h .places) ≡ true → (f : Packet) → readOf q ≡ Sent f → (w : Found) → placeNamed (h .places) (f .resource) ≡ w
+      found : good (length s) (h .places) ≡ true → (f : Packet) → readOf q ≡ Sent f → (w : Found) → placeNamed (h .places) (packetName f) ≡ w
           → offerOf h s q .answer ≡ offerOf h t q .answer
       found g f e (At i) w =
-          let named : f .resource ≡ resourceIn q = read-resource q f e in
+          let named : packetName f ≡ nameIn q = read-name q f e in
           offer-answer h s q g f e i w
           ∙ ap (answered (judge (getD (h .places) i unused) f q)) (same i (ap (placeNamed (h .places)) (sym named) ∙ w))
           ∙ sym (offer-answer h t q (good-same true g) f e i w)
       found g f e Nothing w = same-answer (offer-unknown h s q g f e w) (offer-unknown h t q (good-same true g) f e w)
 
       fields : good (length s) (h .places) ≡ true → (x : Reading) → readOf q ≡ x → offerOf h s q .answer ≡ offerOf h t q .answer
-      fields g (Sent f) e = found g f e (placeNamed (h .places) (f .resource)) refl
+      fields g (Sent f) e = found g f e (placeNamed (h .places) (packetName f)) refl
       fields g (Reading.Refused r) e = same-answer (offer-unread h s q g r e) (offer-unread h t q (good-same true g) r e)
 
       judged : (x : Bool) → good (length s) (h .places) ≡ x → offerOf h s q .answer ≡ offerOf h t q .answer
@@ -329,7 +329,7 @@ module _ (h : Record) (s t q : List ℕ) (n : length s ≡ length t) where
       judged false g = same-answer (offer-bad h s q g) (offer-bad h t q (good-same false g))
 
   -- and after any offer they hold the same again
-  module _ (r j : ℕ) (w : placeNamed (h .places) r ≡ At j) (c : contents (getD (h .places) j unused) s ≡ contents (getD (h .places) j unused) t) where
+  module _ (r : Name) (j : ℕ) (w : placeNamed (h .places) r ≡ At j) (c : contents (getD (h .places) j unused) s ≡ contents (getD (h .places) j unused) t) where
     abbrev Alike : Type 0
     Alike = contents (getD (h .places) j unused) (offerOf h s q .store) ≡ contents (getD (h .places) j unused) (offerOf h t q .store)
 
@@ -339,18 +339,18 @@ module _ (h : Record) (s t q : List ℕ) (n : length s ≡ length t) where
         ∙ sym (ap (λ (o : Offering). contents (getD (h .places) j unused) (o .store)) d)
 
     pub alike-holds : contents (getD (h .places) j unused) (offerOf h s q .store) ≡ contents (getD (h .places) j unused) (offerOf h t q .store)
-    alike-holds = names (eqb (resourceIn q) r) refl
+    alike-holds = alike (sameName (nameIn q) r) refl
       where
-        fields : resourceIn q ≡ r → good (length s) (h .places) ≡ true → (x : Reading) → readOf q ≡ x → Alike
+        fields : nameIn q ≡ r → good (length s) (h .places) ≡ true → (x : Reading) → readOf q ≡ x → Alike
         fields z g (Sent f) e =
-            let i : placeNamed (h .places) (f .resource) ≡ At j = ap (placeNamed (h .places)) (read-resource q f e ∙ z) ∙ w in
+            let i : placeNamed (h .places) (packetName f) ≡ At j = ap (placeNamed (h .places)) (read-name q f e ∙ z) ∙ w in
             offer-holds h s q g f e j i ∙ ap (heldAfter (judge (getD (h .places) j unused) f q)) c ∙ sym (offer-holds h t q (good-same true g) f e j i)
         fields z g (Reading.Refused x) e = said-alike (Refused x) (offer-unread h s q g x e) (offer-unread h t q (good-same true g) x e)
 
-        judged : resourceIn q ≡ r → (x : Bool) → good (length s) (h .places) ≡ x → Alike
+        judged : nameIn q ≡ r → (x : Bool) → good (length s) (h .places) ≡ x → Alike
         judged z true g = fields z g (readOf q) refl
         judged z false g = said-alike (Refused Refusal.Record) (offer-bad h s q g) (offer-bad h t q (good-same false g))
 
-        names : (x : Bool) → eqb (resourceIn q) r ≡ x → Alike
-        names true z = judged (eqb-true _ _ z) (good (length s) (h .places)) refl
-        names false z = offer-other h s q r j w (λ l. eqb-false _ _ z) ∙ c ∙ sym (offer-other h t q r j w (λ l. eqb-false _ _ z))
+        alike : (x : Bool) → sameName (nameIn q) r ≡ x → Alike
+        alike true z = judged (name-same _ _ z) (good (length s) (h .places)) refl
+        alike false z = offer-other h s q r j w (λ l. name-other _ _ z) ∙ c ∙ sym (offer-other h t q r j w (λ l. name-other _ _ z))

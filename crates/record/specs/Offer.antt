@@ -1,4 +1,4 @@
--- Offer: document 01, section 5. Refusals in the order 9, then 1 to 8 as the field reader gives them, then 10 to 16.
+-- Offer: document 01, section 5; by resource and type, document 02, R-1. Refusals in the order 9, then 1 to 8 as the field reader gives them, then 10 to 16.
 -- Assumes nothing.
 use mathlib.Core.Bool.{Bool, cond, not, _&&_, _||_}
 use mathlib.Core.List.{List, [], _∷_}
@@ -11,12 +11,12 @@ use Rattle.refusals.specs.declared.Refusal.the-variants.{Unknown, Other, Wide, 
 use Rattle.packet.specs.declared.Packet.{Packet}
 use Rattle.packet.specs.declared.Reading.{Reading}
 use Rattle.packet.specs.declared.Reading.the-variants.{Sent, Refused}
-use Rattle.packet.specs.Packet.{readOf}
+use Rattle.packet.specs.Packet.{resourceIn, kindIn, readOf}
 use Rattle.places.specs.declared.Place.{Place}
 use Rattle.places.specs.declared.Record.{Record}
 use Rattle.places.specs.declared.Found.{Found}
 use Rattle.places.specs.declared.Found.the-variants.{At, Nothing}
-use Rattle.places.specs.Places.{unused, good, placeNamed}
+use Rattle.places.specs.Places.{Name, unused, good, placeNamed}
 use Rattle.contents.specs.Slots.{stored}
 use Rattle.contents.specs.Contents.{Slot as Content, wrong, holding, slotAt, slotOf}
 use Rattle.record.specs.declared.Offered.{Offered}
@@ -25,11 +25,18 @@ use Rattle.code.specs.Mend.{Mended, whole, broken}
 use Rattle.record.specs.Mend.{payloadIn, mendedIn}
 use Rattle.sealing.specs.Sealing.{agrees}
 
--- type, update, count, protection, or M under protection 1, differs from the place
+-- resource and type that a packet names: as its fields were read, and by its bytes 3, 4 and the two high bits of byte 12
+abbrev pub packetName : Packet → Name
+packetName f = record { resource = f .resource; kind = f .kind }
+
+abbrev pub nameIn : List ℕ → Name
+nameIn q = record { resource = resourceIn q; kind = kindIn q }
+
+-- update, count, protection, or M under protection 1, differs from the place
 unfoldable pub differs : Place → Packet → Bool
 differs p f =
-    not (eqb (f .kind) (p .kind)) || (not (eqb (f .update) (p .update)) || (not (eqb (f .count) (p .count))
-    || (not (eqb (f .protection) (p .protection)) || (eqb (f .protection) 1 && not (eqb (f .rows) (p .rows))))))
+    not (eqb (f .update) (p .update)) || (not (eqb (f .count) (p .count))
+    || (not (eqb (f .protection) (p .protection)) || (eqb (f .protection) 1 && not (eqb (f .rows) (p .rows)))))
 
 -- what a packet comes to at a place, whatever the store holds: a refusal, or a payload for a slot
 pub data Judged : Type 0 where
@@ -76,7 +83,7 @@ module _ (mend : ℕ → List ℕ → Mended) where
   offerFound h s f q Nothing = record { answer = Offered.Refused Unknown; store = s }
 
   abbrev pub offerRead : Record → List ℕ → List ℕ → Reading → Offering
-  offerRead h s q (Sent f) = offerFound h s f q (placeNamed (h .places) (f .resource))
+  offerRead h s q (Sent f) = offerFound h s f q (placeNamed (h .places) (packetName f))
   offerRead h s q (Refused r) = record { answer = Offered.Refused r; store = s }
 
   unfoldable pub offerBy : Record → List ℕ → List ℕ → Offering

@@ -6,10 +6,10 @@ ghost use Prim.Native.Nat.{_+_, _/_, _%_, _≤_};
 ghost use lib.ListN.{length};
 ghost use Rattle.packet.specs.Packet.{readOf};
 ghost use Rattle.packet.specs.declared.Reading.the-variants.{Sent};
-ghost use Rattle.places.specs.Places.{inUse, fits};
+ghost use Rattle.places.specs.Places.{names, fits};
 ghost use Rattle.contents.specs.Contents.{slotAt};
 ghost use Rattle.code.specs.Mend.{mendRows};
-ghost use Rattle.record.specs.Offer.{differs, judgeMended, judge, offerJudged, offerOf};
+ghost use Rattle.record.specs.Offer.{packetName, differs, judgeMended, judge, offerJudged, offerOf};
 ghost use Rattle.record.specs.InnerOffer.{Comes, judgeCrc, refusalIn};
 use super::Offered;
 use packet::Packet;
@@ -34,9 +34,6 @@ fn refusal_in(reading: Reading) -> Refusal
 fn differs(p: Place, fields: Packet) -> bool
     ensures { λ r. ⌜ r ≡ differs p fields ⌝ }
 {
-    if fields.kind != p.kind {
-        return true;
-    }
     if fields.update != p.update {
         return true;
     }
@@ -90,9 +87,9 @@ fn offer_rows(p: Place, store: &mut [u8], number: u32, packet: &[u8], payload: &
     put_in(p, store, number, mended, sealing::agrees(packet, mended))
 }
 
-// A packet that was read, at the place that holds its resource.
+// A packet that was read, at the place that holds its resource and type.
 fn offer_at(p: Place, store: &mut [u8], fields: Packet, packet: &[u8]) -> Offered
-    requires { ⌜ (readOf (now packet) ≡ Sent fields) × (fits (length (now store)) p ≡ true) × (inUse p ≡ true) ⌝ }
+    requires { ⌜ (readOf (now packet) ≡ Sent fields) × (fits (length (now store)) p ≡ true) × (names p (packetName fields) ≡ true) ⌝ }
     ensures { λ r. ⌜ Comes (offerJudged p (now (store .entry)) (judge p fields (now (packet .entry)))) r (now (store .exit)) ⌝ }
 {
     if differs(p, fields) {
@@ -115,7 +112,7 @@ fn offer_at(p: Place, store: &mut [u8], fields: Packet, packet: &[u8]) -> Offere
     offer_rows(p, store, fields.number, packet, payload)
 }
 
-// Offers one packet to the place that holds its resource. Its payload, repaired under protection, goes into the slot of its number if that is empty; a slot
+// Offers one packet to the place that holds its resource and type. Its payload, repaired under protection, goes into the slot of its number if that is empty; a slot
 // that holds it already stays as it is. Refused, the store is as it came.
 pub fn offer(held: Record, store: &mut [u8], packet: &[u8]) -> Offered
     ensures { λ r. ⌜ (r ≡ offerOf held (now (store .entry)) (now (packet .entry)) .answer) × (now (store .exit) ≡ offerOf held (now (store .entry)) (now (packet .entry)) .store) ⌝ }
@@ -127,7 +124,7 @@ pub fn offer(held: Record, store: &mut [u8], packet: &[u8]) -> Offered
     let Reading::Sent(fields) = reading else {
         return Offered::Refused(refusal_in(reading));
     };
-    let Found::At(i) = places::find_place(held, fields.resource) else {
+    let Found::At(i) = places::find_place(held, fields.resource, fields.kind) else {
         return Offered::Refused(Refusal::Unknown);
     };
     let p = held.places[i];

@@ -50,7 +50,7 @@ pub bh-status-one : OneResult brithelva.bh_status.ended brithelva.bh_status.Read
 bh-status-one κs a r s d e p q = (equation p q, refl)
 
 pub bh-hand-out-one : OneResult brithelva.bh_hand_out.ended brithelva.bh_hand_out.Reads.Learnt
-bh-hand-out-one κs a r s d e p q = (equation (p .answers) (q .answers), after 4 (lent (equation (p .leaves) (q .leaves)) refl))
+bh-hand-out-one κs a r s d e p q = (equation (p .answers) (q .answers), after 5 (lent (equation (p .leaves) (q .leaves)) refl))
 
 pub bh-close-one : OneResult brithelva.bh_close.ended brithelva.bh_close.Reads.Learnt
 bh-close-one κs a r s d e p q = (equation (p .answers) (q .answers), lent (equation (p .holds) (q .holds)) refl)

@@ -8,6 +8,9 @@ use Rattle.places.proofs as places
 pub fresh-one : OneResult places.fresh.ended places.fresh.Reads.Learnt
 fresh-one κs a r s d e p q = (equation p q, refl)
 
+pub holds-one : OneResult places.holds.ended places.holds.Reads.Learnt
+holds-one κs a r s d e p q = (equation p q, refl)
+
 pub find-place-one : OneResult places.find_place.ended places.find_place.Reads.Learnt
 find-place-one κs a r s d e p q = (equation p q, refl)
 

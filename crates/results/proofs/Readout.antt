@@ -7,4 +7,4 @@ use Rattle.results.proofs.Lent.{after, lent}
 use Rattle.readout.proofs as readout
 
 pub hand-out-one : OneResult readout.hand_out.ended readout.hand_out.Reads.Learnt
-hand-out-one κs a r s d e p q = (equation (p .0) (q .0), after 4 (lent (equation (p .1) (q .1)) refl))
+hand-out-one κs a r s d e p q = (equation (p .0) (q .0), after 5 (lent (equation (p .1) (q .1)) refl))

@@ -55,7 +55,7 @@ pub(crate) fn is_sound(n: usize, p: Place) -> bool
     ranges_fit(p) && end_of(p) <= usable(n)
 }
 
-// Two places that share neither resource nor byte, or of which one is unused.
+// Two places that do not share both resource and type, nor a byte, or of which one is unused.
 pub(crate) fn do_agree(p: Place, q: Place) -> bool
     ensures { λ r. ⌜ r ≡ agree p q ⌝ }
 {
@@ -65,7 +65,7 @@ pub(crate) fn do_agree(p: Place, q: Place) -> bool
     if p.resource == 0 {
         return true;
     }
-    if p.resource == q.resource {
+    if places::holds(q, p.resource, p.kind) {
         return false;
     }
     if end_of(p) <= q.start as usize {

@@ -1,4 +1,4 @@
--- Status, case by case, in the order of its refusals: 9, 10, 15. It sees nothing of the store but the contents of the resource's place. Assumes nothing.
+-- Status, case by case, in the order of its refusals: 9, 10, 15. It sees nothing of the store but the contents of the place. Assumes nothing.
 use mathlib.Core.Path.{_≡_, refl, sym, ap, ap₂, _∙_}
 use mathlib.Core.Bool.{true, false, cond}
 use mathlib.Core.List.{List}
@@ -10,7 +10,7 @@ use Rattle.places.specs.declared.Place.{Place}
 use Rattle.places.specs.declared.Record.{Record}
 use Rattle.places.specs.declared.Found.{Found}
 use Rattle.places.specs.declared.Found.the-variants.{At, Nothing}
-use Rattle.places.specs.Places.{unused, good, placeNamed}
+use Rattle.places.specs.Places.{Name, unused, good, placeNamed}
 use Rattle.contents.specs.Contents.{Slot as Content, contents, anyWrong, filled, lowestEmpty}
 use Rattle.contents.proofs.Filled.{filled-all}
 use Rattle.standing.specs.declared.Seen.{Seen}
@@ -37,30 +37,30 @@ module _ (c : List Content) where
 
 -- ---- by the record
 
-module _ (h : Record) (s : List ℕ) (resource : ℕ) where
-  pub status-record : good (length s) (h .places) ≡ false → Refused Refusal.Record ≡ statusOf h s resource
+module _ (h : Record) (s : List ℕ) (x : Name) where
+  pub status-record : good (length s) (h .places) ≡ false → Refused Refusal.Record ≡ statusOf h s x
   unfolding statusOf
   status-record b = rw b
 
   module _ (b : good (length s) (h .places) ≡ true) where
-    status-good : statusFound h s (placeNamed (h .places) resource) ≡ statusOf h s resource
+    status-good : statusFound h s (placeNamed (h .places) x) ≡ statusOf h s x
     unfolding statusOf
     status-good = rw b
 
-    pub status-unknown : placeNamed (h .places) resource ≡ Nothing → Refused Unknown ≡ statusOf h s resource
+    pub status-unknown : placeNamed (h .places) x ≡ Nothing → Refused Unknown ≡ statusOf h s x
     status-unknown a = ap (statusFound h s) (sym a) ∙ status-good
 
-    pub status-found : (i : ℕ) → placeNamed (h .places) resource ≡ At i → standingIn (contents (getD (h .places) i unused) s) ≡ statusOf h s resource
+    pub status-found : (i : ℕ) → placeNamed (h .places) x ≡ At i → standingIn (contents (getD (h .places) i unused) s) ≡ statusOf h s x
     status-found i a = ap (statusFound h s) (sym a) ∙ status-good
 
--- ---- two stores of one length, with the same contents at the resource's place
+-- ---- two stores of one length, with the same contents at the place
 
-module _ (h : Record) (s t : List ℕ) (resource : ℕ) (l : length s ≡ length t)
-    (same : (i : ℕ) → placeNamed (h .places) resource ≡ At i → contents (getD (h .places) i unused) s ≡ contents (getD (h .places) i unused) t) where
-  pub status-same : statusOf h s resource ≡ statusOf h t resource
+module _ (h : Record) (s t : List ℕ) (x : Name) (l : length s ≡ length t)
+    (same : (i : ℕ) → placeNamed (h .places) x ≡ At i → contents (getD (h .places) i unused) s ≡ contents (getD (h .places) i unused) t) where
+  pub status-same : statusOf h s x ≡ statusOf h t x
   unfolding statusOf
   status-same =
-      ap₂ (λ (n : ℕ) (x : Standing). cond (good n (h .places)) x (Refused Refusal.Record)) l (by (placeNamed (h .places) resource) same)
+      ap₂ (λ (n : ℕ) (x : Standing). cond (good n (h .places)) x (Refused Refusal.Record)) l (by (placeNamed (h .places) x) same)
     where
       by : (e : Found) → ((i : ℕ) → e ≡ At i → contents (getD (h .places) i unused) s ≡ contents (getD (h .places) i unused) t) → statusFound h s e ≡ statusFound h t e
       by (At i) f = ap standingIn (f i refl)

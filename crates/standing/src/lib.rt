@@ -91,14 +91,14 @@ fn stands(p: Place, store: &[u8]) -> Standing
     Standing::Filled(seen.filled, Found::At(seen.empty as usize))
 }
 
-// How many slots of a resource's place are filled, and the lowest empty one. Refused: 9, 10, 15.
-pub fn status(held: Record, store: &[u8], resource: u16) -> Standing
-    ensures { λ r. ⌜ r ≡ statusOf held (now (store .entry)) resource ⌝ }
+// How many slots of the place of a resource and type are filled, and the lowest empty one. Refused: 9, 10, 15.
+pub fn status(held: Record, store: &[u8], resource: u16, kind: u8) -> Standing
+    ensures { λ r. ⌜ r ≡ statusOf held (now (store .entry)) (record { resource = resource; kind = kind }) ⌝ }
 {
     if !room::is_good(held, store.len()) {
         return Standing::Refused(Refusal::Record);
     }
-    let Found::At(i) = places::find_place(held, resource) else {
+    let Found::At(i) = places::find_place(held, resource, kind) else {
         return Standing::Refused(Refusal::Unknown);
     };
     stands(held.places[i], store)

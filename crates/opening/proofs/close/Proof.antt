@@ -17,7 +17,7 @@ use Rattle.opening.proofs.close.Tie as tie
 sound : (c : tie.Else1) → good (length (c .before .before .before .args .store .now)) (c .before .before .before .args .held .places) ≡ true
 sound c = sym (c .before .is-good .ensures) ∙ not-false _ (c .if1 .left)
 
-found : (c : tie.After-i) → placeNamed (c .before .before .before .before .before .before .args .held .places) (c .before .before .before .before .before .before .args .resource) ≡ At (c .i .given .0 .0)
+found : (c : tie.After-i) → placeNamed (c .before .before .before .before .before .before .args .held .places) (record { resource = c .before .before .before .before .before .before .args .resource; kind = c .before .before .before .before .before .before .args .kind }) ≡ At (c .i .given .0 .0)
 found c = sym (c .before .before .find-place .ensures) ∙ c .i .given .1
 
 eight : (c : tie.Start) → length (c .args .held .places) ≡ 8
@@ -45,8 +45,8 @@ returns-2 : tie.Need-returns-2
 returns-2 c =
     sym (close-unknown _ _ _ (sound (c .before .before .before)) (sym (c .before .before .find-place .ensures) ∙ c .enum-told .given .1))
 
-mul-t7 : tie.Need-mul-t7
-mul-t7 c = omega (arith, below (c .before))
+mul-t8 : tie.Need-mul-t8
+mul-t8 c = omega (arith, below (c .before))
 
 element-set-from-next : tie.Need-element-set-from-next
 element-set-from-next c = below (c .before)
@@ -64,6 +64,6 @@ close-spec =
     enum-known-i
     enum-told
     returns-2
-    mul-t7
+    mul-t8
     element-set-from-next
     returns-3)

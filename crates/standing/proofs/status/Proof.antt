@@ -19,14 +19,14 @@ use Rattle.standing.proofs.status.Tie as tie
 sound : (c : tie.Else1) → good (length (c .before .before .before .args .store .now)) (c .before .before .before .args .t1 .places) ≡ true
 sound c = sym (c .before .is-good .ensures) ∙ not-false _ (c .if1 .left)
 
-found : (c : tie.After-i) → placeNamed (c .before .before .before .before .before .before .args .t1 .places) (c .before .before .before .before .before .before .args .resource) ≡ At (c .i .given .0 .0)
+found : (c : tie.After-i) → placeNamed (c .before .before .before .before .before .before .args .t1 .places) (record { resource = c .before .before .before .before .before .before .args .resource; kind = c .before .before .before .before .before .before .args .kind }) ≡ At (c .i .given .0 .0)
 found c = sym (c .before .before .find-place .ensures) ∙ c .i .given .1
 
 below : (c : tie.After-i) → c .i .given .0 .0 < 8
 below c =
     let a = c .before .before .before .before .before .before .args in
     let eight : length (a .t1 .places) ≡ 8 = search (needs, mapped-length) in
-    omega (arith, found-names (a .t1 .places) (a .resource) (c .i .given .0 .0) (found c) .0)
+    omega (arith, found-names (a .t1 .places) _ (c .i .given .0 .0) (found c) .0)
 
 is-good-requires : tie.Need-is-good-requires
 is-good-requires c κs = tt

@@ -19,17 +19,12 @@ returns-3 c = rw (eq-eqb _ _ (c .before .before .before .before .before .before 
 returns-4 : tie.Need-returns-4
 unfolding differs
 returns-4 c =
-    rw (eq-eqb _ _ (c .before .before .before .before .before .before .before .before .before .if1 .left), eq-eqb _ _ (c .before .before .before .before .before .before .if2 .left), eq-eqb _ _ (c .before .before .before .if3 .left), ne-eqb _ _ (c .if4 .taken))
+    rw (eq-eqb _ _ (c .before .before .before .before .before .before .before .before .before .before .if1 .left), eq-eqb _ _ (c .before .before .before .before .before .before .before .if2 .left), eq-eqb _ _ (c .before .before .before .before .if3 .left), eq-eqb _ _ (c .before .before .if4 .taken))
 
 returns-5 : tie.Need-returns-5
 unfolding differs
 returns-5 c =
-    rw (eq-eqb _ _ (c .before .before .before .before .before .before .before .before .before .before .before .before .before .if1 .left), eq-eqb _ _ (c .before .before .before .before .before .before .before .before .before .before .if2 .left), eq-eqb _ _ (c .before .before .before .before .before .before .before .if3 .left), eq-eqb _ _ (c .before .before .before .before .if4 .left), eq-eqb _ _ (c .before .before .if5 .taken))
-
-returns-6 : tie.Need-returns-6
-unfolding differs
-returns-6 c =
-    rw (eq-eqb _ _ (c .before .before .before .before .before .before .before .before .before .before .before .if1 .left), eq-eqb _ _ (c .before .before .before .before .before .before .before .before .if2 .left), eq-eqb _ _ (c .before .before .before .before .before .if3 .left), eq-eqb _ _ (c .before .before .if4 .left), ne-eqb _ _ (c .if5 .left))
+    rw (eq-eqb _ _ (c .before .before .before .before .before .before .before .before .if1 .left), eq-eqb _ _ (c .before .before .before .before .before .if2 .left), eq-eqb _ _ (c .before .before .if3 .left), ne-eqb _ _ (c .if4 .left))
 
 pub differs-spec : {M : Type 1} → statement M
-differs-spec = tie.close (tie.spec returns returns-2 returns-3 returns-4 returns-5 returns-6)
+differs-spec = tie.close (tie.spec returns returns-2 returns-3 returns-4 returns-5)

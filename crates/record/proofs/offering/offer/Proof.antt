@@ -1,19 +1,19 @@
--- The record is judged, the fields are read, the place is found; the rest is `offer_at`. A good record's place is sound, and one that holds a resource is in use.
+-- The record is judged, the fields are read, the place is found; the rest is `offer_at`. A good record's place is sound, and it is the one that the packet names.
 use mathlib.Core.Path.{_≡_, sym, _∙_}
 use mathlib.Core.Bool.{true}
 use Prim.Native.Nat.{_<_}
 use native.Mathlib.Omega.{arith}
 use borrow.Author.Needs.{needs}
 use borrow.Author.Tests.{not-true, not-false}
-use lib.ListN.{length, getD}
+use lib.ListN.{length}
 use Rattle.packet.specs.declared.Reading.the-variants.{Sent}
 use Rattle.packet.specs.Packet.{readOf}
 use Rattle.places.specs.declared.Found.the-variants.{At}
-use Rattle.places.specs.Places.{unused, good, placeNamed}
+use Rattle.places.specs.Places.{good, placeNamed}
 use Rattle.places.proofs.Steps.{mapped-length}
-use Rattle.places.proofs.Named.{names-in-use}
 use Rattle.places.proofs.Keeping.{good-at}
 use Rattle.places.proofs.Holders.{found-names}
+use Rattle.record.specs.Offer.{packetName}
 use Rattle.record.proofs.OfferCases.{told, come, refusal-read, offer-bad, offer-unread, offer-unknown, offer-placed}
 use Rattle.record.proofs.offering.offer.Statement.{statement}
 use Rattle.record.proofs.offering.offer.Tie as tie
@@ -25,7 +25,7 @@ well c = sym (c .before .is-good .ensures) ∙ not-false _ (c .if1 .left)
 read : (c : tie.After-known-told) → readOf (c .before .before .before .before .before .before .before .before .args .packet .now) ≡ Sent (c .before .reading .given .0 .0)
 read c = sym (c .before .before .before .read-fields .ensures) ∙ c .before .reading .given .1
 
-named : (c : tie.After-known-told2) → placeNamed (c .before .before .before .before .before .before .before .before .before .before .before .before .args .t1 .places) (c .before .before .before .before .before .reading .given .0 .0 .resource) ≡ At (c .before .i .given .0 .0)
+named : (c : tie.After-known-told2) → placeNamed (c .before .before .before .before .before .before .before .before .before .before .before .before .args .t1 .places) (packetName (c .before .before .before .before .before .reading .given .0 .0)) ≡ At (c .before .i .given .0 .0)
 named c = sym (c .before .before .before .find-place .ensures) ∙ c .before .i .given .1
 
 eight : (c : tie.Start) → length (c .args .t1 .places) ≡ 8
@@ -80,7 +80,7 @@ element-copy-out-p c = below c
 offer-at-requires : tie.Need-offer-at-requires
 offer-at-requires c κs =
     let n = named (c .before .before) in
-    (read (c .before .before .before .before .before .before), good-at _ _ _ (well (c .before .before .before .before .before .before .before .before .before .before)) (found-names _ _ _ n .0), names-in-use (getD (c .before .before .before .before .before .before .before .before .before .before .before .before .before .before .args .t1 .places) (c .before .before .before .i .given .0 .0) unused) _ (found-names _ _ _ n .1))
+    (read (c .before .before .before .before .before .before), good-at _ _ _ (well (c .before .before .before .before .before .before .before .before .before .before)) (found-names _ _ _ n .0), found-names _ _ _ n .1)
 
 same-length : tie.Need-same-length
 same-length c = omega arith

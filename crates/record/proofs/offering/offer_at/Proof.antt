@@ -6,13 +6,14 @@ use Prim.Native.Nat.{_+_, _≤_}
 use native.Mathlib.Omega.{arith}
 use lib.ListN.{length}
 use Rattle.packet.proofs.Laws.{SentFacts, read-sent}
+use Rattle.places.proofs.Named.{names-in-use}
 use Rattle.places.proofs.Facts.{PlaceFacts, place-facts}
 use Rattle.contents.specs.Contents.{slotAt}
 use Rattle.record.specs.Mend.{payloadIn}
-use Rattle.record.specs.Offer.{differs, offerJudged}
+use Rattle.record.specs.Offer.{packetName, differs, offerJudged}
 use Rattle.sealing.proofs.Laws.{agrees-long}
 use Rattle.record.proofs.OfferCases.{told, come, payload-cut, rows-cut, judge-other, judge-wide, offer-as-it-came, offer-repaired}
-use Rattle.record.proofs.OfferFacts.{slot-room}
+use Rattle.record.proofs.OfferFacts.{no-stream, slot-room}
 use Rattle.record.proofs.offering.offer_at.Statement.{statement}
 use Rattle.record.proofs.offering.offer_at.Tie as tie
 
@@ -24,13 +25,15 @@ headed : (c : tie.After-shared-slice-known) → 14 ≤ length (c .before .before
 headed c = let s = sent c in omega arith
 
 place : (c : tie.Start) → PlaceFacts (length (c .args .store .now)) (c .args .p)
-place c = place-facts _ _ (c .pre .1) (c .pre .2)
+place c = place-facts _ _ (c .pre .1) (names-in-use (c .args .p) (packetName (c .args .fields)) (c .pre .2))
 
 alike : (c : tie.Else1) → differs (c .before .before .before .before .args .p) (c .before .before .before .before .args .fields) ≡ false
 alike c = sym (c .before .differs .ensures) ∙ c .if1 .left
 
 room : (c : tie.Else1) → slotAt (c .before .before .before .before .args .p) (c .before .before .before .before .args .fields .number) + (c .before .before .before .before .args .p .slot + 2) ≤ length (c .before .before .before .before .args .store .now)
-room c = slot-room _ _ _ (place (c .before .before .before .before)) (sent (c .before .before) .below) (alike c)
+room c =
+    let s = c .before .before .before .before in
+    slot-room _ _ _ (place s) (sent (c .before .before) .below (no-stream _ (s .args .p) (s .args .fields) (place s) (s .pre .2))) (alike c)
 
 narrow : (c : tie.Else2) → length (payloadIn (c .before .before .before .before .before .before .before .args .packet .now)) ≤ c .before .before .before .before .before .before .before .args .p .slot
 narrow c = omega (arith, ap length (payload-cut (c .before .before .before .before .before .before .before .args .packet .now)))
