@@ -1,6 +1,6 @@
 -- A file and its description under one resource: offers of the one do not show in answers about the other, both come out, and streams go nowhere: document 02, R-1.
 -- Assumes nothing.
-use mathlib.Core.Path.{_≡_, refl, sym, ap, _∙_, subst}
+use mathlib.Core.Path.{_≡_, refl, sym, ap, _∙_}
 use mathlib.Core.Bool.{Bool, true, false, cond}
 use mathlib.Core.List.{List, [], _∷_, _++_, map}
 use Prim.Native.Nat.{ℕ, zero, suc, _+_, _≤_, _<_}
@@ -26,9 +26,9 @@ use Rattle.record.specs.Offer.{packetName, nameIn, Offering, offerOf}
 use Rattle.record.specs.Told.{offeredTold}
 use Rattle.record.proofs.OfferCases.{offer-unknown}
 use Rattle.record.proofs.OfferFacts.{no-stream}
-use Rattle.promises.specs.Calls.{Call, State, step, run, names}
+use Rattle.promises.specs.Calls.{Call, State, step, names}
 use Rattle.promises.specs.Calls.Call.{packing, opening, offering, asking, handing, closing}
-use Rattle.promises.specs.Statements.{Protected, Fair, AllFair, Offers, Alike, theFile, theDescription, without, SideBySide, BothComeOut, SomeCarryBoth, StreamsUnknown}
+use Rattle.promises.specs.Statements.{Protected, Fair, AllFair, Offers, Alike, theFile, theDescription, without, SideBySide, opened, BothComeOut, SomeCarryBoth, StreamsUnknown}
 use Rattle.promises.proofs.Judged.{copy-names}
 use Rattle.promises.proofs.Own.{whole-copy, own-fair, own-offers}
 use Rattle.promises.proofs.Sequences.{two-sequences}
@@ -69,13 +69,11 @@ side-by-side resource s cs = record {
 -- ---- both come out
 
 pub both-come-out : BothComeOut step
-both-come-out g d file text pg pd x y z ey ag ez ad cs cg cd =
-    let n : ℕ = countOf d (length text) in
-    let first = demand-3 g file pg x ag (opening d n ∷ cs)
-    (record { fair = AllFair.next (Fair.opens d n) (cg .fair); every = λ k l. Offers.later (cg .every k l) }) in (
-      rw (ez, ey) first,
-      rw ez (demand-3 d text pd y ad cs cd),
-    )
+both-come-out g d file text pg pd x ag ad cs cg cd = (
+  demand-3 g file pg x ag (opening d (countOf d (length text)) ∷ cs)
+      (record { fair = AllFair.next (Fair.opens d (countOf d (length text))) (cg .fair); every = λ n l. Offers.later (cg .every n l) }),
+  demand-3 d text pd (opened step g file x) ad cs cd,
+)
 
 -- the packets of a file under another name do not name this one
 other-fair : (g d : Settings) (file text : List ℕ) → Protected d text → (settingsName d ≡ settingsName g → ⊥) → (k i : ℕ) → i + k ≤ countOf d (length text)

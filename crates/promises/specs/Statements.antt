@@ -309,14 +309,20 @@ pub record Untouched (f : Program) (resource : ℕ) (s : List ℕ) (cs : List Ca
 abbrev pub SideBySide : Program → Type 0
 SideBySide f = (resource : ℕ) (s : List ℕ) (cs : List Call) → Untouched f resource s cs
 
+-- a place is opened for a file, and the state behind that
+abbrev pub IsOpened : Program → Settings → List ℕ → State → Type 0
+IsOpened f g file x = f (opening g (countOf g (length file))) x .answer .told .number ≡ 0
+
+abbrev pub opened : Program → Settings → List ℕ → State → State
+opened f g file x = f (opening g (countOf g (length file))) x .state
+
 -- collected at one time both come out: from every state in which the one and then the other is opened, by calls that carry both
 abbrev pub BothComeOut : Program → Type 0
 BothComeOut f =
     (g d : Settings) (file text : List ℕ) → Protected g file → Protected d text
-    → (x y z : State) → y ≡ f (opening g (countOf g (length file))) x .state → f (opening g (countOf g (length file))) x .answer .told .number ≡ 0
-    → z ≡ f (opening d (countOf d (length text))) y .state → f (opening d (countOf d (length text))) y .answer .told .number ≡ 0
+    → (x : State) → IsOpened f g file x → IsOpened f d text (opened f g file x)
     → (cs : List Call) → Carries g file cs → Carries d text cs
-    → HandsOut f g file (run f cs z .state) × HandsOut f d text (run f cs z .state)
+    → HandsOut f g file (run f cs (opened f d text (opened f g file x)) .state) × HandsOut f d text (run f cs (opened f d text (opened f g file x)) .state)
 
 -- which is not empty: under two names, as a file's and its description's are, the packets of both carry both
 abbrev pub SomeCarryBoth : Type 0
