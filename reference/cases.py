@@ -314,18 +314,22 @@ class Run:
     def do_offer(self, _):
         self.call(lambda: {"Stored": 0, "Repeat": 1}[self.receiver().offer(self.bytes)])
 
+    def named(self, words):
+        """The resource and the type at the start of a line's numbers."""
+        resource, kind = numbers(words)[:2]
+        return resource % HALF, kind % BYTE
+
     def do_status(self, words):
         def work():
-            filled, empty = self.receiver().status(numbers(words)[0] % HALF)
+            filled, empty = self.receiver().status(*self.named(words))
             return filled + (0 if empty is None else 16777216 * (empty + 1))
         self.call(work)
 
     def do_hand(self, words):
-        resource, length = numbers(words)[:2]
-        self.call(lambda: self.write(self.receiver().hand_out(resource % HALF, length, len(self.out))))
+        self.call(lambda: self.write(self.receiver().hand_out(*self.named(words), numbers(words)[2], len(self.out))))
 
     def do_close(self, words):
-        self.call(lambda: self.receiver().close(numbers(words)[0] % HALF))
+        self.call(lambda: self.receiver().close(*self.named(words)))
 
     # a transmission
     def do_send(self, words):

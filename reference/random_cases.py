@@ -12,6 +12,15 @@ from receiver import MARK, PLACE, header_of, place_of, read_description, up
 
 FIELDS = ["resource", "type", "update", "protection", "rows", "size"]
 RESOURCES = list(range(1, 12)) + [256, 65535]
+ODD_TYPES = [0, 0, 0, 0, 3, 3, 5, 6, 129, 255]
+
+
+def named(s):
+    return s["resource"], s["type"]
+
+
+def words(s):
+    return f"{s['resource']} {s['type']}"
 
 
 def hexes(data):
@@ -25,7 +34,7 @@ def count_of(s):
 
 
 class Writer(Choices):
-    """The lines so far, what they left at hand, and the senders whose files are being collected, by resource."""
+    """The lines so far, what they left at hand, and the senders whose files are being collected, by resource and type."""
 
     def __init__(self, seed):
         self.random, self.run, self.lines, self.senders = random.Random(seed), Run(), [], {}
@@ -53,13 +62,24 @@ class Writer(Choices):
         """Now and then the same number modulo the range of its argument."""
         return n + modulus * self.pick(1, 2, 3) if self.often(0.01) else n
 
-    def resource(self):
+    def resource_and_type(self):
+        """As they stand in a line: mostly something that is being collected, or its resource with another type."""
         if self.senders and self.often(0.85):
-            return self.random.choice(sorted(self.senders))
-        return self.wrapped(self.pick(0, *RESOURCES), 65536)
+            resource, kind = self.random.choice(sorted(self.senders))
+            kind = self.pick(kind, kind, kind, kind, 3 - kind, self.pick(*ODD_TYPES))
+        else:
+            resource, kind = self.wrapped(self.pick(0, *RESOURCES), 65536), self.pick(1, 1, 2, 2, *ODD_TYPES)
+        return f"{resource} {self.wrapped(kind, 256)}"
 
     def sender(self):
-        """A file and good settings for it, small as a rule."""
+        """A file and good settings for it, small as a rule; now and then beside what is being collected, under its resource or with all its settings."""
+        if self.senders and self.often(0.35):
+            beside = self.senders[self.random.choice(sorted(self.senders))]
+            other = {"resource": beside["resource"], "type": 3 - beside["type"]}
+            return {**beside, **other, "seed": beside["seed"] + 1} if self.often(0.3) else {**self.any_file(), **other}
+        return self.any_file()
+
+    def any_file(self):
         s = {"resource": self.pick(*RESOURCES), "type": self.pick(1, 2), "update": self.below(16), "protection": self.pick(0, 1), "seed": self.below(1 << 32)}
         if s["protection"]:
             s["rows"], s["size"] = self.pick(1, 2, 2, 3, 4, 5, 9), 255 * self.pick(1, 1, 1, 2, 2, 3, 15)
@@ -144,7 +164,7 @@ class Writer(Choices):
     def open_well(self, s):
         self.say_settings(s)
         if self.call(f"open {self.wrapped(count_of(s), 1 << 32)}"):
-            self.senders[s["resource"]] = s
+            self.senders[named(s)] = s
 
     def open_badly(self, s):
         self.say_settings(self.broken(s) if self.often(0.6) else s)
@@ -154,12 +174,11 @@ class Writer(Choices):
         s = {**s, "protection": 1, "rows": 32, "size": 255, "length": 1 + self.below(7648)}
         self.say_settings({**s, "rows": self.below(256), "size": self.below(5000)})
         if self.call(f"open-house {count_of(s)}"):
-            self.senders[s["resource"]] = s
+            self.senders[named(s)] = s
 
     def step_close(self):
-        resource = self.resource()
-        if self.call(f"close {resource}"):
-            self.senders.pop(resource % 65536, None)
+        if self.call(f"close {self.resource_and_type()}"):
+            self.refresh_senders()
 
     # ---- steps: offers
 
@@ -172,6 +191,10 @@ class Writer(Choices):
         self.call("offer")
         if self.often(0.2):
             self.call("offer")
+
+    def offer_whole(self, s, n):
+        self.say_packet(s, n)
+        self.call("offer")
 
     def spoil_rows(self):
         self.say(f"damage {self.pick(0, 1, 2, 3, 4, 4, 5)} {self.below(1 << 32)}")
@@ -201,7 +224,8 @@ class Writer(Choices):
         s = self.any_sender()
         length = self.payload_length(s)
         self.say(self.pick(f"fill 0 {18 + length}", f"random {self.below(1000)} {18 + length}"))
-        self.say_header(**self.edged(self.header_fields(s), 18 + length, self.pick(0, 0, 0, 0, 1, 2)))
+        stream = {"type": 0, "count": 0} if self.often(0.25) else {}
+        self.say_header(**self.edged({**self.header_fields(s), **stream}, 18 + length, self.pick(0, 0, 0, 0, 1, 2)))
         self.say("seal")
         self.call("offer")
 
@@ -214,14 +238,14 @@ class Writer(Choices):
     # ---- steps: looking and handing out
 
     def step_status(self):
-        self.call(f"status {self.resource()}")
+        self.call(f"status {self.resource_and_type()}")
 
     def step_hand(self):
         s = self.any_sender()
         table = 239 * s["rows"]
         length = self.pick(s["length"], s["length"], s["length"] - 1, s["length"] + 1, 0, s["length"] + table, table, 1, 1 << 40)
         self.say(f"out {self.below(256)} {self.pick(length, length, length + 5, max(length - 1, 0), 0)}")
-        self.call(f"hand {self.pick(s['resource'], s['resource'], s['resource'], self.resource())} {length}")
+        self.call(f"hand {self.pick(words(s), words(s), self.resource_and_type())} {length}")
 
     def step_complete(self):
         """A whole transmission, and the file handed out."""
@@ -231,18 +255,18 @@ class Writer(Choices):
         self.say_settings(s)
         step, turns = self.pick(1, 1, 7, 11, 13), self.pick(count, count, count + 2, count // 2)
         self.call(f"send {self.pick(count, count, count, count, 0, count + 1)} {step} {turns} {self.below(6)} {self.pick(0, 0, 1)} {self.below(1 << 32)}")
-        self.call(f"status {s['resource']}")
+        self.call(f"status {words(s)}")
         self.say(f"out 85 {s['length'] + self.pick(0, 0, 0, 3)}")
-        if self.call(f"hand {s['resource']} {s['length'] - self.pick(0, 0, 0, 1)}"):
+        if self.call(f"hand {words(s)} {s['length'] - self.pick(0, 0, 0, 1)}"):
             self.case("file" if self.run.out[: s["length"]] == self.run.file else "out")
 
     # ---- steps: a store and a record that somebody else has written in
 
     def slot_at(self, s, k):
-        """Where slot k of the resource's place begins, or 0 where nothing holds it."""
+        """Where slot k of the sender's place begins, or 0 where nothing holds it."""
         for i in range(8):
             p = place_of(self.run.held[16 * i : 16 * i + 16].ljust(16, b"\0"))
-            if p["resource"] == s["resource"]:
+            if named(p) == named(s):
                 return p["start"] + k * (p["slot"] + 2)
         return 0
 
@@ -254,8 +278,8 @@ class Writer(Choices):
         before = self.run.store[at : at + 2]
         length = self.pick(0, 1, 254, 255, 256, 510, s["size"], s["size"] + 1, 65535)
         self.say(f"poke {at} {length % 256:02x} {length // 256:02x}")
-        self.pick(self.step_status, self.step_hand, self.step_offer)()
-        self.call(self.pick(f"status {s['resource']}", f"hand {s['resource']} {s['length']}"))
+        self.pick(self.step_status, self.step_hand, lambda: self.offer_whole(s, k))()
+        self.call(self.pick(f"status {words(s)}", f"hand {words(s)} {s['length']}"))
         if before and self.often(0.8):
             self.say(f"poke {at} {hexes(before)}")
 
@@ -269,7 +293,7 @@ class Writer(Choices):
             total += length
         self.say(f"out 0 {total + 10}")
         for length in (total, s["length"], total * 239 // 255):
-            self.call(f"hand {s['resource']} {length}")
+            self.call(f"hand {words(s)} {length}")
 
     def step_place(self):
         """A place altered, some calls, and the place as it was."""
@@ -277,7 +301,9 @@ class Writer(Choices):
         before = place_of(self.run.held[16 * i : 16 * i + 16].ljust(16, b"\0"))
         edges = [0, 1, 2, 3, 15, 16, 253, 254, 255, 256, 510, 3825, 4077, 4080, 65535, 1048575, 1048576, 16777216, 4294967295]
         near, name = self.pick("start", "count", "slot"), self.pick(*before)
+        resource, kind = self.random.choice(sorted(self.senders)) if self.senders else (1, 1)
         altered = self.pick({**before, name: self.pick(*edges)}, {**before, near: max(before[near] + self.pick(-1, 1), 0)},
+                            {**before, "resource": resource, "type": kind}, {**before, "resource": resource, "type": 3 - kind},
                             place_of(bytes(self.below(256) for _ in range(16))), place_of(self.run.held[:16].ljust(16, b"\0")))
         self.say_place(i, altered)
         for _ in range(self.pick(1, 2)):
@@ -290,14 +316,14 @@ class Writer(Choices):
 
     def any_call(self):
         """A call that takes the record, with whatever is at hand."""
-        r = self.resource()
-        if self.call(self.pick("offer", f"status {r}", f"hand {r} 5", f"close {r}", "open 1", "open-house 1")):
+        it = self.resource_and_type()
+        if self.call(self.pick("offer", f"status {it}", f"hand {it} 5", f"close {it}", "open 1", "open-house 1")):
             self.refresh_senders()
 
     def refresh_senders(self):
-        """After a call that may have opened or closed: only resources that are still held count."""
-        held = {place_of(self.run.held[16 * i : 16 * i + 16].ljust(16, b"\0"))["resource"] for i in range(8)}
-        self.senders = {r: s for r, s in self.senders.items() if r in held}
+        """After a call that may have opened or closed: only what is still held counts."""
+        held = {named(place_of(self.run.held[16 * i : 16 * i + 16].ljust(16, b"\0"))) for i in range(8)}
+        self.senders = {it: s for it, s in self.senders.items() if it in held}
 
     # ---- steps: packing, fields, rows and the CRC
 
@@ -414,7 +440,7 @@ class Writer(Choices):
 
     # ---- all together
 
-    WEIGHTS = {"fresh": 3, "open": 16, "close": 3, "offer": 26, "offer_made": 7, "offer_noise": 3, "status": 5, "hand": 7, "complete": 6, "poke": 5,
+    WEIGHTS = {"fresh": 3, "open": 16, "close": 5, "offer": 26, "offer_made": 7, "offer_noise": 3, "status": 5, "hand": 7, "complete": 6, "poke": 5,
                "fill_slots": 3, "place": 6, "pack": 8, "pack_many": 1, "read": 9, "encode": 2, "repair": 4, "crc": 2, "describe": 12, "edit_lines": 2, "compose": 8}
 
     def look(self):

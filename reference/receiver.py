@@ -333,6 +333,11 @@ def end_of(p):
     return p["start"] + p["count"] * (p["slot"] + 2)
 
 
+def named(it):
+    """What a place, a packet or settings are about: resource and type together (document 02, R-1)."""
+    return it["resource"], it["type"]
+
+
 def meet(p, q):
     return max(p["start"], q["start"]) < min(end_of(p), end_of(q))
 
@@ -352,7 +357,7 @@ def places_in_use(held, usable):
     used = {i: p for i, p in places.items() if p["resource"]}
     if not all(place_fits(p, usable) for p in used.values()):
         return None
-    if any(p["resource"] == q["resource"] or meet(p, q) for p, q in itertools.combinations(used.values(), 2)):
+    if any(named(p) == named(q) or meet(p, q) for p, q in itertools.combinations(used.values(), 2)):
         return None
     return used
 
@@ -372,10 +377,10 @@ class Receiver:
             raise Refused(9)
         return used
 
-    def find(self, resource):
-        """Index and place of the resource, in a record that is not refused."""
+    def find(self, resource, kind):
+        """Index and place of the resource and type, in a record that is not refused."""
         for i, p in self.used().items():
-            if p["resource"] == resource:
+            if named(p) == (resource, kind):
                 return i, p
         raise Refused(10)
 
@@ -383,7 +388,7 @@ class Receiver:
         used = self.used()
         if not settings_fit(s) or not 1 <= count <= 1048575:
             raise Refused(17)
-        if any(p["resource"] == s["resource"] for p in used.values()):
+        if any(named(p) == named(s) for p in used.values()):
             raise Refused(18)
         if len(used) == 8:
             raise Refused(19)
@@ -416,8 +421,8 @@ class Receiver:
     def offer(self, packet):
         self.used()
         f = read_fields(packet)
-        _, p = self.find(f["resource"])
-        if any(f[k] != p[k] for k in ("type", "update", "count", "protection")) or (f["protection"] == 1 and f["rows"] != p["rows"]):
+        _, p = self.find(*named(f))
+        if any(f[k] != p[k] for k in ("update", "count", "protection")) or (f["protection"] == 1 and f["rows"] != p["rows"]):
             raise Refused(11)
         payload = bytes(packet[14:-4])
         if len(payload) > p["slot"]:
@@ -438,15 +443,15 @@ class Receiver:
         self.store[at : at + 2 + len(payload)] = len(payload).to_bytes(2, "little") + payload
         return "Stored"
 
-    def status(self, resource):
+    def status(self, resource, kind):
         """The number of filled slots and the lowest empty one, or None."""
-        _, p = self.find(resource)
+        _, p = self.find(resource, kind)
         slots = self.slots(p)
         return sum(1 for b in slots if b), next((k for k, b in enumerate(slots) if not b), None)
 
-    def hand_out(self, resource, length, room):
+    def hand_out(self, resource, kind, length, room):
         """The file of that length, for an output of that room."""
-        _, p = self.find(resource)
+        _, p = self.find(resource, kind)
         slots = self.slots(p)
         if b"" in slots:
             raise Refused(21, slots.index(b""))
@@ -458,8 +463,8 @@ class Receiver:
             raise Refused(26)
         return file
 
-    def close(self, resource):
-        i, _ = self.find(resource)
+    def close(self, resource, kind):
+        i, _ = self.find(resource, kind)
         self.held[16 * i : 16 * i + 16] = bytes(16)
 
 

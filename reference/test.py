@@ -300,7 +300,7 @@ def test_places():
     before = bytes(held)
     refused(20, 0, record.open, settings(3, 1, 0, 0, 0, 8), 5)
     same(held, before)
-    record.close(1)
+    record.close(1, 1)
     record.open(settings(3, 1, 0, 0, 0, 8), 5)
     same((r.place_of(held[:16])["resource"], r.place_of(held[:16])["start"]), (3, 0))
 
@@ -309,12 +309,13 @@ def test_unused_places():
     """What an unused place holds is not judged and stays; opening writes all of it, closing makes it zero."""
     held = bytearray(b"\0\0" + b"\xff" * 14) * 8
     record = r.Receiver(held, bytearray(100))
-    refused(10, 0, record.status, 0)
-    refused(10, 0, record.close, 0)
+    for kind in (0, 1, 255):
+        refused(10, 0, record.status, 0, kind)
+        refused(10, 0, record.close, 0, kind)
     record.open(settings(3, 2, 1, 0, 0, 8), 1)
     same(held[:16].hex(), "0300020101000000000008000000" + "0000")
     same(held[16:], bytearray(b"\0\0" + b"\xff" * 14) * 7)
-    record.close(3)
+    record.close(3, 2)
     same(held, bytes(16) + bytes(b"\0\0" + b"\xff" * 14) * 7)
 
 
@@ -326,7 +327,7 @@ def test_usable_store():
     record.open(settings(2, 1, 0, 0, 0, 14), 1)
     refused(20, 0, record.open, settings(3, 1, 0, 0, 0, 1), 1)
     held[16 * 1 + 12] += 1
-    refused(9, 0, record.status, 2)
+    refused(9, 0, record.status, 2, 1)
 
 
 def send(s, file, spoil):
@@ -338,12 +339,81 @@ def send(s, file, spoil):
     order = list(range(count))
     RANDOM.shuffle(order)
     for k, n in enumerate(order):
-        same(record.status(s["resource"]), (k, min(order[k:])))
+        same(record.status(s["resource"], s["type"]), (k, min(order[k:])))
         packet = spoil(packer.packet(s, n, 4095))
         same([record.offer(packet), record.offer(packet)], ["Stored", "Repeat"])
-    same(record.status(s["resource"]), (count, None))
-    same(record.hand_out(s["resource"], len(file), len(file)), file)
-    refused(26, 0, record.hand_out, s["resource"], len(file), len(file) - 1)
+    same(record.status(s["resource"], s["type"]), (count, None))
+    same(record.hand_out(s["resource"], s["type"], len(file), len(file)), file)
+    refused(26, 0, record.hand_out, s["resource"], s["type"], len(file), len(file) - 1)
+
+
+def packets_of(s, file):
+    packer = r.Packer(file)
+    count = r.read_fields(packer.packet(s, 0, 4095))["count"]
+    return [packer.packet(s, n, 4095) for n in range(count)]
+
+
+def test_file_and_description():
+    """Document 02, R-1: the packets of both under one resource, in any order and mixed; each has the answers it has alone."""
+    for first, second in ((settings(9, 1, 1, 1, 2, 255), settings(9, 2, 1, 0, 0, 50)), (settings(9, 2, 3, 0, 0, 7), settings(9, 1, 3, 0, 0, 7))):
+        files = {1: some(700), 2: some(320)}
+        record = r.Receiver(bytearray(128), bytearray(5000))
+        sent = [(s, packet) for s in (first, second) for packet in packets_of(s, files[s["type"]])]
+        count = {s["type"]: sum(s is t for t, _ in sent) for s in (first, second)}
+        for s in (first, second):
+            record.open(s, count[s["type"]])
+        for s in (first, second):
+            refused(18, 0, record.open, s, 1)
+        RANDOM.shuffle(sent)
+        done = {1: 0, 2: 0}
+        for s, packet in sent:
+            same([record.offer(packet), record.offer(packet)], ["Stored", "Repeat"])
+            done[s["type"]] += 1
+            same({k: record.status(9, k)[0] for k in (1, 2)}, done)
+        same({k: record.hand_out(9, k, len(file), len(file)) for k, file in files.items()}, files)
+        leave_one(record, first["type"], second["type"], files, count)
+
+
+def leave_one(record, gone, kept, files, count):
+    """One of the two is closed; types that no place can have are unknown before and after it."""
+    for close in (False, True):
+        if close:
+            record.close(9, gone)
+        for kind in (0, 3, 4, 255) + ((gone,) if close else ()):
+            refused(10, 0, record.status, 9, kind)
+            refused(10, 0, record.hand_out, 9, kind, len(files[kept]), 1000)
+            refused(10, 0, record.close, 9, kind)
+        same(record.status(9, kept), (count[kept], None))
+        same(record.hand_out(9, kept, len(files[kept]), 1000), files[kept])
+
+
+def stream_packet(resource, update):
+    head = r.header_of({"mark": r.MARK, "resource": resource, "number": 0, "update": update, "length": 19, "count": 0, "type": 0, "protection": 0, "rows": 0, "reserved": 0})
+    return head + b"\7" + r.crc32(head + b"\7").to_bytes(4, "big")
+
+
+def test_streams():
+    """A stream packet is unknown, whatever is open."""
+    for kinds in ((), (1,), (2,), (1, 2)):
+        record = r.Receiver(bytearray(128), bytearray(100))
+        for kind in kinds:
+            record.open(settings(9, kind, 3, 0, 0, 8), 1)
+        refused(10, 0, record.offer, stream_packet(9, 3))
+
+
+def test_shares():
+    """Any two places that have both resource and type are refused; that have one of them are not."""
+    place = {"update": 0, "count": 1, "protection": 0, "rows": 0, "slot": 8}
+    for i, j in itertools.combinations(range(8), 2):
+        for resource, kind in itertools.product((5, 6), (1, 2)):
+            held = bytearray(128)
+            held[16 * i : 16 * i + 16] = r.bytes_of({**place, "resource": 5, "type": 1, "start": 0})
+            held[16 * j : 16 * j + 16] = r.bytes_of({**place, "resource": resource, "type": kind, "start": 10})
+            record = r.Receiver(held, bytearray(20))
+            if (resource, kind) == (5, 1):
+                refused(9, 0, record.status, 5, 1)
+            else:
+                same([record.status(5, 1), record.status(resource, kind)], [(0, 0), (0, 0)])
 
 
 def test_files():
@@ -583,13 +653,17 @@ case resource-0 refused 8
 # the record: 9 to 21
 held 127
 store 0 400
-status 5
+status 5 1
 case held-127 refused 9
 held 128
-status 5
+status 5 1
 case unknown refused 10
 open 3
 case opened accepted
+status 5 2
+case description-unknown refused 10
+status 5
+case type-0-unknown refused 10
 settings 5 1 4 0 0 8
 pack 0
 take 26
@@ -632,7 +706,7 @@ case repaired-and-stored accepted
 offer
 case repeated accepted 1
 poke 0 09 00
-status 5
+status 5 1
 case slot-too-long refused 15
 poke 0 00 00
 settings 5 1 3 0 0 8
@@ -668,31 +742,31 @@ case eighth accepted
 settings 13 1 0 0 0 1
 open 1
 case ninth refused 19
-close 12
+close 12 1
 case closed accepted
 open 1000
 case no-room refused 20
 out 170 20
-hand 5 20
+hand 5 1 20
 case slot-1-empty refused 21 1
-status 5
+status 5 1
 case one-filled accepted 33554433
 # handing out: 22 to 24
 store 0 300
 held 128
 place 0 9 1 1 1 1 2 255 0
 poke 0 ff 00
-hand 9 10
+hand 9 1 10
 case one-row-of-two refused 22
 place 0 9 1 1 1 1 1 255 0
-hand 9 240
+hand 9 1 240
 case two-tables refused 23
 poke 3 01
-hand 9 1
+hand 9 1 1
 case padding refused 24
-hand 9 21
+hand 9 1 21
 case output-before-nothing refused 26
-hand 9 2
+hand 9 1 2
 case two-bytes accepted
 case two-bytes-out bytes 0 00 01 aa aa
 # packing: 17, 23, 25, 6, 26
@@ -822,8 +896,66 @@ def test_send():
 # ---- random files, and comparing
 
 
+def used_places(run):
+    places = [r.place_of(run.held[at : at + 16].ljust(16, b"\0")) for at in range(0, 128, 16)]
+    return [p for p in places if p["resource"]]
+
+
+def told_of_types(run, words, places):
+    """What a call's answer shows of resource and type together; its words and the places in use before it. None for most."""
+    number, beside = run.answer.number, {(p["resource"], p["type"]) for p in places}
+    if words[0] in ("status", "hand", "close"):
+        resource, kind = int(words[1]) % 65536, int(words[2]) % 256
+        return f"{words[0]} of type {min(kind, 3)}: {number}" if number == 10 and any(resource == other for other, _ in beside) else None
+    if words[0] == "offer" and len(run.bytes) >= 19:
+        f = r.fields_of(run.bytes)
+        kinds = [k for k in (1, 2) if (f["resource"], k) in beside]
+        return f"offer of type {f['type']} beside {kinds}: 10" if number == 10 and kinds else f"offer beside both: {number}" if kinds == [1, 2] else None
+    if words[0] in ("open", "open-house") and number in (0, 18):
+        kinds = [k for k in (1, 2) if (run.settings["resource"], k) in beside]
+        return f"open of type {run.settings['type']} beside {kinds}: {number}" if kinds else None
+    return None
+
+
+def told_of_shares(run, places):
+    """What a call that takes the record shows of a share, where nothing else is wrong with the record."""
+    pairs = list(itertools.combinations(places, 2))
+    if len(run.held) != 128 or not all(r.place_fits(p, len(run.store)) for p in places) or any(r.meet(p, q) for p, q in pairs):
+        return None
+    both, one = (any([p["resource"] == q["resource"], p["type"] == q["type"]] == want for p, q in pairs) for want in ([True, True], [True, False]))
+    return f"share of both: {run.answer.number}" if both else f"share of the resource: {run.answer.number}" if one else None
+
+
+class Watched(random_cases.Writer):
+    """Writes a random file, and keeps what its answers show of resource and type together."""
+
+    def __init__(self, seed):
+        super().__init__(seed)
+        self.told = set()
+
+    def say(self, line):
+        words, places = line.split(" "), used_places(self.run)
+        super().say(line)
+        if words[0] in ("status", "hand", "close", "offer", "open", "open-house"):
+            self.told |= {told_of_types(self.run, words, places), told_of_shares(self.run, places)}
+
+
+def every_way(told):
+    """What document 02, R-1, says of resource and type comes up in each way that it can."""
+    wanted = {f"{call} of type {kind}: 10" for call in ("status", "hand", "close") for kind in range(4)}
+    wanted |= {f"offer of type 0 beside {kinds}: 10" for kinds in ([1], [2], [1, 2])}
+    wanted |= {"offer of type 1 beside [2]: 10", "offer of type 2 beside [1]: 10"}
+    wanted |= {f"offer beside both: {number}" for number in (0, 11, 12, 13, 14, 15, 16)}
+    wanted |= {f"open of type {kind} beside {kinds}: {18 if kind in kinds else 0}" for kind in (1, 2) for kinds in ([1], [2], [1, 2])}
+    wanted |= {"share of both: 9", "share of the resource: 0", "share of the resource: 18", "share of the resource: 19", "share of the resource: 20"}
+    same(wanted - told, set())
+    same([t for t in told if t and t.startswith("share of both") and t != "share of both: 9" or t == "share of the resource: 9"], [])
+
+
 def test_random_files():
-    lines = random_cases.written(3, 2000)
+    writer = Watched(2)
+    lines = writer.write(2000)
+    every_way(writer.told)
     same([n for n in r.REFUSALS if not any(f" refused {n} " in line + " " for line in lines)], [])
     for call in ("describe", "compose"):
         answers = {answer.split(" ", 2)[2] for line, answer in zip(lines, lines[1:]) if line.startswith(call + " ")}
