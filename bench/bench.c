@@ -259,7 +259,7 @@ static void peer_offer_all(void *w)
 static void hand_all(void *w)
 {
     struct job *j = w;
-    sink += bh_hand_out(j->record, BH_RECORD, j->store, j->store_size, 7, j->n, j->out, j->n);
+    sink += bh_hand_out(j->record, BH_RECORD, j->store, j->store_size, 7, 1, j->n, j->out, j->n);
 }
 
 static void peer_hand_all(void *w)
@@ -313,7 +313,7 @@ static void whole(struct job *j, const char *what)
 {
     offer_all(j);
     memset(j->out, 0, j->n);
-    must(bh_hand_out(j->record, BH_RECORD, j->store, j->store_size, 7, j->n, j->out, j->n) == 0 && memcmp(j->out, j->file, j->n) == 0, what);
+    must(bh_hand_out(j->record, BH_RECORD, j->store, j->store_size, 7, 1, j->n, j->out, j->n) == 0 && memcmp(j->out, j->file, j->n) == 0, what);
 }
 
 static void files(void)

@@ -39,13 +39,13 @@ static void stores(uint8_t *store)
     /* 4113 slots of 4079 bytes leave 289 */
     expect("one slot too many", BH_ROOM, bh_open(record, BH_RECORD, store, more, 1, 1, 0, 4114, 0, 0, 4077));
     expect("as many as fit", 0, bh_open(record, BH_RECORD, store, more, 1, 1, 0, 4113, 0, 0, 4077));
-    expect("status over the whole part", (uint64_t)256 << 24, bh_status(record, BH_RECORD, store, more, 1));
+    expect("status over the whole part", (uint64_t)256 << 24, bh_status(record, BH_RECORD, store, more, 1, 1));
     expect("room behind the usable part is none", BH_ROOM, bh_open(record, BH_RECORD, store, more, 2, 1, 0, 100, 0, 0, 8));
     expect("the rest of the usable part", 0, bh_open(record, BH_RECORD, store, more, 2, 1, 0, 96, 0, 0, 1));
     record[28] = (uint8_t)(record[28] + 1);
-    expect("to its last byte", (uint64_t)256 << 24, bh_status(record, BH_RECORD, store, more, 1));
+    expect("to its last byte", (uint64_t)256 << 24, bh_status(record, BH_RECORD, store, more, 1, 1));
     record[28] = (uint8_t)(record[28] + 1);
-    expect("past the usable part", BH_RECORD_BAD, bh_status(record, BH_RECORD, store, more, 1));
+    expect("past the usable part", BH_RECORD_BAD, bh_status(record, BH_RECORD, store, more, 1, 1));
 }
 
 static void largest(uint8_t *file, uint8_t *store, uint8_t *out)
@@ -57,8 +57,8 @@ static void largest(uint8_t *file, uint8_t *store, uint8_t *out)
         uint64_t answer = bh_pack(file, length, 1, 1, 0, 0, 0, 4077, n, packet, sizeof packet);
         expect("its packets", 0, bh_number(answer) + bh_offer(record, BH_RECORD, store, BH_USABLE_STORE, packet, (size_t)bh_value(answer)));
     }
-    expect("its status", 256 * 4113, bh_status(record, BH_RECORD, store, BH_USABLE_STORE, 1));
-    expect("it comes out", 0, bh_hand_out(record, BH_RECORD, store, BH_USABLE_STORE, 1, length, out, length));
+    expect("its status", 256 * 4113, bh_status(record, BH_RECORD, store, BH_USABLE_STORE, 1, 1));
+    expect("it comes out", 0, bh_hand_out(record, BH_RECORD, store, BH_USABLE_STORE, 1, 1, length, out, length));
     expect("byte for byte", 0, (uint64_t)(memcmp(file, out, length) != 0));
 }
 
