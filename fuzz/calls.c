@@ -2,8 +2,9 @@
  * Calls of the library, chosen by bytes. The same bytes make the same calls, whether a fuzzer or the random driver below chose them.
  *
  * Every lent part ends at a page that nobody may touch and has known bytes before it. After each call: the answer's number is one that the
- * call may give; a refusal has changed nothing; and what an accepted call may not touch is as it was. With a transcript open,
- * each call is written in the language of reference/README.md with what was answered, for the second program to check.
+ * call may give; a refusal has changed nothing; what an accepted call may not touch is as it was; and a call about one type has left
+ * status and file of the other type under that resource. With a transcript open, each call is written in the language of
+ * reference/README.md with what was answered, for the second program to check.
  */
 #include "lent.h"
 
@@ -12,13 +13,23 @@
 #include <string.h>
 #include <time.h>
 
-/* ---- the calls */
+/* ---- the settings */
 
 struct settings {
     uint16_t resource;
     uint8_t type, update, protection, rows;
     uint16_t size;
 } now;
+
+static unsigned other_type(void)
+{
+    return now.type == 1 ? 2 : 1;
+}
+
+static void say_settings(void)
+{
+    SAY("settings %u %u %u %u %u %u\n", now.resource, now.type, now.update, now.protection, now.rows, now.size);
+}
 
 static void choose_settings(void)
 {
@@ -29,7 +40,7 @@ static void choose_settings(void)
     now.protection = (uint8_t)(pick() % 16 == 0 ? pick() : way / 16 % 2);
     now.rows = (uint8_t)(pick() % 8 == 0 ? pick() : 1 + way % 3);
     now.size = (uint16_t)(pick() % 8 == 0 ? wide() : now.protection ? 255 * (1 + pick() % 3) : 1 + pick());
-    SAY("settings %u %u %u %u %u %u\n", now.resource, now.type, now.update, now.protection, now.rows, now.size);
+    say_settings();
 }
 
 /* one of them another: a packet of another update, size or shape for the same resource */
@@ -40,10 +51,81 @@ static void vary_settings(void)
     now.rows = (uint8_t)(way == 1 ? pick() % 4 : now.rows);
     now.size = (uint16_t)(way == 2 ? (now.protection ? 255 * (pick() % 16) : pick()) : now.size);
     now.resource = (uint16_t)(way == 3 ? pick() % 10 : now.resource);
-    now.type = (uint8_t)(way == 4 ? pick() % 4 : now.type);
+    now.type = (uint8_t)(way == 4 ? (pick() % 4 ? other_type() : pick() % 4) : now.type);
     now.protection = (uint8_t)(way == 5 ? pick() % 3 : now.protection);
-    SAY("settings %u %u %u %u %u %u\n", now.resource, now.type, now.update, now.protection, now.rows, now.size);
+    say_settings();
 }
+
+/* a type to ask for: mostly that of the settings, else the other one or any */
+static uint8_t some_type(void)
+{
+    unsigned way = pick() % 16;
+    return (uint8_t)(way == 0 ? pick() : way == 1 ? pick() % 4 : way < 5 ? other_type() : now.type);
+}
+
+/* ---- answers about a resource's two types, before a call and after it */
+
+struct answers {
+    uint64_t status, hand;
+    uint8_t file[STORE_ROOM];
+};
+static struct answers earlier[2], later;
+static uint16_t asked;
+
+static size_t little(const uint8_t *p, int n)
+{
+    size_t v = 0;
+    while (n-- > 0)
+        v = v << 8 | p[n];
+    return v;
+}
+
+/* the length at which this place's file is handed out with every slot filled: all that came, or all of its tables. The record is a good one */
+static uint64_t length_in_place(uint16_t resource, uint8_t type)
+{
+    size_t sum = 0;
+    for (const uint8_t *p = record.at; p < record.at + BH_RECORD; p += 16)
+        if (little(p, 2) == resource && p[2] == type) {
+            for (size_t k = 0; k < little(p + 4, 4); k++)
+                sum += little(store.at + little(p + 12, 4) + k * (little(p + 10, 2) + 2), 2);
+            return p[8] ? sum / 255 * 239 : sum;
+        }
+    return 0;
+}
+
+static void ask(struct answers *a, uint8_t type)
+{
+    memset(a, 0, sizeof *a);
+    a->status = bh_status(record.at, record.n, store.at, store.n, asked, type);
+    if (bh_number(a->status) == 0)
+        a->hand = bh_hand_out(record.at, record.n, store.at, store.n, asked, type, length_in_place(asked, type), a->file, sizeof a->file);
+}
+
+static void ask_before(size_t resource)
+{
+    asked = (uint16_t)resource;
+    ask(&earlier[0], 1);
+    ask(&earlier[1], 2);
+}
+
+/* the call was about `type`; what is told of the other one, or of both where a place has no such type, is what was told before */
+static void ask_after(unsigned type)
+{
+    for (uint8_t other = 1; other <= 2; other++)
+        if (other != type) {
+            ask(&later, other);
+            if (memcmp(&later, &earlier[other - 1], sizeof later) != 0)
+                fail("an answer about the other type changed");
+        }
+}
+
+/* the number of the named type's status after a call */
+static unsigned stands(uint8_t type)
+{
+    return bh_number(bh_status(record.at, record.n, store.at, store.n, asked, type));
+}
+
+/* ---- the calls */
 
 /* what the settings' file needs */
 static uint32_t packets(void)
@@ -89,11 +171,27 @@ static void open_place(void)
 {
     uint32_t count = number_of(packets());
     int house = pick() % 8 == 0;
+    ask_before(now.resource);
     keep_all();
     SAY(house ? "open-house %" PRIu32 "\n" : "open %" PRIu32 "\n", count);
     uint64_t a = house ? bh_open_house(record.at, record.n, store.at, store.n, now.resource, now.type, now.update, count)
                        : bh_open(record.at, record.n, store.at, store.n, now.resource, now.type, now.update, count, now.protection, now.rows, now.size);
     judge(a, may(bh_number(a), 17, 20, "\x09"), 0, 1, 1);
+    ask_after(now.type);
+    if (bh_number(a) == 0 && bh_status(record.at, record.n, store.at, store.n, now.resource, now.type) != (uint64_t)256 << 24)
+        fail("what was opened is not empty");
+    if (bh_number(a) == BH_HELD && stands(now.type) == BH_UNKNOWN)
+        fail("held by another type");
+}
+
+/* the other type under the same resource, as it is or with one setting another */
+static void open_beside(void)
+{
+    now.type = (uint8_t)other_type();
+    say_settings();
+    if (pick() % 2)
+        vary_settings();
+    open_place();
 }
 
 static void pack_one(void)
@@ -111,7 +209,7 @@ static void pack_one(void)
     }
 }
 
-/* wrong bytes, cut or longer packets, or arbitrary bytes with a start mark or without */
+/* wrong bytes, cut or longer packets, the other type, a stream, or arbitrary bytes with a start mark or without */
 static void spoil(void)
 {
     unsigned way = pick() % 8;
@@ -133,7 +231,11 @@ static void spoil(void)
             packet.at[14 + wide() % (packet.n - 18)] ^= (uint8_t)pick();
         if (way == 2)
             packet.at[pick() % 14] ^= (uint8_t)(1 << pick() % 8);
-        if (way == 3 || way == 2) {
+        if (way == 4)
+            packet.at[12] ^= 0xC0;
+        if (way == 5)
+            packet.at[9] &= 0xF0, packet.at[10] = packet.at[11] = 0, packet.at[12] &= 0x3F;
+        if (way >= 2 && way <= 5) {
             uint32_t crc = bh_crc32(packet.at, packet.n - 4);
             for (int b = 0; b < 4; b++)
                 packet.at[packet.n - 4 + (size_t)b] = (uint8_t)(crc >> (24 - 8 * b));
@@ -143,6 +245,10 @@ static void spoil(void)
 
 static void offer_one(void)
 {
+    /* what the packet names; a shorter one names nothing */
+    int names = packet.n > 12;
+    unsigned type = names ? packet.at[12] >> 6 : 0;
+    ask_before(names ? (size_t)packet.at[3] << 8 | packet.at[4] : now.resource);
     keep_all();
     say_bytes(&packet, "bytes");
     SAY("offer\n");
@@ -150,6 +256,9 @@ static void offer_one(void)
     judge(a, may(bh_number(a), 1, 16, ""), 0, 1, 0);
     if (bh_number(a) == 0 && bh_value(a) == 1)
         same(&store, 0, "a repeat changed the store");
+    if (type != 1 && type != 2 && may(bh_number(a), BH_OTHER, BH_CONFLICT, ""))
+        fail("a packet of a type that no place has was judged by a place");
+    ask_after(type);
 }
 
 static void read_one(void)
@@ -170,30 +279,47 @@ static void read_one(void)
     judge(a, may(bh_number(a), 1, 8, "\x1a"), out.n, 0, 0);
 }
 
+/* no place has another type than 1 and 2 */
+static void only_unknown(uint64_t answer, uint8_t type)
+{
+    if (type != 1 && type != 2 && bh_number(answer) != BH_RECORD_BAD && bh_number(answer) != BH_UNKNOWN)
+        fail("a type that no place has is known");
+}
+
 static void status_one(void)
 {
     uint16_t resource = (uint16_t)(pick() % 8 == 0 ? wide() : now.resource);
+    uint8_t type = some_type();
     keep_all();
-    SAY("status %u\n", resource);
-    uint64_t a = bh_status(record.at, record.n, store.at, store.n, resource);
+    SAY("status %u %u\n", resource, type);
+    uint64_t a = bh_status(record.at, record.n, store.at, store.n, resource, type);
     judge(a, may(bh_number(a), 9, 10, "\x0f"), 0, 0, 0);
+    only_unknown(a, type);
 }
 
 static void hand_one(void)
 {
     uint64_t length = pick() % 4 == 0 ? number_of(pick()) : file.n + pick() % 8 / 7;
+    uint8_t type = some_type();
     keep_all();
-    SAY("hand %u %" PRIu64 "\n", now.resource, length);
-    uint64_t a = bh_hand_out(record.at, record.n, store.at, store.n, now.resource, length, out.at, out.n);
+    SAY("hand %u %u %" PRIu64 "\n", now.resource, type, length);
+    uint64_t a = bh_hand_out(record.at, record.n, store.at, store.n, now.resource, type, length, out.at, out.n);
     judge(a, may(bh_number(a), 21, 24, "\x09\x0a\x0f\x1a"), (size_t)length, 0, 0);
+    only_unknown(a, type);
 }
 
 static void close_one(void)
 {
+    uint8_t type = some_type();
+    ask_before(now.resource);
     keep_all();
-    SAY("close %u\n", now.resource);
-    uint64_t a = bh_close(record.at, record.n, store.at, store.n, now.resource);
+    SAY("close %u %u\n", now.resource, type);
+    uint64_t a = bh_close(record.at, record.n, store.at, store.n, now.resource, type);
     judge(a, may(bh_number(a), 9, 10, ""), 0, 0, 1);
+    only_unknown(a, type);
+    ask_after(type);
+    if (bh_number(a) == 0 && stands(type) != BH_UNKNOWN)
+        fail("what was closed is still known");
 }
 
 static void row_one(void)
@@ -235,6 +361,9 @@ static void disturb(void)
         size_of(&record, pick() % 8 == 0 ? 16u * (pick() % 17) : 128);
         for (size_t i = 0; i < record.n; i++)
             record.at[i] = (uint8_t)(pick() % 4 ? 0 : pick());
+    } else if (record.n == BH_RECORD && pick() % 4 == 0) {
+        /* a place of the other type, so that two may share both */
+        record.at[16 * (pick() % 8) + 2] ^= 3;
     } else if (record.n > 0) {
         record.at[pick() % record.n] = (uint8_t)pick();
     }
@@ -262,11 +391,11 @@ static void several_offers(void)
 
 int LLVMFuzzerTestOneInput(const uint8_t *data, size_t size)
 {
-    static void (*const steps[40])(void) = {
-        choose_settings, new_file, new_store, new_out, new_out, open_place, open_place, open_place, pack_one, pack_one, pack_one,
-        spoil, spoil, offer_one, offer_one, offer_one, offer_one, read_one, read_one, status_one, status_one, hand_one, hand_one, hand_one,
-        close_one, row_one, disturb, several_offers, several_offers, several_offers, vary_settings, vary_settings,
-        describe_round, describe_round, describe_round, describe_one, compose_round, compose_round, compose_round, compose_one};
+    static void (*const steps[44])(void) = {
+        choose_settings, new_file, new_store, new_out, new_out, open_place, open_place, open_place, open_beside, open_beside, open_beside,
+        open_beside, pack_one, pack_one, pack_one, spoil, spoil, offer_one, offer_one, offer_one, offer_one, read_one, read_one, status_one,
+        status_one, hand_one, hand_one, hand_one, close_one, row_one, disturb, several_offers, several_offers, several_offers, vary_settings,
+        vary_settings, describe_round, describe_round, describe_round, describe_one, compose_round, compose_round, compose_round, compose_one};
     static const uint8_t nothing[1];
     lend_all();
     choice = size ? data : nothing;
@@ -278,7 +407,7 @@ int LLVMFuzzerTestOneInput(const uint8_t *data, size_t size)
         return 0;
     }
     while (choices > 0)
-        steps[pick() % 40]();
+        steps[pick() % 44]();
     return 0;
 }
 
