@@ -11,6 +11,11 @@
 
 enum { EXIT_ACCEPTED = 0, EXIT_REFUSED = 1, EXIT_TROUBLE = 2 };
 
+struct bytes {
+    uint8_t *at;
+    size_t n;
+};
+
 /* ---- say.c: messages, all on standard error. The first two end the command. */
 enum talk { QUIET = -1, PLAIN = 0, VERBOSE = 1 };
 extern enum talk talk;
@@ -23,6 +28,7 @@ const char *refusal_name(unsigned number);
 int refused(uint64_t answer, const char *what);
 int refused_since(uint64_t answer, const char *what, const char *format, ...) __attribute__((format(printf, 3, 4)));
 int refused_line(uint64_t answer, const char *what, const char *sentence);
+int refused_text(uint64_t answer, const char *what, struct bytes text); /* of a description, with what is wrong in its text */
 enum colour { NO_COLOUR, RED, GREEN, YELLOW };
 const char *colour(FILE *to, enum colour which); /* what a terminal takes for it; nothing where there is none */
 
@@ -30,6 +36,7 @@ const char *colour(FILE *to, enum colour which); /* what a terminal takes for it
 const char *kind_words(uint64_t kind);
 const char *charset_words(uint64_t charset);
 const char *line_words(uint64_t line);
+const char *what_is_wrong(struct bytes text, uint64_t line); /* with a line that the library has refused */
 
 /* ---- arguments.c: the words of a command line. */
 struct arguments {
@@ -52,10 +59,6 @@ int stop_asked(void);
 void stop_now(void); /* as the signal that asked for it would have; nothing where none did */
 
 /* ---- files.c: whole files in memory; names. */
-struct bytes {
-    uint8_t *at;
-    size_t n;
-};
 struct bytes read_file(const char *path, size_t most); /* one byte more than `most` where it is longer */
 void release(struct bytes b);
 uint64_t file_length(const char *path);

@@ -4,7 +4,6 @@
 #include <inttypes.h>
 #include <stdio.h>
 #include <stdlib.h>
-#include <string.h>
 
 /* ---- texts. They come from the air: nothing in them may move a terminal's cursor, or turn what is read around. */
 
@@ -160,41 +159,13 @@ static void tell_json(const uint8_t *text, const uint64_t *v)
     printf(", \"delete\": %s}\n", v[BH_D_DELETE] == 1 ? "true" : "false");
 }
 
-/* ---- what is wrong with a line that the library has refused: its form, or else its value */
-
-static const char *what_is_wrong(struct bytes b, uint64_t line)
-{
-    static char sentence[48];
-    size_t at = 0, left = b.n;
-    const uint8_t *end = NULL;
-    for (uint64_t k = 1; k <= line; k++) {
-        end = left > 0 ? memchr(b.at + at, '\n', left) : NULL;
-        if (end == NULL)
-            return left > 0 ? "it must end in a line feed" : "it is missing";
-        if (k < line)
-            at = (size_t)(end - b.at) + 1;
-        left = b.n - at;
-    }
-    const uint8_t *p = b.at + at;
-    if (end - p >= 3 && p[0] == '0' + line / 10 && p[1] == '0' + line % 10 && p[2] == ':')
-        return line_words(line);
-    if (line == 1 && end - p >= 3 && memcmp(p, "\xEF\xBB\xBF", 3) == 0)
-        return "a byte order mark stands before it";
-    snprintf(sentence, sizeof sentence, "it must begin with '%02u:'", (unsigned)(line % 100));
-    return sentence;
-}
-
 int describe(const struct arguments *a)
 {
     want(a->count == 1, "describe", "one description file");
     struct bytes b = read_file(a->names[0], SIZE_MAX - 1);
     uint64_t values[BH_DESCRIPTION_VALUES];
     uint64_t answer = bh_read_description(b.at, b.n, values, BH_DESCRIPTION_VALUES);
-    int result;
-    if (bh_number(answer) == BH_LINE)
-        result = refused_line(answer, "describe", what_is_wrong(b, bh_value(answer)));
-    else
-        result = refused(answer, "describe");
+    int result = refused_text(answer, "describe", b);
     if (result == EXIT_ACCEPTED)
         (a->json ? tell_json : tell_person)(b.at, values);
     release(b);

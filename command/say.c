@@ -130,3 +130,10 @@ int refused(uint64_t answer, const char *what)
         return refused_line(answer, what, line_words(bh_value(answer)));
     return refused_since(answer, what, "%s", "");
 }
+
+int refused_text(uint64_t answer, const char *what, struct bytes text)
+{
+    if (bh_number(answer) == BH_LINE)
+        return refused_line(answer, what, what_is_wrong(text, bh_value(answer)));
+    return refused(answer, what);
+}

@@ -1,7 +1,8 @@
-/* What numbers of a description mean, and what its lines must hold, in words: source document 001, section 7.2, tables 2 to 4. */
+/* What numbers of a description mean, and what its lines must hold or have wrong, in words: source document 001, section 7.2, tables 2 to 4. */
 #include "command.h"
 
 #include <stddef.h>
+#include <string.h>
 
 static const struct {
     unsigned kind;
@@ -65,4 +66,27 @@ const char *charset_words(uint64_t charset)
 const char *line_words(uint64_t line)
 {
     return lines[line < sizeof lines / sizeof *lines ? line : 0];
+}
+
+/* its form, or else its value */
+const char *what_is_wrong(struct bytes b, uint64_t line)
+{
+    static char sentence[48];
+    size_t at = 0, left = b.n;
+    const uint8_t *end = NULL;
+    for (uint64_t k = 1; k <= line; k++) {
+        end = left > 0 ? memchr(b.at + at, '\n', left) : NULL;
+        if (end == NULL)
+            return left > 0 ? "it must end in a line feed" : "it is missing";
+        if (k < line)
+            at = (size_t)(end - b.at) + 1;
+        left = b.n - at;
+    }
+    const uint8_t *p = b.at + at;
+    if (end - p >= 3 && p[0] == '0' + line / 10 && p[1] == '0' + line % 10 && p[2] == ':')
+        return line_words(line);
+    if (line == 1 && end - p >= 3 && memcmp(p, "\xEF\xBB\xBF", 3) == 0)
+        return "a byte order mark stands before it";
+    snprintf(sentence, sizeof sentence, "it must begin with '%02u:'", (unsigned)(line % 100));
+    return sentence;
 }
