@@ -192,12 +192,12 @@ static void judge_head(const char *path, const uint8_t *head, size_t n)
         damaged(path, "a damaged archive: its header does not agree with its check");
 }
 
-/* the record with nothing wrong in it: resource 0 is never open, so a good one answers Unknown */
+/* the record with nothing wrong in it: resource 0 is never open, under any type, so a good one answers Unknown */
 static void judge_record(const struct archive *a)
 {
     if (number_at(a->state + AT_RECORD_LENGTH, 4) != BH_RECORD)
         damaged(a->path, "an archive with a record of a length that this command does not know");
-    if (bh_number(bh_status(a->record, BH_RECORD, a->store, a->store_size, 0)) != BH_UNKNOWN)
+    if (bh_number(bh_status(a->record, BH_RECORD, a->store, a->store_size, 0, FILE_TYPE)) != BH_UNKNOWN)
         damaged(a->path, "a damaged archive: its record breaks a rule (refusal 9 Record)");
 }
 

@@ -141,6 +141,11 @@ struct arguments parse(int argc, char **argv, const char *allowed)
     return a;
 }
 
+uint8_t type_named(const struct arguments *a)
+{
+    return a->type < 0 ? FILE_TYPE : (uint8_t)a->type;
+}
+
 void want(int there, const char *command, const char *what)
 {
     if (!there)

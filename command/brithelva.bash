@@ -12,10 +12,10 @@ _brithelva() {
     new) options='--size' ;;
     open) options='--resource --count --type --update --protection --rows --size --wait' ;;
     offer) options='--each --json --strict --wait' ;;
-    status) options='--resource --json --wait' ;;
-    verify) options='--resource --mend --json --wait' ;;
-    hand-out) options='--resource --length --output --force --despite-conflicts --wait' ;;
-    close) options='--resource --force --wait' ;;
+    status) options='--resource --type --json --wait' ;;
+    verify) options='--resource --type --mend --json --wait' ;;
+    hand-out) options='--resource --type --length --output --force --despite-conflicts --wait' ;;
+    close) options='--resource --type --force --wait' ;;
     describe) options='--json' ;;
     description)
         options='--service --mode --resource --update --name --kind --length --file --title --summary --keywords --charset --path --from --until --delete --output --force'

@@ -10,6 +10,7 @@
 #include <sys/stat.h>
 
 enum { EXIT_ACCEPTED = 0, EXIT_REFUSED = 1, EXIT_TROUBLE = 2 };
+enum { FILE_TYPE = 1, DESCRIPTION_TYPE = 2 }; /* what a place collects */
 
 struct bytes {
     uint8_t *at;
@@ -29,10 +30,15 @@ int refused(uint64_t answer, const char *what);
 int refused_since(uint64_t answer, const char *what, const char *format, ...) __attribute__((format(printf, 3, 4)));
 int refused_line(uint64_t answer, const char *what, const char *sentence);
 int refused_text(uint64_t answer, const char *what, struct bytes text); /* of a description, with what is wrong in its text */
+/* no place has both; where the resource is open under the other type, that is told too */
+int refused_unknown(const char *command, const uint8_t *record, uint16_t resource, uint8_t type);
 enum colour { NO_COLOUR, RED, GREEN, YELLOW };
 const char *colour(FILE *to, enum colour which); /* what a terminal takes for it; nothing where there is none */
 
-/* ---- words.c: the numbers of a description in words, and what each of its lines must hold. */
+/* ---- words.c: a place in words; the numbers of a description, and what each of its lines must hold. */
+const char *type_words(unsigned type);
+const char *place_words(uint16_t resource, uint8_t type);                     /* as in 'resource 7, type 2 (description)'; until the next call */
+const char *of_place(const char *command, uint16_t resource, uint8_t type); /* what is done to it, as a refusal begins */
 const char *kind_words(uint64_t kind);
 const char *charset_words(uint64_t charset);
 const char *line_words(uint64_t line);
@@ -47,6 +53,7 @@ struct arguments {
     int delete, json, each, force, strict, mend, despite_conflicts, help, quiet, verbose;
 };
 struct arguments parse(int argc, char **argv, const char *allowed);
+uint8_t type_named(const struct arguments *a); /* a file's where none is named */
 void want(int there, const char *command, const char *what);
 
 /* ---- stop.c: signals. What is half done is removed; `offer` ends as at the end of its input. */
@@ -89,10 +96,12 @@ void finish_output(struct output *o);
 
 /* ---- place.c: what stands in a record, and the room of a store. */
 struct bh_place place_of(const uint8_t *record, int i);
-int find_place(const uint8_t *record, uint16_t resource); /* -1 where no place holds it */
+int find_place(const uint8_t *record, uint16_t resource, uint8_t type); /* -1 where no place has both */
 uint64_t cover_of(struct bh_place p);
 uint8_t *slot_of(uint8_t *store, struct bh_place p, uint32_t number);
 uint16_t length_of(const uint8_t *slot);
+uint64_t joined_length(uint8_t *store, struct bh_place p); /* the bytes of all its payloads */
+uint64_t whole_length(uint8_t *store, struct bh_place p);  /* the longest file that these can be: with protection one that fills its tables */
 uint64_t bytes_used(const uint8_t *record);
 uint64_t largest_gap(const uint8_t *record, size_t store_size);
 /* whether the place in use with this number is the same in both records */
@@ -169,6 +178,9 @@ struct finding {
 };
 /* Judges one slot; a slot that can be mended is mended in the image if that is asked for. */
 struct finding judge_slot(struct archive *a, struct bh_place p, uint32_t number, int mend);
+
+/* ---- joining.c: what a place has collected, in memory; at NULL, with the reason told, where it may not be handed out. */
+struct bytes join_place(struct archive *a, int place, uint64_t length, int despite_conflicts);
 
 /* ---- recording.c: bytes with packets among them, a batch at a time. */
 struct recording {

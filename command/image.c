@@ -114,8 +114,8 @@ uint8_t *carried_image(const char *path, const uint8_t *old, size_t n)
     if (n < OLD_STORE || number_at(old + AT_STORE_SIZE, 8) != n - OLD_STORE || n - OLD_STORE > BH_USABLE_STORE || number_at(old + OLD_CHOICE, 4) > 1)
         return NULL;
     const uint8_t *record = old + OLD_RECORDS + number_at(old + OLD_CHOICE, 4) * BH_RECORD, *store = old + OLD_STORE;
-    /* resource 0 is never open, so a good record answers Unknown */
-    if (bh_number(bh_status(record, BH_RECORD, store, n - OLD_STORE, 0)) != BH_UNKNOWN)
+    /* resource 0 is never open, under any type, so a good record answers Unknown */
+    if (bh_number(bh_status(record, BH_RECORD, store, n - OLD_STORE, 0, FILE_TYPE)) != BH_UNKNOWN)
         return NULL;
     point_into(&a, fresh_image(n - OLD_STORE), n - OLD_STORE);
     memcpy(a.record, record, BH_RECORD);

@@ -28,22 +28,24 @@ static const struct command {
     {"open", "resource type update protection rows size count wait", open_place,
      "open ARCHIVE --resource N --count C [--type 1|2] [--update U]\n"
      "                 [--protection 0|1] [--rows M] [--size S] [--wait SECONDS]",
-     "opens a place for a resource's C packets: a slot of S bytes for each, settings as in pack"},
+     "opens a place for the C packets of a file (type 1), or of its description (type 2) beside it: a\n"
+     "      slot of S bytes for each, settings as in pack"},
     {"offer", "json each strict wait", offer, "offer ARCHIVE RECORDING.. [--each] [--json] [--strict] [--wait SECONDS]",
      "offers every packet found in the recordings (- for standard input), past noise, as they come, and\n"
-     "      tells the tally; with --each also a line for every packet: resource, number, answer. Exit status 1\n"
-     "      where a sound packet of an open resource was refused, or none was found; with --strict for any refusal"},
-    {"status", "resource json wait", status, "status ARCHIVE [--resource N] [--json] [--wait SECONDS]",
-     "how far each open resource has come, what was refused of it, and the room in the store"},
-    {"verify", "resource json mend wait", verify, "verify ARCHIVE [--resource N] [--mend] [--json] [--wait SECONDS]",
+     "      tells the tally; with --each also a line for every packet: resource, type, number, answer. Exit\n"
+     "      status 1 where a sound packet of an open place was refused, or none was found; with --strict for\n"
+     "      any refusal"},
+    {"status", "resource type json wait", status, "status ARCHIVE [--resource N [--type 1|2]] [--json] [--wait SECONDS]",
+     "how far each place, or one, has come, what was refused of it, and the room in the store"},
+    {"verify", "resource type json mend wait", verify, "verify ARCHIVE [--resource N [--type 1|2]] [--mend] [--json] [--wait SECONDS]",
      "looks whether every packet is as it was stored, and names those that are not; with --mend puts\n"
      "      right what can be: rows with at most eight wrong bytes"},
-    {"hand-out", "resource length output force despite-conflicts wait", hand_out,
-     "hand-out ARCHIVE --resource N --length L -o FILE [--force]\n"
+    {"hand-out", "resource type length output force despite-conflicts wait", hand_out,
+     "hand-out ARCHIVE --resource N [--type 1|2] --length L -o FILE [--force]\n"
      "                 [--despite-conflicts] [--wait SECONDS]",
-     "writes the file of a resource, L bytes, once every packet is there and as it was stored"},
-    {"close", "resource force wait", close_place, "close ARCHIVE --resource N [--force] [--wait SECONDS]",
-     "gives a resource's place up; one that is complete and was never handed out only with --force"},
+     "writes what a place has collected, L bytes, once every packet is there and as it was stored"},
+    {"close", "resource type force wait", close_place, "close ARCHIVE --resource N [--type 1|2] [--force] [--wait SECONDS]",
+     "gives a place up; one that is complete and was never handed out only with --force"},
     {"describe", "json", describe, "describe TEXT [--json]",
      "what a description file (- for standard input) says: name, title, dates, kind, length and the rest"},
     {"description", "service mode resource update name kind title summary keywords charset path length file from until delete output force", description,
@@ -67,8 +69,9 @@ static void help_all(void)
     fputs("  brithelva COMMAND --help | --help | --version\n"
           "\n"
           "Every command takes -q, --quiet (errors and refusals only) and -v, --verbose. -o is --output, - standard output; what is\n"
-          "there is replaced only with -f, --force. --wait is for how long another command may be at work, 5 seconds where it is not\n"
-          "named.\n"
+          "there is replaced only with -f, --force. A place is named by its resource and its type: 1 for a file, which is meant where\n"
+          "none is named, and 2 for its description. --wait is for how long another command may be at work, 5 seconds where it is\n"
+          "not named.\n"
           "\n"
           "Exit status: 0 accepted, 1 refused, 2 usage or file trouble. A refusal is told by its number, as the library's\n"
           "documents list them. 'man brithelva' says more.\n",

@@ -11,7 +11,7 @@
 
 struct tally {
     uint64_t stored, repeated, refused[BH_CONFLICT + 1], skipped;
-    uint64_t lost; /* packets of open resources that were sound and were refused */
+    uint64_t lost; /* packets of open places that were sound and were refused */
     char cause[BH_CONFLICT + 1][96]; /* of the first refusal with this number */
 };
 
@@ -37,19 +37,19 @@ static int is_sound(const uint8_t *packet, size_t n)
     return bh_crc32(copy, n - BH_CRC) == ((uint32_t)crc[0] << 24 | (uint32_t)crc[1] << 16 | (uint32_t)crc[2] << 8 | crc[3]);
 }
 
-/* Why a packet does not fit the place that its resource names: the first field that differs, as it is and as it is held. */
+/* Why a packet does not fit the place that its resource and type name: the first field that differs, as it is and as it is held. */
 static void tell_cause(char *to, size_t room, unsigned number, struct bh_place p, const uint32_t *fields, size_t n)
 {
     const struct {
         const char *name;
         uint32_t seen, held;
-    } pairs[] = {{"type", fields[5], p.type}, {"update", fields[2], p.update}, {"count", fields[4], p.count}, {"protection", fields[6], p.protection}, {"rows", fields[7], p.rows}};
+    } pairs[] = {{"update", fields[2], p.update}, {"count", fields[4], p.count}, {"protection", fields[6], p.protection}, {"rows", fields[7], p.rows}};
     *to = '\0';
     if (number == BH_WIDE)
-        snprintf(to, room, "resource %u: %zu bytes of payload, held in slots of %u", p.resource, n - BH_HEADER - BH_CRC, p.slot);
+        snprintf(to, room, "%s: %zu bytes of payload, held in slots of %u", place_words(p.resource, p.type), n - BH_HEADER - BH_CRC, p.slot);
     for (size_t k = 0; number == BH_OTHER && k < sizeof pairs / sizeof *pairs; k++)
         if (pairs[k].seen != pairs[k].held) {
-            snprintf(to, room, "resource %u: %s %" PRIu32 ", held %" PRIu32, p.resource, pairs[k].name, pairs[k].seen, pairs[k].held);
+            snprintf(to, room, "%s: %s %" PRIu32 ", held %" PRIu32, place_words(p.resource, p.type), pairs[k].name, pairs[k].seen, pairs[k].held);
             return;
         }
 }
@@ -60,13 +60,11 @@ static void tell_packet(struct offering *o, const uint32_t *fields, uint64_t ans
     const char *words = number != BH_ACCEPTED ? "refused" : bh_value(answer) == 0 ? "stored" : "repeated";
     int unread = number >= BH_SHORT && number <= BH_RESOURCE;
     if (o->json && unread)
-        fputs("{\"resource\": null, \"number\": null", o->lines);
-    else if (o->json)
-        fprintf(o->lines, "{\"resource\": %" PRIu32 ", \"number\": %" PRIu32, fields[0], fields[1]);
+        fputs("{\"resource\": null, \"type\": null, \"number\": null", o->lines);
     else if (unread)
-        fputs("- -", o->lines);
+        fputs("- - -", o->lines);
     else
-        fprintf(o->lines, "%" PRIu32 " %" PRIu32, fields[0], fields[1]);
+        fprintf(o->lines, o->json ? "{\"resource\": %" PRIu32 ", \"type\": %" PRIu32 ", \"number\": %" PRIu32 : "%" PRIu32 " %" PRIu32 " %" PRIu32, fields[0], fields[5], fields[1]);
     fprintf(o->lines, o->json ? ", \"answer\": \"%s\"" : " %s", words);
     if (number != BH_ACCEPTED)
         fprintf(o->lines, o->json ? ", \"refusal\": %u, \"name\": \"%s\"" : " %u %s", number, refusal_name(number));
@@ -88,7 +86,7 @@ static void keep_slot(struct archive *a, int place, uint32_t number)
 static int tell_damage(struct archive *a, struct bh_place p, uint32_t number, char *to, size_t room)
 {
     int damaged = judge_slot(a, p, number, 0).what != SOUND;
-    snprintf(to, room, "resource %u: packet %" PRIu32 "%s", p.resource, number, damaged ? " is damaged in the archive, see verify" : "");
+    snprintf(to, room, "%s: packet %" PRIu32 "%s", place_words(p.resource, p.type), number, damaged ? " is damaged in the archive, see verify" : "");
     return damaged;
 }
 
@@ -122,7 +120,7 @@ static int take_packet(struct offering *o, const uint8_t *packet, size_t n)
     uint32_t fields[9] = {0};
     uint64_t answer = bh_offer(a->record, BH_RECORD, a->store, a->store_size, packet, n);
     unsigned number = bh_number(answer);
-    int place = find_place(a->record, (uint16_t)(packet[3] << 8 | packet[4])), damaged = 0;
+    int place = find_place(a->record, (uint16_t)(packet[3] << 8 | packet[4]), packet[12] >> 6), damaged = 0;
     int judged = number == BH_ACCEPTED || number == BH_CONFLICT || number == BH_SLOT;
     char cause[sizeof o->tally.cause[0]] = "";
     bh_read_fields(packet, n, fields, 9);
@@ -294,7 +292,7 @@ int offer(const struct arguments *a)
     if (a->json || talk != QUIET)
         tell_tally(&o.tally, a->json);
     if (o.tally.lost > 0)
-        complain("%" PRIu64 " packets that name an open resource were sound and were refused: something of what was sent may be missing", o.tally.lost);
+        complain("%" PRIu64 " packets that name an open resource and its type were sound and were refused: something of what was sent may be missing", o.tally.lost);
     if (result == EXIT_ACCEPTED && (o.tally.lost > 0 || (a->strict && all_refused(&o.tally) > 0)))
         result = EXIT_REFUSED;
     fflush(stdout);

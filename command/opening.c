@@ -25,15 +25,16 @@ static uint64_t open_one(struct archive *archive, uint8_t *record, const struct 
 static int not_opened(uint64_t answer, const struct archive *archive, const struct settings *s, uint32_t count)
 {
     unsigned number = bh_number(answer);
-    struct bh_place p = place_of(archive->record, number == BH_HELD ? find_place(archive->record, s->resource) : 0);
+    const char *what = of_place("open", s->resource, s->type);
+    struct bh_place p = place_of(archive->record, number == BH_HELD ? find_place(archive->record, s->resource, s->type) : 0);
     if (number == BH_FIELD)
-        return refused_since(answer, "open", "%s", field_cause(s, count));
+        return refused_since(answer, what, "%s", field_cause(s, count));
     if (number == BH_HELD)
-        return refused_since(answer, "open", "type %u, update %u, %" PRIu32 " packets", p.type, p.update, p.count);
+        return refused_since(answer, what, "update %u, %" PRIu32 " packets", p.update, p.count);
     if (number == BH_ROOM)
-        return refused_since(answer, "open", "%" PRIu64 " bytes are needed, the largest gap has %" PRIu64 " of the store's %zu", (uint64_t)count * (s->size + 2u),
+        return refused_since(answer, what, "%" PRIu64 " bytes are needed, the largest gap has %" PRIu64 " of the store's %zu", (uint64_t)count * (s->size + 2u),
                              largest_gap(archive->record, archive->store_size), archive->store_size);
-    return refused(answer, "open");
+    return refused(answer, what);
 }
 
 /* The checks at the two ends of a place may speak of neighbours' slots too: they change with the record, and what they owe stays. */
@@ -82,8 +83,8 @@ int open_place(const struct arguments *a)
     uint64_t answer = open_one(&archive, record, &s, (uint32_t)a->packets);
     int result = EXIT_ACCEPTED;
     if (bh_number(answer) == BH_ACCEPTED) {
-        publish_opened(&archive, find_place(record, s.resource), record);
-        detail("%s: resource %u is open for %lld packets; %" PRIu64 " bytes of the store are used", a->names[0], s.resource, a->packets, bytes_used(record));
+        publish_opened(&archive, find_place(record, s.resource, s.type), record);
+        detail("%s: %s, is open for %lld packets; %" PRIu64 " bytes of the store are used", a->names[0], place_words(s.resource, s.type), a->packets, bytes_used(record));
     } else {
         result = not_opened(answer, &archive, &s, (uint32_t)a->packets);
     }
@@ -94,9 +95,10 @@ int open_place(const struct arguments *a)
 /* ---- close */
 
 /* complete, or damaged and perhaps so, and nobody has it */
-static int is_unread(const struct archive *a, int place, uint16_t resource)
+static int is_unread(const struct archive *a, int place)
 {
-    uint64_t answer = bh_status(a->record, BH_RECORD, a->store, a->store_size, resource);
+    struct bh_place p = place_of(a->record, place);
+    uint64_t answer = bh_status(a->record, BH_RECORD, a->store, a->store_size, p.resource, p.type);
     return (bh_number(answer) != BH_ACCEPTED || bh_lowest_empty(answer) < 0) && count_of(a, place, HANDED_OUT) == 0;
 }
 
@@ -105,17 +107,21 @@ int close_place(const struct arguments *a)
     want(a->count == 1, "close", "one archive");
     want(a->resource >= 0, "close", "--resource");
     struct archive archive = open_archive(a->names[0], 1, a->wait);
-    uint8_t record[BH_RECORD];
+    uint8_t record[BH_RECORD], type = type_named(a);
+    uint16_t resource = (uint16_t)a->resource;
     memcpy(record, archive.record, sizeof record);
-    int place = find_place(record, (uint16_t)a->resource), result = EXIT_ACCEPTED;
-    uint64_t answer = bh_close(record, sizeof record, archive.store, archive.store_size, (uint16_t)a->resource);
-    if (bh_number(answer) != BH_ACCEPTED) {
-        result = refused(answer, "close");
-    } else if (!a->force && is_unread(&archive, place, (uint16_t)a->resource)) {
-        complain("close refused: resource %lld is complete and was never handed out; --force gives it up all the same", a->resource);
+    int place = find_place(record, resource, type), result = EXIT_ACCEPTED;
+    uint64_t answer = bh_close(record, sizeof record, archive.store, archive.store_size, resource, type);
+    if (bh_number(answer) == BH_UNKNOWN) {
+        result = refused_unknown("close", archive.record, resource, type);
+    } else if (bh_number(answer) != BH_ACCEPTED) {
+        result = refused(answer, of_place("close", resource, type));
+    } else if (!a->force && is_unread(&archive, place)) {
+        complain("%s refused: it is complete and was never handed out; --force gives it up all the same", of_place("close", resource, type));
         result = EXIT_REFUSED;
     } else {
         publish_record(&archive, place_of(archive.record, place), place, record);
+        detail("%s: %s, is closed", a->names[0], place_words(resource, type));
     }
     close_archive(&archive);
     return result;

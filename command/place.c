@@ -19,10 +19,10 @@ struct bh_place place_of(const uint8_t *record, int i)
     return place;
 }
 
-int find_place(const uint8_t *record, uint16_t resource)
+int find_place(const uint8_t *record, uint16_t resource, uint8_t type)
 {
     for (int i = 0; resource != 0 && i < BH_PLACES; i++)
-        if (place_of(record, i).resource == resource)
+        if (place_of(record, i).resource == resource && place_of(record, i).type == type)
             return i;
     return -1;
 }
@@ -45,6 +45,20 @@ uint8_t *slot_of(uint8_t *store, struct bh_place p, uint32_t number)
 uint16_t length_of(const uint8_t *slot)
 {
     return (uint16_t)(slot[0] | slot[1] << 8);
+}
+
+uint64_t joined_length(uint8_t *store, struct bh_place p)
+{
+    uint64_t sum = 0;
+    for (uint32_t k = 0; k < p.count; k++)
+        sum += length_of(slot_of(store, p, k));
+    return sum;
+}
+
+uint64_t whole_length(uint8_t *store, struct bh_place p)
+{
+    uint64_t joined = joined_length(store, p);
+    return p.protection ? joined / BH_ROW / p.rows * p.rows * BH_ROW_INFO : joined;
 }
 
 uint64_t bytes_used(const uint8_t *record)

@@ -20,15 +20,15 @@ static const struct {
     {"Rows", "the payload of a protected packet is not whole rows"},
     {"Resource", "the resource is 0"},
     {"Record", "the archive's record is damaged"},
-    {"Unknown", "the resource is not open"},
-    {"Other", "type, update, count, protection or rows differ from those that were opened"},
+    {"Unknown", "the resource is not open under this type"},
+    {"Other", "update, count, protection or rows differ from those that were opened"},
     {"Wide", "the payload is longer than the slots that were opened"},
     {"Repair", "a row has more wrong bytes than can be repaired"},
     {"CRC", "the CRC differs"},
-    {"Slot", "the archive's store is damaged at this resource"},
+    {"Slot", "the archive's store is damaged at this place"},
     {"Conflict", "a different payload with this number came before, and stays"},
     {"Field", "an argument is out of its range"},
-    {"Held", "the resource is open already"},
+    {"Held", "the resource is open already under this type"},
     {"Full", "all eight places are in use"},
     {"Room", "the store has no room for so many slots"},
     {"Missing", "a packet has not come yet"},
@@ -136,4 +136,13 @@ int refused_text(uint64_t answer, const char *what, struct bytes text)
     if (bh_number(answer) == BH_LINE)
         return refused_line(answer, what, what_is_wrong(text, bh_value(answer)));
     return refused(answer, what);
+}
+
+int refused_unknown(const char *command, const uint8_t *record, uint16_t resource, uint8_t type)
+{
+    const char *what = of_place(command, resource, type);
+    for (uint8_t other = FILE_TYPE; other <= DESCRIPTION_TYPE; other++)
+        if (find_place(record, resource, other) >= 0)
+            return refused_since(BH_UNKNOWN, what, "it is open as type %u %s, which --type %u names", other, type_words(other), other);
+    return refused_since(BH_UNKNOWN, what, "%s", type == FILE_TYPE || type == DESCRIPTION_TYPE ? "" : "a place has type 1 (file) or 2 (description)");
 }

@@ -6,7 +6,7 @@ struct settings settings_of(const struct arguments *a)
     struct settings s = {
         .house = a->protection < 0 && a->rows < 0 && a->size < 0,
         .resource = (uint16_t)a->resource,
-        .type = a->type < 0 ? 1 : (uint8_t)a->type,
+        .type = type_named(a),
         .update = a->update < 0 ? 0 : (uint8_t)a->update,
         .protection = a->protection < 0 ? 1 : (uint8_t)a->protection,
     };

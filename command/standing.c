@@ -1,4 +1,4 @@
-/* status: how far each open resource has come, what was refused of it, and how much room there is. */
+/* status: how far each place has come, what was refused of it, and how much room there is. */
 #include "command.h"
 
 #include <inttypes.h>
@@ -38,7 +38,7 @@ static void say_place(const struct archive *a, int i, uint64_t answer)
 {
     struct bh_place p = place_of(a->record, i);
     uint64_t conflicts = count_of(a, i, CONFLICTS), handed = count_of(a, i, HANDED_OUT);
-    printf("resource %-5u  type %u  update %-2u  ", p.resource, p.type, p.update);
+    printf("resource %-5u  type %u %-13s  update %-2u  ", p.resource, p.type, type_words(p.type), p.update);
     if (p.protection)
         printf("%3u rows  ", p.rows);
     else
@@ -67,16 +67,17 @@ static void tell_store(const struct archive *a, int json)
 int status(const struct arguments *a)
 {
     want(a->count == 1, "status", "one archive");
+    want(a->resource >= 0 || a->type < 0, "status", "--resource where --type is named");
     struct archive archive = open_archive(a->names[0], 0, a->wait);
-    int told = 0, result = EXIT_ACCEPTED;
+    int told = 0, result = EXIT_ACCEPTED, only = a->resource < 0 ? -1 : find_place(archive.record, (uint16_t)a->resource, type_named(a));
     release_archive(&archive);
     if (a->json)
         printf("{\"places\": [");
     for (int i = 0; i < BH_PLACES; i++) {
         struct bh_place p = place_of(archive.record, i);
-        if (p.resource == 0 || (a->resource >= 0 && p.resource != a->resource))
+        if (p.resource == 0 || (a->resource >= 0 && i != only))
             continue;
-        uint64_t answer = bh_status(archive.record, BH_RECORD, archive.store, archive.store_size, p.resource);
+        uint64_t answer = bh_status(archive.record, BH_RECORD, archive.store, archive.store_size, p.resource, p.type);
         if (bh_number(answer) != BH_ACCEPTED)
             result = EXIT_REFUSED;
         if (a->json)
@@ -91,7 +92,7 @@ int status(const struct arguments *a)
         puts("nothing is open");
     tell_store(&archive, a->json);
     if (told == 0 && a->resource >= 0)
-        result = refused(bh_status(archive.record, BH_RECORD, archive.store, archive.store_size, (uint16_t)a->resource), "status");
+        result = refused_unknown("status", archive.record, (uint16_t)a->resource, type_named(a));
     close_archive(&archive);
     return result;
 }

@@ -21,7 +21,7 @@ static void tell_json(const struct bh_place *p, const struct finding *f, int men
 
 static void tell_person(const struct bh_place *p, const struct finding *f, int mended)
 {
-    printf("resource %u packet %" PRIu32, p->resource, f->packet);
+    printf("%s, packet %" PRIu32, place_words(p->resource, p->type), f->packet);
     if (f->row >= 0)
         printf(": row %d", f->row);
     printf(" %s", f->words);
@@ -74,23 +74,20 @@ static int is_copy_spoilt(const struct look *l)
     return spoilt;
 }
 
-static int looks_at(const struct arguments *a, struct bh_place p)
-{
-    return p.resource != 0 && (a->resource < 0 || p.resource == a->resource);
-}
-
 int verify(const struct arguments *a)
 {
     want(a->count == 1, "verify", "one archive");
+    want(a->resource >= 0 || a->type < 0, "verify", "--resource where --type is named");
     struct look l = {.archive = open_archive(a->names[0], a->mend, a->wait), .mend = a->mend, .json = a->json};
-    if (a->resource >= 0 && find_place(l.archive.record, (uint16_t)a->resource) < 0)
-        return refused(BH_UNKNOWN, "verify");
+    int only = a->resource < 0 ? -1 : find_place(l.archive.record, (uint16_t)a->resource, type_named(a));
+    if (a->resource >= 0 && only < 0)
+        return refused_unknown("verify", l.archive.record, (uint16_t)a->resource, type_named(a));
     if (!a->mend)
         release_archive(&l.archive);
     if (a->json)
         printf("{\"damage\": [");
     for (int i = 0; i < BH_PLACES; i++)
-        if (looks_at(a, place_of(l.archive.record, i)))
+        if (place_of(l.archive.record, i).resource != 0 && (a->resource < 0 || i == only))
             look_at_place(&l, place_of(l.archive.record, i));
     int spoilt = is_copy_spoilt(&l);
     if (a->mend)

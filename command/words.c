@@ -1,8 +1,32 @@
-/* What numbers of a description mean, and what its lines must hold or have wrong, in words: source document 001, section 7.2, tables 2 to 4. */
+/* Numbers in words: which place is meant; what numbers of a description mean, and what its lines must hold or have wrong (source document 001, section 7.2,
+ * tables 2 to 4). */
 #include "command.h"
 
 #include <stddef.h>
 #include <string.h>
+
+/* ---- places */
+
+const char *type_words(unsigned type)
+{
+    return type == FILE_TYPE ? "(file)" : type == DESCRIPTION_TYPE ? "(description)" : "";
+}
+
+const char *place_words(uint16_t resource, uint8_t type)
+{
+    static char words[48];
+    snprintf(words, sizeof words, "resource %u, type %u%s%s", resource, type, *type_words(type) ? " " : "", type_words(type));
+    return words;
+}
+
+const char *of_place(const char *command, uint16_t resource, uint8_t type)
+{
+    static char words[64];
+    snprintf(words, sizeof words, "%s of %s", command, place_words(resource, type));
+    return words;
+}
+
+/* ---- descriptions */
 
 static const struct {
     unsigned kind;

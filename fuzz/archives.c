@@ -196,7 +196,8 @@ ssize_t getrandom(void *to, size_t n, unsigned flags)
     return (ssize_t)n;
 }
 
-/* ---- the archives that are damaged: two places with protection, two without, a gap, and three changes that have not gone to their place */
+/* ---- the archives that are damaged: two places with protection, two without, a file and a description under one resource, a gap, and three changes that have
+ * not gone to their place */
 
 static uint8_t whole[2][ROOM], image[ROOM], after[ROOM];
 static size_t whole_size[2], size;
@@ -204,9 +205,9 @@ static struct archive parts; /* of the image, if it is of version 2 */
 
 static const struct {
     uint16_t resource, slot;
-    uint8_t protection;
+    uint8_t type, protection;
     uint32_t count;
-} plan[] = {{7, 510, 1, 3}, {8, 20, 0, 20}, {9, 30, 0, 3}, {10, 300, 0, 2}, {11, 255, 1, 2}};
+} plan[] = {{7, 510, 1, 1, 3}, {8, 20, 2, 0, 20}, {9, 30, 1, 0, 3}, {10, 300, 1, 0, 2}, {7, 255, 2, 1, 2}};
 enum { PLANNED = sizeof plan / sizeof *plan, CLOSED = 2 };
 
 /* Offers a packet of the plan; answers what the library does. */
@@ -216,7 +217,7 @@ static uint64_t offer_packet(struct archive *a, size_t k, uint32_t number)
     size_t n = plan[k].count * (size_t)(plan[k].protection ? plan[k].slot / BH_ROW * BH_ROW_INFO : plan[k].slot);
     for (size_t i = 0; i < n; i++)
         content[i] = (uint8_t)(i * i + k);
-    uint64_t packed = bh_pack(content, n, plan[k].resource, 1, 0, plan[k].protection, 1, plan[k].slot, number, sent, sizeof sent);
+    uint64_t packed = bh_pack(content, n, plan[k].resource, plan[k].type, 0, plan[k].protection, 1, plan[k].slot, number, sent, sizeof sent);
     if (bh_number(packed) != BH_ACCEPTED)
         fail("a packet of the plan cannot be made");
     return bh_offer(a->record, BH_RECORD, a->store, a->store_size, sent, (size_t)bh_value(packed));
@@ -242,12 +243,12 @@ static void make_settled(void)
     struct archive a = {0};
     point_into(&a, fresh, SMALL_STORE);
     for (size_t k = 0; k < PLANNED; k++) {
-        if (bh_open(a.record, BH_RECORD, a.store, a.store_size, plan[k].resource, 1, 0, plan[k].count, plan[k].protection, 1, plan[k].slot) != BH_ACCEPTED)
+        if (bh_open(a.record, BH_RECORD, a.store, a.store_size, plan[k].resource, plan[k].type, 0, plan[k].count, plan[k].protection, 1, plan[k].slot) != BH_ACCEPTED)
             fail("a place of the sound archive was refused");
         for (uint32_t number = 0; number < plan[k].count; number += 2)
             store_packet(&a, k, number);
     }
-    bh_close(a.record, BH_RECORD, a.store, a.store_size, plan[CLOSED].resource);
+    bh_close(a.record, BH_RECORD, a.store, a.store_size, plan[CLOSED].resource, plan[CLOSED].type);
     make_checks(&a);
     seal_state(&a);
     memcpy(fresh + AT_STATES + PAGE, a.state, STATE);
@@ -547,8 +548,10 @@ static void look_at(struct archive *a, int mend, int keep_it)
             sum += count_of(a, i, (enum counter)k);
         if (p.resource == 0)
             continue;
-        if (find_place(a->record, p.resource) != i)
-            fault("two places of one resource");
+        if (find_place(a->record, p.resource, p.type) != i)
+            fault("two places of one resource and type");
+        if (whole_length(a->store, p) > joined_length(a->store, p))
+            fault("a file longer than what came");
         look_at_slots(a, p, mend, keep_it);
     }
     if (!mend && memcmp(before, a->image, a->size) != 0)
@@ -562,7 +565,7 @@ static void offer_all(struct archive *a)
         for (uint32_t number = 0; number < plan[k].count; number++) {
             if (offer_packet(a, k, number) != BH_ACCEPTED)
                 continue;
-            int place = find_place(a->record, plan[k].resource);
+            int place = find_place(a->record, plan[k].resource, plan[k].type);
             renew_for(a, slot_of(a->store, place_of(a->record, place), number));
             count_more(a, place, STORED, 1);
             keep_slot(a, place_of(a->record, place), number);

@@ -8,6 +8,11 @@
  * Answers. answer = number + 256 * value. Number 0 is accepted; any other is a refusal (enum bh_refusal below), and after a
  * refusal the record, the store and every output hold what they held before the call. The value is the refusal's extra value,
  * or what is said at the function; 0 where nothing is said. bh_number() and bh_value() take an answer apart.
+ *
+ * Places. A station sends a file (type 1) and the description of it (type 2) under one resource, as two sequences of packets that are
+ * numbered and counted each by itself. So a place belongs to a resource and a type together, and no two places in use have both alike:
+ * a file and its description are collected side by side, in two places, and each is asked for, handed out and closed by itself. A call
+ * that names a place takes the type behind the resource, as bh_pack and bh_open do.
  */
 #ifndef BRITHELVA_H
 #define BRITHELVA_H
@@ -48,16 +53,17 @@ enum bh_refusal {
     BH_NUMBER = 6,      /* packet number not below the count, or a count that the type does not have */
     BH_ROWS = 7,        /* protection 1, and the payload is not whole rows */
     BH_RESOURCE = 8,    /* resource 0 */
-    BH_RECORD_BAD = 9,  /* the record is not 128 bytes, or one of its places is out of range, passes the store or meets another */
-    BH_UNKNOWN = 10,    /* no place holds the resource */
-    BH_OTHER = 11,      /* type, update, count, protection or M differs from the place */
+    BH_RECORD_BAD = 9,  /* the record is not 128 bytes, or one of its places is out of range, passes the store, meets another, or has
+                         * resource and type of another */
+    BH_UNKNOWN = 10,    /* no place has this resource and this type; so for every type but 1 and 2, a packet of a stream (type 0) too */
+    BH_OTHER = 11,      /* update, count, protection or M differs from the place of this resource and type */
     BH_WIDE = 12,       /* the payload is longer than the place's slots */
     BH_REPAIR = 13,     /* a row has no coded row within eight bytes; value: the first such row, 0 for a row alone */
     BH_CRC_BAD = 14,    /* the CRC differs */
     BH_SLOT = 15,       /* the store is damaged: a slot's length is out of range */
     BH_CONFLICT = 16,   /* the slot holds a different payload, which stays */
     BH_FIELD = 17,      /* an argument is out of its range */
-    BH_HELD = 18,       /* the resource is open already */
+    BH_HELD = 18,       /* the resource is open already under this type */
     BH_FULL = 19,       /* all eight places are in use */
     BH_ROOM = 20,       /* no room for the slots in the store */
     BH_MISSING = 21,    /* a packet has not come yet; value: the lowest such number */
@@ -74,7 +80,8 @@ static inline unsigned bh_number(uint64_t answer) { return (unsigned)(answer & 2
 static inline uint64_t bh_value(uint64_t answer) { return answer >> 8; }
 
 /* A place of the record, as its sixteen bytes lie in memory (little-endian). It is unused exactly if its resource is 0. A
- * program reads it to list what is open; it is changed by bh_open and bh_close alone. */
+ * program reads it to list what is open, by resource and type, since a resource may be there twice; it is changed by bh_open and
+ * bh_close alone. */
 struct bh_place {
     uint16_t resource;
     uint8_t type;
@@ -115,10 +122,12 @@ uint64_t bh_pack(const uint8_t *file, size_t n, uint16_t resource, uint8_t type,
 uint64_t bh_pack_house(const uint8_t *file, size_t n, uint16_t resource, uint8_t type, uint8_t update, uint32_t number,
                        uint8_t *out, size_t room);
 
-/* Opens a place in which `count` packets of a resource are collected: the first unused one of the record, its slots at the lowest
- * start of the store where count * (slot + 2) bytes fit. Writes the place into the record and the length 0 into each slot; no
+/* Opens a place in which `count` packets of a resource and a type are collected: the first unused one of the record, its slots at the
+ * lowest start of the store where count * (slot + 2) bytes fit. Writes the place into the record and the length 0 into each slot; no
  * other byte of the store changes. rn is 128; sn is the store's length. `slot` has the range of bh_pack's size.
- * Refusals: 9; 17 an argument out of range (count 1 to 1048575); 18; 19; 20. */
+ * A file and its description are two places, with two counts and settings of their own: the one that is not opened is not collected,
+ * though it comes under the same resource. Nothing asks that their updates agree; a caller that reads one by the other compares them.
+ * Refusals: 9; 17 an argument out of range (count 1 to 1048575); 18 only where resource and type are those of a place; 19; 20. */
 uint64_t bh_open(uint8_t *record, size_t rn, uint8_t *store, size_t sn, uint16_t resource, uint8_t type, uint8_t update,
                  uint32_t count, uint8_t protection, uint8_t rows, uint16_t slot);
 
@@ -128,26 +137,34 @@ uint64_t bh_open_house(uint8_t *record, size_t rn, uint8_t *store, size_t sn, ui
 
 /* Offers one packet. With protection each row is repaired first; then the CRC has to agree. Value 0: stored in its slot, payload
  * first and length last. Value 1: the slot holds these bytes already. The record is only read.
+ * The packet names its place itself: the resource by its bytes 3 and 4, the type by the two high bits of byte 12, both before any CRC
+ * has confirmed them. A packet of a stream is always 10, as is one of a description of whose resource only the file is open.
  * Refusals: 9; 1 to 8 as bh_read_fields; 10 to 16. */
 uint64_t bh_offer(const uint8_t *record, size_t rn, uint8_t *store, size_t sn, const uint8_t *packet, size_t n);
 
-/* How a resource stands. Value: filled + 2^24 * (lowest empty + 1), the number of slots that are filled and the lowest that is
- * empty; the second part is 0 where none is. bh_filled() and bh_lowest_empty() take it apart.
+/* How the place of a resource and a type stands. Value: filled + 2^24 * (lowest empty + 1), the number of slots that are filled and
+ * the lowest that is empty; the second part is 0 where none is. bh_filled() and bh_lowest_empty() take it apart.
  * Refusals: 9; 10; 15. */
-uint64_t bh_status(const uint8_t *record, size_t rn, const uint8_t *store, size_t sn, uint16_t resource);
+uint64_t bh_status(const uint8_t *record, size_t rn, const uint8_t *store, size_t sn, uint16_t resource, uint8_t type);
 
 static inline uint32_t bh_filled(uint64_t answer) { return (uint32_t)(bh_value(answer) & 0xFFFFFF); }
 /* the lowest empty slot, or -1 */
 static inline int32_t bh_lowest_empty(uint64_t answer) { return (int32_t)(bh_value(answer) >> 24) - 1; }
 
-/* Writes the file of a resource, `length` bytes, to the start of `out`; bytes behind them stay.
+/* Writes what the place of a resource and a type collected, `length` bytes, to the start of `out`; bytes behind them stay.
+ * The type stands before the length: with the two exchanged a call still compiles, and asks for another place. No packet carries the
+ * length. That of a file can stand in line 12 of its description (BH_D_FILE_LENGTH), if that is of the same resource and update. Of a
+ * description the text ends at its last LF; one that came with protection can be had at the whole length of its tables, 239 * M * (the
+ * bytes of all payloads / 255 / M), and cut there, since what is behind has to be 0. For with protection a length that is too large is
+ * taken too, up to the end of the last table, and zeros are written behind the file; without, only the one that came.
  * Refusals: 9; 10; 15; 21 a packet is missing; 22; 23 the length is not the one that came; 24; 26 room is below length. */
-uint64_t bh_hand_out(const uint8_t *record, size_t rn, const uint8_t *store, size_t sn, uint16_t resource, uint64_t length,
-                     uint8_t *out, size_t room);
+uint64_t bh_hand_out(const uint8_t *record, size_t rn, const uint8_t *store, size_t sn, uint16_t resource, uint8_t type,
+                     uint64_t length, uint8_t *out, size_t room);
 
-/* Closes a resource's place: all its fields become 0. The store is only read; its room serves later openings.
+/* Closes the place of a resource and a type: all its fields become 0. The store is only read; its room serves later openings. A place
+ * of the same resource and the other type stays open.
  * Refusals: 9; 10. */
-uint64_t bh_close(uint8_t *record, size_t rn, const uint8_t *store, size_t sn, uint16_t resource);
+uint64_t bh_close(uint8_t *record, size_t rn, const uint8_t *store, size_t sn, uint16_t resource, uint8_t type);
 
 /* ---- description files
  *
