@@ -182,6 +182,10 @@ struct finding judge_slot(struct archive *a, struct bh_place p, uint32_t number,
 /* ---- joining.c: what a place has collected, in memory; at NULL, with the reason told, where it may not be handed out. */
 struct bytes join_place(struct archive *a, int place, uint64_t length, int despite_conflicts);
 
+/* ---- collected.c: a description that was collected in a place of its own. Where it cannot be used, the reason is told. */
+struct bytes collected_text(struct archive *a, int place, int despite_conflicts, uint64_t *values); /* at NULL where there is none */
+uint64_t collected_length(struct archive *a, struct bh_place file, int despite_conflicts);          /* 0 where there is none */
+
 /* ---- recording.c: bytes with packets among them, a batch at a time. */
 struct recording {
     const char *name;

@@ -41,9 +41,11 @@ static const struct command {
      "looks whether every packet is as it was stored, and names those that are not; with --mend puts\n"
      "      right what can be: rows with at most eight wrong bytes"},
     {"hand-out", "resource type length output force despite-conflicts wait", hand_out,
-     "hand-out ARCHIVE --resource N [--type 1|2] --length L -o FILE [--force]\n"
+     "hand-out ARCHIVE --resource N [--type 1|2] [--length L] -o FILE [--force]\n"
      "                 [--despite-conflicts] [--wait SECONDS]",
-     "writes what a place has collected, L bytes, once every packet is there and as it was stored"},
+     "writes what a place has collected, L bytes, once every packet is there and as it was stored. Without\n"
+     "      --length a file has the length that its collected description names, and a description ends with\n"
+     "      its last line"},
     {"close", "resource type force wait", close_place, "close ARCHIVE --resource N [--type 1|2] [--force] [--wait SECONDS]",
      "gives a place up; one that is complete and was never handed out only with --force"},
     {"describe", "json", describe, "describe TEXT [--json]",
