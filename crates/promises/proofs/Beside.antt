@@ -2,23 +2,19 @@
 -- Assumes nothing.
 use mathlib.Core.Path.{_≡_, refl, sym, ap, _∙_}
 use mathlib.Core.Bool.{Bool, true, false, cond}
-use mathlib.Core.List.{List, [], _∷_, _++_, map}
-use Prim.Native.Nat.{ℕ, zero, suc, _+_, _≤_, _<_}
+use mathlib.Core.List.{List, [], _∷_, _++_}
+use Prim.Native.Nat.{ℕ, _<_}
 use native.Mathlib.Omega.{arith}
 use lib.Dec.{ltb}
 use lib.ListN.{length, getD}
-use Rattle.ground.specs.Lists.{listed}
 use Rattle.ground.proofs.Truth.{and-both, fails}
 use Rattle.refusals.specs.declared.Refusal.the-variants.{Unknown}
 use Rattle.refusals.specs.Told.{refusedAs}
-use Rattle.packet.specs.declared.Packet.{Packet}
-use Rattle.packet.specs.declared.Reading.the-variants.{Sent}
-use Rattle.packet.specs.Packet.{readOf}
 use Rattle.settings.specs.declared.Settings.{Settings}
 use Rattle.pack.specs.Pack.{countOf, packetOf}
 use Rattle.places.specs.declared.Found.{Found}
 use Rattle.places.specs.declared.Found.the-variants.{At, Nothing}
-use Rattle.places.specs.Places.{Name, settingsName, unused, good, placeNamed}
+use Rattle.places.specs.Places.{Name, settingsName, unused, placeNamed}
 use Rattle.places.proofs.Named.{name-same}
 use Rattle.places.proofs.Facts.{named-facts}
 use Rattle.places.proofs.Holders.{found-names}
@@ -26,14 +22,13 @@ use Rattle.record.specs.Offer.{packetName, nameIn, Offering, offerOf}
 use Rattle.record.specs.Told.{offeredTold}
 use Rattle.record.proofs.OfferCases.{offer-unknown}
 use Rattle.record.proofs.OfferFacts.{no-stream}
-use Rattle.promises.specs.Calls.{Call, State, step, names}
+use Rattle.promises.specs.Calls.{Call, step, names}
 use Rattle.promises.specs.Calls.Call.{packing, opening, offering, asking, handing, closing}
 use Rattle.promises.specs.Statements.{Protected, Fair, AllFair, Offers, Alike, theFile, theDescription, without, SideBySide, opened, BothComeOut, SomeCarryBoth, StreamsUnknown}
 use Rattle.promises.proofs.Judged.{copy-names}
-use Rattle.promises.proofs.Own.{whole-copy, own-fair, own-offers}
+use Rattle.promises.proofs.Own.{fair-each, whole-copy, own, own-before, own-behind}
 use Rattle.promises.proofs.Sequences.{two-sequences}
 use Rattle.promises.proofs.Demand.{demand-3}
-use Rattle.promises.proofs.Counts.{fair-join, offers-before, offers-behind}
 
 -- a packet names one resource and type alone
 one-name : (o r : Name) (q : List ℕ) → (o ≡ r → ⊥) → names o q ≡ true → names r q ≡ false
@@ -76,29 +71,17 @@ both-come-out g d file text pg pd x ag ad cs cg cd = (
 )
 
 -- the packets of a file under another name do not name this one
-other-fair : (g d : Settings) (file text : List ℕ) → Protected d text → (settingsName d ≡ settingsName g → ⊥) → (k i : ℕ) → i + k ≤ countOf d (length text)
-    → AllFair g file (map offering (listed (packetOf d text) k i))
-other-fair g d file text p e zero i l = AllFair.ended
-other-fair g d file text p e (suc k) i l =
-    let below : i < countOf d (length text) = omega arith in
-    AllFair.next (Fair.other (packetOf d text i) (one-name (settingsName d) (settingsName g) (packetOf d text i) e (copy-names d text p i below (packetOf d text i) (whole-copy d text p i below))))
-    (other-fair g d file text p e k (suc i) (omega arith))
+other-fair : (g d : Settings) (file text : List ℕ) → Protected d text → (settingsName d ≡ settingsName g → ⊥) → AllFair g file (own d text)
+other-fair g d file text p e =
+    fair-each g file (packetOf d text) (countOf d (length text))
+    (λ i l. Fair.other (packetOf d text i) (one-name (settingsName d) (settingsName g) (packetOf d text i) e (copy-names d text p i l (packetOf d text i) (whole-copy d text p i l))))
 
 pub some-carry-both : SomeCarryBoth
 some-carry-both g d file text pg pd e = (
   own g file ++ own d text,
-  record {
-    fair = fair-join g file (own-fair g file pg (countOf g (length file)) 0 (omega arith)) (other-fair g d file text pd (λ z. e (sym z)) (countOf d (length text)) 0 (omega arith));
-    every = λ n l. offers-before g file n (own d text) (own-offers g file pg n (countOf g (length file)) 0 (omega arith) (omega arith) l);
-  },
-  record {
-    fair = fair-join d text (other-fair d g text file pg e (countOf g (length file)) 0 (omega arith)) (own-fair d text pd (countOf d (length text)) 0 (omega arith));
-    every = λ n l. offers-behind d text n (own g file) (own-offers d text pd n (countOf d (length text)) 0 (omega arith) (omega arith) l);
-  },
+  own-before g file pg (other-fair g d file text pd (λ z. e (sym z))),
+  own-behind d text pd (other-fair d g text file pg e),
 )
-  where
-    own : Settings → List ℕ → List Call
-    own s a = map offering (listed (packetOf s a) (countOf s (length a)) 0)
 
 -- ---- streams
 

@@ -3,11 +3,11 @@
 use mathlib.Core.Path.{_≡_, refl, sym, ap, _∙_}
 use mathlib.Core.Logic.{⊎-elim}
 use mathlib.Core.Bool.{Bool, true, false}
-use mathlib.Core.List.{List, [], _∷_, _++_, map}
-use Prim.Native.Nat.{ℕ, zero, suc, _+_, _*_, _≤_, _<_}
+use mathlib.Core.List.{List, _++_}
+use Prim.Native.Nat.{ℕ, _*_}
 use native.Mathlib.Omega.{arith}
 use lib.ListN.{length, replicate}
-use Rattle.ground.specs.Lists.{listed, ceil}
+use Rattle.ground.specs.Lists.{ceil}
 use Rattle.code.proofs.Lists.{zeros-bytes}
 use Rattle.refusals.specs.declared.Refusal.the-variants.{Other}
 use Rattle.layout.specs.Layout.{tablesOf}
@@ -22,10 +22,9 @@ use Rattle.record.specs.Told.{offeredTold}
 use Rattle.record.proofs.OfferCases.{judge-other, offer-placed}
 use Rattle.record.proofs.OfferFacts.{same-file}
 use Rattle.promises.specs.Calls.{Call, step}
-use Rattle.promises.specs.Calls.Call.{offering}
-use Rattle.promises.specs.Statements.{Protected, Fair, AllFair, Offers, Carries, placeAt, DifferentCounts, OneCount, OtherLengthRefused}
+use Rattle.promises.specs.Statements.{Protected, Fair, AllFair, Carries, placeAt, DifferentCounts, OneCount, OtherLengthRefused}
 use Rattle.promises.proofs.Noise.{refused-is-noise}
-use Rattle.promises.proofs.Own.{own-fair, own-offers}
+use Rattle.promises.proofs.Own.{fair-each, own, own-before, own-behind}
 use Rattle.promises.proofs.Demand.{collected, refuses}
 use Rattle.promises.proofs.Slots.{held-found}
 use Rattle.promises.proofs.Turned.{one, byte, protected}
@@ -40,43 +39,19 @@ count-differs p f d = by (differs p f) refl
 
 -- ---- two files, carried by one list
 
-pub fair-join : (g : Settings) (file : List ℕ) {cs ds : List Call} → AllFair g file cs → AllFair g file ds → AllFair g file (cs ++ ds)
-fair-join g file AllFair.ended e = e
-fair-join g file (AllFair.next f fs) e = AllFair.next f (fair-join g file fs e)
-
-pub offers-before : (g : Settings) (file : List ℕ) (n : ℕ) {cs : List Call} (ds : List Call) → Offers g file n cs → Offers g file n (cs ++ ds)
-offers-before g file n ds (Offers.here c) = Offers.here c
-offers-before g file n ds (Offers.later o) = Offers.later (offers-before g file n ds o)
-
-pub offers-behind : (g : Settings) (file : List ℕ) (n : ℕ) (cs : List Call) {ds : List Call} → Offers g file n ds → Offers g file n (cs ++ ds)
-offers-behind g file n [] o = o
-offers-behind g file n (c ∷ cs) o = Offers.later (offers-behind g file n cs o)
-
 -- the packets of b are noise at the place of a
-noise-fair : (g : Settings) (a b : List ℕ) → Protected g b → (countOf g (length b) ≡ countOf g (length a) → ⊥) → (k i : ℕ) → i + k ≤ countOf g (length b)
-    → AllFair g a (map offering (listed (packetOf g b) k i))
-noise-fair g a b p d zero i l = AllFair.ended
-noise-fair g a b p d (suc k) i l =
-    let below : i < countOf g (length b) = omega arith in
-    AllFair.next (Fair.noise (packetOf g b i) (refused-is-noise g a (packetOf g b i) Other (fieldsOf g b i) (packet-reads g b i (p .fit) (p .count) below)
+noise-fair : (g : Settings) (a b : List ℕ) → Protected g b → (countOf g (length b) ≡ countOf g (length a) → ⊥) → AllFair g a (own g b)
+noise-fair g a b p d =
+    fair-each g a (packetOf g b) (countOf g (length b))
+    (λ i below. Fair.noise (packetOf g b i) (refused-is-noise g a (packetOf g b i) Other (fieldsOf g b i) (packet-reads g b i (p .fit) (p .count) below)
     (judge-other (placeOf g (countOf g (length a)) 0) (fieldsOf g b i) (packetOf g b i) (count-differs (placeOf g (countOf g (length a)) 0) (fieldsOf g b i) d))))
-    (noise-fair g a b p d k (suc i) (omega arith))
 
 pub different-counts : DifferentCounts
 different-counts g a b pa pb d = (
-  own a ++ own b,
-  record {
-    fair = fair-join g a (own-fair g a pa (countOf g (length a)) 0 (omega arith)) (noise-fair g a b pb (λ e. d (sym e)) (countOf g (length b)) 0 (omega arith));
-    every = λ n l. offers-before g a n (own b) (own-offers g a pa n (countOf g (length a)) 0 (omega arith) (omega arith) l);
-  },
-  record {
-    fair = fair-join g b (noise-fair g b a pa d (countOf g (length a)) 0 (omega arith)) (own-fair g b pb (countOf g (length b)) 0 (omega arith));
-    every = λ n l. offers-behind g b n (own a) (own-offers g b pb n (countOf g (length b)) 0 (omega arith) (omega arith) l);
-  },
+  own g a ++ own g b,
+  own-before g a pa (noise-fair g a b pb (λ e. d (sym e))),
+  own-behind g b pb (noise-fair g b a pa d),
 )
-  where
-    own : List ℕ → List Call
-    own file = map offering (listed (packetOf g file) (countOf g (length file)) 0)
 
 -- a file of one byte, in one packet, and one of 240, in two
 abbrev longer : List ℕ

@@ -4,8 +4,8 @@ use mathlib.Core.Path.{_≡_, sym, _∙_}
 use Prim.Native.Nat.{_≤_, _-_}
 use native.Mathlib.Omega.{arith}
 use borrow.Author.Needs.{needs}
-use lib.ListN.{length, getD, drop}
-use Rattle.places.specs.Places.{unused, names, firstFrom, placeNamed}
+use lib.ListN.{length, drop}
+use Rattle.places.specs.Places.{names, firstFrom, placeNamed}
 use Rattle.places.proofs.Steps.{mapped-length, first-hit, first-miss, first-end}
 use Rattle.places.proofs.find_place.Statement.{statement}
 use Rattle.places.proofs.find_place.Tie as tie

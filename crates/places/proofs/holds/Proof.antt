@@ -1,7 +1,6 @@
 -- `places::holds` meets its contract: an unused place is meant by none; one in use is by its resource and its type.
 -- Assumes nothing.
-use mathlib.Core.Path.{_≡_, refl, sym, _∙_}
-use mathlib.Core.Bool.{true}
+use mathlib.Core.Path.{sym, _∙_}
 use borrow.Author.Tests.{eq-eqb, ne-eqb}
 use Rattle.places.specs.Places.{sameName}
 use Rattle.places.proofs.Named.{in-use, not-in-use, names-unused, names-used}
