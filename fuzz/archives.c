@@ -685,10 +685,7 @@ int main(int argc, char **argv)
     double seconds = argc > 1 ? atof(argv[1]) : 1;
     time_t from = time(NULL);
     while (difftime(time(NULL), from) < seconds) {
-        for (size_t i = 0; i < sizeof data; i++) {
-            x = x * 6364136223846793005u + 1442695040888963407u;
-            data[i] = (uint8_t)(x >> 56);
-        }
+        x = draw(data, sizeof data, x);
         LLVMFuzzerTestOneInput(data, data[0] % sizeof data);
     }
     printf("fuzz: %lu damaged archives, %lu accepted, nothing touched that may not be\n", calls, accepted_calls);

@@ -423,10 +423,7 @@ int main(int argc, char **argv)
     if (argc > 3 && (transcript = fopen(argv[3], "w")) == NULL)
         fail("no transcript");
     while (most ? calls < most : difftime(time(NULL), from) < seconds) {
-        for (size_t i = 0; i < sizeof data; i++) {
-            x = x * 6364136223846793005u + 1442695040888963407u;
-            data[i] = (uint8_t)(x >> 56);
-        }
+        x = draw(data, sizeof data, x);
         LLVMFuzzerTestOneInput(data, sizeof data);
     }
     if (transcript && fclose(transcript) != 0)

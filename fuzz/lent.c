@@ -76,6 +76,15 @@ unsigned wide(void)
     return high << 8 | pick();
 }
 
+uint64_t draw(uint8_t *data, size_t n, uint64_t seed)
+{
+    for (size_t i = 0; i < n; i++) {
+        seed = seed * 6364136223846793005u + 1442695040888963407u;
+        data[i] = (uint8_t)(seed >> 56);
+    }
+    return seed;
+}
+
 uint32_t number_of(uint32_t usual)
 {
     unsigned way = pick() % 16;

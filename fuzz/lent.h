@@ -29,6 +29,8 @@ extern size_t choices;
 unsigned pick(void);
 unsigned wide(void);
 uint32_t number_of(uint32_t usual);
+/* bytes for a driver that no fuzzer chooses; answers the seed of those that follow */
+uint64_t draw(uint8_t *data, size_t n, uint64_t seed);
 
 extern FILE *transcript;
 extern unsigned long calls, accepted_calls;
