@@ -87,7 +87,7 @@ module _ (n : ℕ) (ps : List Place) (g : Settings) (count start i : ℕ) (s : s
   opened-good e = placed-good (lowest-free n (coverOf count (g .size)) ps start e)
 
 -- over a fresh record any size that fits the store starts at 0, and no other has a start
-fresh-clear : (s size : ℕ) (i : ℕ) → i < 8 → clear s size (getD (freshRecord .places) i unused) ≡ true
+pub fresh-clear : (s size : ℕ) (i : ℕ) → i < 8 → clear s size (getD (freshRecord .places) i unused) ≡ true
 unfolding clear
 fresh-clear s size i h = rw (getD-replicate 8 i unused unused h)
 

@@ -1,34 +1,45 @@
 -- A file and its description under one resource: offers of the one do not show in answers about the other, both come out, and streams go nowhere: document 02, R-1.
 -- Assumes nothing.
 use mathlib.Core.Path.{_≡_, refl, sym, ap, _∙_}
-use mathlib.Core.Bool.{Bool, true, false, cond}
+use mathlib.Core.Bool.{Bool, true, false, cond, not}
 use mathlib.Core.List.{List, [], _∷_, _++_}
-use Prim.Native.Nat.{ℕ, _<_}
+use Prim.Native.Nat.{ℕ, _+_, _≤_, _<_}
 use native.Mathlib.Omega.{arith}
+use borrow.Author.Tests.{le-leb}
 use lib.Dec.{ltb}
-use lib.ListN.{length, getD}
-use Rattle.ground.proofs.Truth.{and-both, fails}
+use lib.ListN.{length, getD, set}
+use Rattle.ground.proofs.Truth.{differ, and-both, or-right, fails}
 use Rattle.refusals.specs.declared.Refusal.the-variants.{Unknown}
-use Rattle.refusals.specs.Told.{refusedAs}
+use Rattle.refusals.specs.Told.{acceptedWith, refusedAs, verdictTold}
 use Rattle.settings.specs.declared.Settings.{Settings}
+use Rattle.settings.proofs.Laws.{settings-facts}
 use Rattle.pack.specs.Pack.{countOf, packetOf}
+use Rattle.places.specs.declared.Place.{Place}
 use Rattle.places.specs.declared.Found.{Found}
 use Rattle.places.specs.declared.Found.the-variants.{At, Nothing}
-use Rattle.places.specs.Places.{Name, settingsName, unused, placeNamed}
-use Rattle.places.proofs.Named.{name-same}
+use Rattle.places.specs.Places.{Name, settingsName, unused, inUse, endOf, freshRecord, placeOf, firstFrom, firstUnused, placeNamed}
+use Rattle.places.specs.Room.{clear, free, lowestStart}
+use Rattle.places.proofs.Named.{in-use, name-same}
+use Rattle.places.proofs.Keeping.{at-set}
+use Rattle.places.proofs.Starts.{is-free, lowest-none}
+use Rattle.places.proofs.Opened.{placed-end, fresh-clear}
 use Rattle.places.proofs.Facts.{named-facts}
 use Rattle.places.proofs.Holders.{found-names}
+use Rattle.opening.specs.Open.{take, planOf, carriedOut, Opening, openOf}
+use Rattle.opening.proofs.PlanLaws.{Taking, taking-plan, open-by}
+use Rattle.opening.proofs.OpenLaws.{open-good, open-named-other, open-keeps-length}
 use Rattle.record.specs.Offer.{packetName, nameIn, Offering, offerOf}
 use Rattle.record.specs.Told.{offeredTold}
 use Rattle.record.proofs.OfferCases.{offer-unknown}
 use Rattle.record.proofs.OfferFacts.{no-stream}
-use Rattle.promises.specs.Calls.{Call, step, names}
+use Rattle.promises.specs.Calls.{Call, Answer, telling, step, fresh, names}
 use Rattle.promises.specs.Calls.Call.{packing, opening, offering, asking, handing, closing}
-use Rattle.promises.specs.Statements.{Protected, Fair, AllFair, Offers, Alike, theFile, theDescription, without, SideBySide, opened, BothComeOut, SomeCarryBoth, StreamsUnknown}
+use Rattle.promises.specs.Statements.{Protected, Fair, AllFair, Offers, Alike, theFile, theDescription, without, SideBySide, opened, BothComeOut, SomeCarryBoth, roomOf, BothFromFresh, StreamsUnknown}
 use Rattle.promises.proofs.Judged.{copy-names}
 use Rattle.promises.proofs.Own.{fair-each, whole-copy, own, own-before, own-behind}
 use Rattle.promises.proofs.Sequences.{two-sequences}
 use Rattle.promises.proofs.Demand.{demand-3}
+use Rattle.promises.proofs.Fresh.{within-usable, counted, takes, opens}
 
 -- a packet names one resource and type alone
 one-name : (o r : Name) (q : List ℕ) → (o ≡ r → ⊥) → names o q ≡ true → names r q ≡ false
@@ -82,6 +93,77 @@ some-carry-both g d file text pg pd e = (
   own-before g file pg (other-fair g d file text pd (λ z. e (sym z))),
   own-behind d text pd (other-fair d g text file pg e),
 )
+
+-- ---- from a fresh record: the second place finds room behind the first
+
+module _ (g d : Settings) (file text : List ℕ) (pg : Protected g file) (pd : Protected d text) (apart : settingsName g ≡ settingsName d → ⊥)
+    (s : List ℕ) (fits : roomOf g file + roomOf d text ≤ length s) (limit : roomOf g file + roomOf d text ≤ 16777216) where
+  abbrev first : Place
+  first = placeOf g (countOf g (length file)) 0
+
+  abbrev one-open : List Place
+  one-open = set (freshRecord .places) 0 first
+
+  taking-first : Taking freshRecord (length s) g (countOf g (length file)) 0 0
+  taking-first = takes g file pg s (omega (arith, fits)) (omega (arith, limit))
+
+  first-used : inUse first ≡ true
+  first-used = in-use first (λ z. omega (arith, settings-facts g (pg .fit) .resource))
+
+  next-unused : firstUnused one-open ≡ At 1
+  unfolding firstFrom
+  next-unused = rw first-used
+
+  absent : placeNamed one-open (settingsName d) ≡ Nothing
+  unfolding firstFrom
+  absent = open-named-other freshRecord (length s) g (countOf g (length file)) 0 0 taking-first (settingsName d) apart
+
+  behind-first : clear (roomOf g file) (roomOf d text) first ≡ true
+  unfolding clear
+  behind-first = or-right (not (inUse first)) (rw (le-leb (endOf first) (roomOf g file) (omega (arith, placed-end g (countOf g (length file)) 0))))
+
+  free-behind : free (length s) (roomOf d text) one-open (roomOf g file) ≡ true
+  free-behind =
+      is-free (length s) (roomOf d text) one-open (roomOf g file)
+      (record {
+        ends = within-usable (roomOf g file + roomOf d text) (length s) fits limit;
+        clears = λ i l. at-set (freshRecord .places) 0 first (λ q. clear (roomOf g file) (roomOf d text) q ≡ true) i l (λ z. behind-first) (λ z. fresh-clear (roomOf g file) (roomOf d text) i l);
+      })
+
+  second : (start : ℕ) × Taking (record { places = one-open }) (length s) d (countOf d (length text)) 1 start
+  second = by (lowestStart (length s) (roomOf d text) one-open) refl
+    where
+      by : (w : Found) → lowestStart (length s) (roomOf d text) one-open ≡ w → (start : ℕ) × Taking (record { places = one-open }) (length s) d (countOf d (length text)) 1 start
+      by (At start) e = (
+        start,
+        record {
+          fitting = record { sound = open-good freshRecord (length s) g (countOf g (length file)) 0 0 taking-first; fits = pd .fit; counted = counted d text pd };
+          absent = absent;
+          unused = next-unused;
+          lowest = e;
+        },
+      )
+      by Nothing e = differ (sym free-behind ∙ lowest-none (length s) (roomOf d text) one-open e (roomOf g file))
+
+  opens-beside : step (opening d (countOf d (length text))) (opened step g file (fresh s)) .answer ≡ telling (acceptedWith [])
+  unfolding step
+  opens-beside =
+      let n : ℕ = countOf d (length text) in
+      let done : openOf freshRecord s g (countOf g (length file)) ≡ carriedOut freshRecord s g (countOf g (length file)) (take 0 0) =
+      open-by freshRecord s g (countOf g (length file)) (take 0 0) (taking-plan freshRecord (length s) g (countOf g (length file)) 0 0 taking-first) in
+      let after : List ℕ = carriedOut freshRecord s g (countOf g (length file)) (take 0 0) .store in
+      let sized : length after ≡ length s = sym (ap (λ (o : Opening). length (o .store)) done) ∙ open-keeps-length freshRecord s g (countOf g (length file)) in
+      let plan : planOf (record { places = one-open }) (length after) d n ≡ take 1 (second .0) =
+      ap (λ (m : ℕ). planOf (record { places = one-open }) m d n) sized ∙ taking-plan (record { places = one-open }) (length s) d n 1 (second .0) (second .1) in
+      ap (λ (o : Opening). telling (verdictTold (openOf (o .kept .«record») (o .store) d n .kept .verdict))) done
+      ∙ ap (λ (o : Opening). telling (verdictTold (o .kept .verdict))) (open-by (record { places = one-open }) after d n (take 1 (second .0)) plan)
+
+pub both-from-fresh : BothFromFresh step
+both-from-fresh g d file text pg pd apart s fits limit cs cg cd =
+    let first = opens g file pg s (omega (arith, fits)) (omega (arith, limit)) in
+    let beside = opens-beside g d file text pg pd apart s fits limit in
+    let hands = both-come-out g d file text pg pd (fresh s) (ap (λ (a : Answer). a .told .number) first) (ap (λ (a : Answer). a .told .number) beside) cs cg cd in
+    record { opens = first; beside = beside; hands = hands .0; hands-beside = hands .1 }
 
 -- ---- streams
 

@@ -19,19 +19,27 @@ use Rattle.pack.proofs.Laws.{rows-positive, length-tables}
 use Rattle.pack.proofs.Plans.{pack-accepts}
 use Rattle.layout.specs.Layout.{tablesOf}
 use Rattle.layout.proofs.Coded.{tables-reach}
-use Rattle.places.specs.Places.{usable, coverOf, countFits, freshRecord, firstFrom}
+use Rattle.places.specs.Places.{usable, countFits, freshRecord, firstFrom}
 use Rattle.places.proofs.Keeping.{fresh-good}
 use Rattle.places.proofs.Opened.{fresh-lowest}
 use Rattle.opening.specs.Open.{take, Opening}
 use Rattle.opening.proofs.PlanLaws.{Taking, taking-plan, open-by}
 use Rattle.promises.specs.Calls.{Answer, telling, State, step, fresh}
 use Rattle.promises.specs.Calls.Call.{packing, opening}
-use Rattle.promises.specs.Statements.{Protected, FromFresh}
+use Rattle.promises.specs.Statements.{Protected, roomOf, FromFresh}
 use Rattle.promises.proofs.Demand.{demand-3}
+
+-- what a store has, and the limit allows, is usable
+pub within-usable : (x n : ℕ) → x ≤ n → x ≤ 16777216 → x ≤ usable n
+within-usable x n fits limit = by (leb n 16777216)
+  where
+    by : (b : Bool) → x ≤ cond b n 16777216
+    by true = fits
+    by false = limit
 
 module _ (g : Settings) (file : List ℕ) (p : Protected g file) where
   -- a file that is there has a packet
-  counted : countFits (countOf g (length file)) ≡ true
+  pub counted : countFits (countOf g (length file)) ≡ true
   counted = rw (le-leb 1 (countOf g (length file)) (one-packet), le-leb (countOf g (length file)) 1048575 (p .count)) refl
     where
       one-packet : 1 ≤ countOf g (length file)
@@ -43,14 +51,7 @@ module _ (g : Settings) (file : List ℕ) (p : Protected g file) where
           let coded : codedLength g (length file) ≡ 255 * (g .rows * t) = length-tables g (length file) plain ∙ mul-assoc 255 (g .rows) t in
           ceil-positive (codedLength g (length file)) (g .size) (settings-facts g (p .fit) .size .least) (omega (arith, p .some))
 
-  module _ (s : List ℕ) (fits : coverOf (countOf g (length file)) (g .size) ≤ length s) (limit : coverOf (countOf g (length file)) (g .size) ≤ 16777216) where
-    room : coverOf (countOf g (length file)) (g .size) ≤ usable (length s)
-    room = by (leb (length s) 16777216)
-      where
-        by : (b : Bool) → coverOf (countOf g (length file)) (g .size) ≤ cond b (length s) 16777216
-        by true = fits
-        by false = limit
-
+  module _ (s : List ℕ) (fits : roomOf g file ≤ length s) (limit : roomOf g file ≤ 16777216) where
     -- the first place, from the start of the store on
     pub takes : Taking freshRecord (length s) g (countOf g (length file)) 0 0
     unfolding firstFrom
@@ -58,7 +59,7 @@ module _ (g : Settings) (file : List ℕ) (p : Protected g file) where
       fitting = record { sound = fresh-good (length s); fits = p .fit; counted = counted };
       absent = refl;
       unused = refl;
-      lowest = fresh-lowest (length s) (coverOf (countOf g (length file)) (g .size)) room;
+      lowest = fresh-lowest (length s) (roomOf g file) (within-usable (roomOf g file) (length s) fits limit);
     }
 
     pub opens : step (opening g (countOf g (length file))) (fresh s) .answer ≡ telling (acceptedWith [])
@@ -73,7 +74,7 @@ from-fresh g file p s fits most cs carried = record {
   hands = demand-3 g file p (fresh s) (ap (λ (a : Answer). a .told .number) (opens g file p s fits limit)) cs carried;
 }
   where
-    limit : coverOf (countOf g (length file)) (g .size) ≤ 16777216
+    limit : roomOf g file ≤ 16777216
     limit = omega (arith, most)
 
     answer : Packing → Answer

@@ -4,7 +4,7 @@ use mathlib.Core.Path.{_≡_}
 use mathlib.Core.Logic.{_⊎_}
 use mathlib.Core.Bool.{Bool, true, false, cond}
 use mathlib.Core.List.{List, [], _∷_, _++_, map}
-use Prim.Native.Nat.{ℕ, _-_, _*_, _%_, _≤_, _<_}
+use Prim.Native.Nat.{ℕ, _+_, _-_, _*_, _%_, _≤_, _<_}
 use lib.ListN.{length, getD, take, drop, replicate}
 use Rattle.ground.specs.Lists.{listed}
 use Rattle.refusals.specs.declared.Refusal.the-variants.{Unknown, Other, Slot, Size}
@@ -121,13 +121,20 @@ HandsOut f g file x =
     (out : List ℕ) → length file ≤ length out
     → f (handing (settingsName g) (length file) out) x .answer ≡ record { told = acceptedWith []; output = file ++ drop (length file) out }
 
--- from every state from which open with the file's own settings is accepted, which is number 0
+-- open with the file's own settings is accepted, which is number 0; and the state behind it
+abbrev pub IsOpened : Program → Settings → List ℕ → State → Type 0
+IsOpened f g file x = f (opening g (countOf g (length file))) x .answer .told .number ≡ 0
+
+abbrev pub opened : Program → Settings → List ℕ → State → State
+opened f g file x = f (opening g (countOf g (length file))) x .state
+
+-- from every state from which it is
 abbrev pub Demand3 : Program → Type 0
 Demand3 f =
     (g : Settings) (file : List ℕ) → Protected g file
-    → (x : State) → f (opening g (countOf g (length file))) x .answer .told .number ≡ 0
+    → (x : State) → IsOpened f g file x
     → (cs : List Call) → Carries g file cs
-    → HandsOut f g file (run f cs (f (opening g (countOf g (length file))) x .state) .state)
+    → HandsOut f g file (run f cs (opened f g file x) .state)
 
 -- from a fresh record over a store with room, no answer taken for granted: every packet is packed, open is accepted, and hand out answers the file
 pub record FreshHandsOut (f : Program) (g : Settings) (file s : List ℕ) (cs : List Call) : Type 0 where
@@ -137,10 +144,14 @@ pub record FreshHandsOut (f : Program) (g : Settings) (file s : List ℕ) (cs : 
   pub opens : f (opening g (countOf g (length file))) (fresh s) .answer ≡ telling (acceptedWith [])
   pub hands : HandsOut f g file (run f (opening g (countOf g (length file)) ∷ cs) (fresh s) .state)
 
+-- the bytes of the store that a file's place covers
+abbrev pub roomOf : Settings → List ℕ → ℕ
+roomOf g file = coverOf (countOf g (length file)) (g .size)
+
 abbrev pub FromFresh : Program → Type 0
 FromFresh f =
     (g : Settings) (file : List ℕ) → Protected g file
-    → (s : List ℕ) → coverOf (countOf g (length file)) (g .size) ≤ length s → coverOf (countOf g (length file)) (g .size) ≤ 16777216
+    → (s : List ℕ) → roomOf g file ≤ length s → roomOf g file ≤ 16777216
     → (cs : List Call) → Carries g file cs → FreshHandsOut f g file s cs
 
 -- no second file fits: two files of one length, under one set of settings, that the same calls carry, are equal
@@ -273,10 +284,10 @@ OneCount f =
 abbrev pub OtherLengthRefused : Program → Type 0
 OtherLengthRefused f =
     (g : Settings) (file : List ℕ) → Protected g file
-    → (x : State) → f (opening g (countOf g (length file))) x .answer .told .number ≡ 0
+    → (x : State) → IsOpened f g file x
     → (cs : List Call) → Carries g file cs
     → (n : ℕ) → (countOf g n ≡ countOf g (length file) → ⊥) ⊎ (tablesOf (g .rows) n ≡ tablesOf (g .rows) (length file) → ⊥)
-    → (out : List ℕ) → f (handing (settingsName g) n out) (run f cs (f (opening g (countOf g (length file))) x .state) .state) .answer
+    → (out : List ℕ) → f (handing (settingsName g) n out) (run f cs (opened f g file x) .state) .answer
     ≡ record { told = refusedAs Size; output = out }
 
 -- ---- a file and its description: document 02, R-1
@@ -309,13 +320,6 @@ pub record Untouched (f : Program) (resource : ℕ) (s : List ℕ) (cs : List Ca
 abbrev pub SideBySide : Program → Type 0
 SideBySide f = (resource : ℕ) (s : List ℕ) (cs : List Call) → Untouched f resource s cs
 
--- a place is opened for a file, and the state behind that
-abbrev pub IsOpened : Program → Settings → List ℕ → State → Type 0
-IsOpened f g file x = f (opening g (countOf g (length file))) x .answer .told .number ≡ 0
-
-abbrev pub opened : Program → Settings → List ℕ → State → State
-opened f g file x = f (opening g (countOf g (length file))) x .state
-
 -- collected at one time both come out: from every state in which the one and then the other is opened, by calls that carry both
 abbrev pub BothComeOut : Program → Type 0
 BothComeOut f =
@@ -329,6 +333,19 @@ abbrev pub SomeCarryBoth : Type 0
 SomeCarryBoth =
     (g d : Settings) (file text : List ℕ) → Protected g file → Protected d text → (settingsName g ≡ settingsName d → ⊥)
     → (cs : List Call) × Carries g file cs × Carries d text cs
+
+-- from a fresh record over a store with room for both, no answer taken for granted: both are opened, and both come out
+pub record FreshBoth (f : Program) (g d : Settings) (file text s : List ℕ) (cs : List Call) : Type 0 where
+  pub opens : f (opening g (countOf g (length file))) (fresh s) .answer ≡ telling (acceptedWith [])
+  pub beside : f (opening d (countOf d (length text))) (opened f g file (fresh s)) .answer ≡ telling (acceptedWith [])
+  pub hands : HandsOut f g file (run f cs (opened f d text (opened f g file (fresh s))) .state)
+  pub hands-beside : HandsOut f d text (run f cs (opened f d text (opened f g file (fresh s))) .state)
+
+abbrev pub BothFromFresh : Program → Type 0
+BothFromFresh f =
+    (g d : Settings) (file text : List ℕ) → Protected g file → Protected d text → (settingsName g ≡ settingsName d → ⊥)
+    → (s : List ℕ) → roomOf g file + roomOf d text ≤ length s → roomOf g file + roomOf d text ≤ 16777216
+    → (cs : List Call) → Carries g file cs → Carries d text cs → FreshBoth f g d file text s cs
 
 -- an offered stream is Unknown (10), whatever is open
 abbrev pub StreamsUnknown : Program → Type 0
