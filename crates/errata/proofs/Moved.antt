@@ -180,6 +180,23 @@ module _ (rest : List ℕ) (long : length rest ≡ 16) (bytes : Bytes rest) wher
             ∙ ap found (sym (mended-moved r s lr (near .coded .sized) (near .close) row lrow))
         by none f t = let z : _≡_ {A = ℕ} 0 1 = cc in absurd (omega arith)
 
+    -- as many places as the row and what it becomes differ in
+    pub errata-counted : (e : Errata) → e ≡ errataOf rest → e .fits ≡ true → e .n ≡ distance row (mendedBy row (entries (e .at)) (entries (e .values)) (e .n))
+    unfolding errataOf errataFor
+    errata-counted e q =
+        subst (λ (e : Errata). e .fits ≡ true → e .n ≡ distance row (mendedBy row (entries (e .at)) (entries (e .values)) (e .n))) (sym q) (by (repairOf (leaving rest)) refl)
+      where
+        by : (a : Repaired) → repairOf (leaving rest) ≡ a → errataFor (leaving rest) a .fits ≡ true
+            → errataFor (leaving rest) a .n ≡ distance row (mendedBy row (entries (errataFor (leaving rest) a .at)) (entries (errataFor (leaving rest) a .values)) (errataFor (leaving rest) a .n))
+        by (found s) f t =
+            let r : List ℕ = leaving rest in
+            let lr : length r ≡ 255 = leaving-length rest long in
+            let near : Near r s = repair-near r s f in
+            differing-distance r s lr (near .coded .sized)
+            ∙ sym (moved-distance r row s lr lrow (leaving-bytes rest long bytes) brow same near)
+            ∙ ap (distance row) (sym (mended-moved r s lr (near .coded .sized) (near .close) row lrow))
+        by none f t = let z : _≡_ {A = ℕ} 0 1 = cc in absurd (omega arith)
+
     pub errata-none : (e : Errata) → e ≡ errataOf rest → e .fits ≡ false → repairOf row ≡ none
     unfolding errataOf errataFor
     errata-none e q = subst (λ (e : Errata). e .fits ≡ false → repairOf row ≡ none) (sym q) (by (repairOf (leaving rest)) refl)
