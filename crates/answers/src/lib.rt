@@ -6,7 +6,7 @@ ghost use Rattle.record.specs.Told.{offeredTold};
 ghost use Rattle.attributes.specs.Told.{composedTold};
 ghost use Rattle.standing.specs.declared.Standing.the-variants.{Filled};
 ghost use Rattle.standing.specs.Told.{standingTold};
-ghost use Rattle.face.specs.Face.{answerOf, Says, putsIf};
+ghost use Rattle.face.specs.Face.{answerOf, valued, Says, putsIf};
 ghost use Rattle.answers.specs.Answers.{wordOf};
 use attributes::Composed;
 use pack::Packed;
@@ -56,13 +56,13 @@ pub fn composed_as(composed: Composed) -> u64
     }
 }
 
-// What offering answers: 1 as the value where the slot held the payload already.
+// What offering answers: as the value twice the bytes mended, and 1 more where the slot held the payload already.
 pub fn offered_as(offered: Offered) -> u64
     ensures { λ n. ⌜ n ≡ answerOf (offeredTold offered) ⌝ }
 {
     match offered {
-        Offered::Stored => 0,
-        Offered::Repeat => 256,
+        Offered::Stored(mended) => 256 * (2 * mended as u64),
+        Offered::Repeat(mended) => 256 * (2 * mended as u64 + 1),
         Offered::Refused(r) => refused(r),
     }
 }
@@ -95,4 +95,14 @@ pub fn put_if(verdict: Verdict, bytes: &[u8], out: &mut [u8]) -> u64
         Verdict::Accepted => face::put(bytes, out),
         Verdict::Refused(r) => refused(r),
     }
+}
+
+// A value for an answer that is accepted without one; a refusal stays.
+pub fn with_value(answer: u64, value: u32) -> u64
+    ensures { λ r. ⌜ r ≡ valued value answer ⌝ }
+{
+    if answer == 0 {
+        return 256 * value as u64;
+    }
+    answer
 }

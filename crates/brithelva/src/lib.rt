@@ -36,14 +36,15 @@ pub extern "C" fn bh_encode_row(info: &[u8], checks: &mut [u8]) -> u64
     answers::put_if(verdict, &made.checks, checks)
 }
 
-// The row of 255 bytes as repaired, at the start of `fixed`.
+// The row of 255 bytes as repaired, at the start of `fixed`. The value is the number of bytes mended.
 #[no_mangle]
 pub extern "C" fn bh_repair_row(row: &[u8], fixed: &mut [u8]) -> u64
     ensures { λ r. ⌜ Says (repairSays (now (row .entry)) (now (fixed .entry))) r (now (fixed .exit)) ⌝ }
 {
     let mended = single::repair_row(row);
     let verdict = mended.verdict;
-    answers::put_if(verdict, &mended.row, fixed)
+    let answer = answers::put_if(verdict, &mended.row, fixed);
+    answers::with_value(answer, mended.count)
 }
 
 // The fields of a packet as nine numbers, at the start of `fields`.

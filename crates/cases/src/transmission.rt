@@ -35,7 +35,8 @@ fn offer_noise(held: &[u8], store: &mut [u8], packet: &mut [u8], noise: u64, see
     offer_generated(held, store, &mut generated, seed);
 }
 
-// One turn: packs the packet, offers noise, and offers the packet damaged. The value of the answer is 1 if it was stored.
+// One turn: packs the packet, offers noise, and offers the packet damaged. The value of the answer is 1 if it was stored: an offer's
+// answer is then a multiple of 512, whatever was mended.
 fn take_turn(
     line: &[u8],
     file: &[u8],
@@ -64,7 +65,7 @@ fn take_turn(
     let packet = &mut room[..n];
     offer_noise(held, store, packet, words::number(line, 5), seed);
     generator::damage(packet, words::number(line, 4), seed);
-    if brithelva::bh_offer(held, store, packet) == 0 {
+    if brithelva::bh_offer(held, store, packet) % 512 == 0 {
         256
     } else {
         0

@@ -3,7 +3,7 @@
 use mathlib.Core.Path.{_≡_, refl, ap, _∙_}
 use mathlib.Core.Bool.{Bool, true, false, cond, not}
 use mathlib.Core.List.{List, _++_}
-use Prim.Native.Nat.{ℕ}
+use Prim.Native.Nat.{ℕ, _+_, _*_}
 use native.Mathlib.Omega.{arith}
 use borrow.Author.Tests.{eqb-true}
 use lib.Dec.{eqb, ltb}
@@ -38,7 +38,7 @@ use Rattle.record.proofs.OfferLaws.{offer-refused}
 use Rattle.handing.proofs.HandLaws.{hand-refused}
 use Rattle.code.specs.Code.{Bytes}
 use Rattle.face.specs.Layout.{recordIn, recordBytes}
-use Rattle.face.specs.Face.{Said, Kept, answerOf, badRecord, puts, putsIf, encodeSays, repairSays, readSays, packSays, openSays, closeSays, offerSays, handSays}
+use Rattle.face.specs.Face.{Said, Kept, answerOf, badRecord, puts, putsIf, valued, encodeSays, repairSays, readSays, packSays, openSays, closeSays, offerSays, handSays}
 use Rattle.face.specs.Statements.{numberIn, OutputKept, RecordKept, RefusalsChangeNothing}
 use Rattle.face.proofs.LayoutLaws.{bytes-again}
 
@@ -76,13 +76,23 @@ put-if-kept t b out = by (eqb (t .number) 0)
     by true d = put-kept b out d
     by false d = refl
 
+-- a value refuses nothing
+valued-kept : (v : ℕ) (p : Said) (out : List ℕ) → SaidKept p out → SaidKept (record { answer = valued v (p .answer); output = p .output }) out
+unfolding valued
+valued-kept v p out k = by (eqb (p .answer) 0)
+  where
+    by : (t : Bool) → (numberIn (cond t (0 + 256 * v) (p .answer)) ≡ 0 → ⊥) → p .output ≡ out
+    by true d = absurd (d (omega arith))
+    by false d = k d
+
 pub encode-refused-keeps : (info out : List ℕ) → SaidKept (encodeSays info out) out
 unfolding encodeSays
 encode-refused-keeps info out = put-if-kept (verdictTold (encodeOf info .verdict)) (encodeOf info .checks) out
 
 pub repair-refused-keeps : (row out : List ℕ) → SaidKept (repairSays row out) out
 unfolding repairSays
-repair-refused-keeps row out = put-if-kept (verdictTold (repairRowOf row .verdict)) (repairRowOf row .row) out
+repair-refused-keeps row out = valued-kept (repairRowOf row .count) (putsIf (verdictTold (repairRowOf row .verdict)) (repairRowOf row .row) out) out
+    (put-if-kept (verdictTold (repairRowOf row .verdict)) (repairRowOf row .row) out)
 
 pub read-refused-keeps : (q out : List ℕ) → SaidKept (readSays q out) out
 unfolding readSays
@@ -142,8 +152,8 @@ offer-refused-keeps h s q = by (eqb (length h) 128) (offerOf (recordIn h) s q .a
     by : (t : Bool) (a : Offered) → offerOf (recordIn h) s q .answer ≡ a
         → AllKept (cond t (record { answer = answerOf (offeredTold a); held = h; store = offerOf (recordIn h) s q .store }) (record { answer = badRecord; held = h; store = s })) h s
     by false a e d = (refl, refl)
-    by true Stored e d = absurd (d refl)
-    by true Repeat e d = absurd (d refl)
+    by true (Stored m) e d = absurd (d (omega arith))
+    by true (Repeat m) e d = absurd (d (omega arith))
     by true (Offered.Refused r) e d = (refl, offer-refused (recordIn h) s q r e)
 
 pub hand-refused-keeps : (h s : List ℕ) (x : Name) (n : ℕ) (out : List ℕ) → SaidKept (handSays h s x n out) out

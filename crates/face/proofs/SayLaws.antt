@@ -1,10 +1,11 @@
 -- What a function of the face says, from what the call that it stands for says: rows and fields.
 -- Assumes nothing.
-use mathlib.Core.Path.{_≡_, sym, ap, _∙_}
+use mathlib.Core.Path.{_≡_, refl, sym, ap, _∙_}
 use mathlib.Core.Bool.{true, false}
 use mathlib.Core.List.{List}
-use Prim.Native.Nat.{ℕ, _<_, _≤_}
-use borrow.Author.Tests.{lt-ltb, le-ltb, ne-eqb}
+use Prim.Native.Nat.{ℕ, _*_, _<_, _≤_}
+use native.Mathlib.Omega.{arith}
+use borrow.Author.Tests.{lt-ltb, le-ltb, eq-eqb, ne-eqb}
 use lib.ListN.{length}
 use lib.Dec.{eqb, ltb}
 use lib.Seq.{sets}
@@ -25,7 +26,7 @@ use Rattle.packet.specs.Packet.{readOf}
 use Rattle.refusals.specs.Told.{refusedAs, verdictTold}
 use Rattle.refusals.proofs.Told.{number-not-0}
 use Rattle.packet.specs.Told.{fieldList}
-use Rattle.face.specs.Face.{Said, Says, answerOf, puts, putsIf, encodeSays, repairSays, readingSays, readSays}
+use Rattle.face.specs.Face.{Said, Says, answerOf, puts, putsIf, valued, encodeSays, repairSays, readingSays, readSays}
 
 -- the same said in another way
 pub says-as : {p q : Said} {r : ℕ} {out : List ℕ} → p ≡ q → Says p r out → Says q r out
@@ -58,9 +59,21 @@ pub encode-says : (info out : List ℕ) (r : ℕ) (x : List ℕ) (made : Encoded
 unfolding encodeSays
 encode-says info out r x made e s = says-as (ap (λ (m : Encoded). putsIf (verdictTold (m .verdict)) (m .checks) out) e) s
 
-pub repair-says : (row out : List ℕ) (r : ℕ) (x : List ℕ) (made : Mended) → made ≡ repairRowOf row → Says (putsIf (verdictTold (made .verdict)) (made .row) out) r x → Says (repairSays row out) r x
+pub repair-says : (row out : List ℕ) (a r : ℕ) (x : List ℕ) (made : Mended) → made ≡ repairRowOf row → Says (putsIf (verdictTold (made .verdict)) (made .row) out) a x
+    → r ≡ valued (made .count) a → Says (repairSays row out) r x
 unfolding repairSays
-repair-says row out r x made e s = says-as (ap (λ (m : Mended). putsIf (verdictTold (m .verdict)) (m .row) out) e) s
+repair-says row out a r x made e s v =
+    says-as (ap (λ (m : Mended). record { answer = valued (m .count) (putsIf (verdictTold (m .verdict)) (m .row) out .answer); output = putsIf (verdictTold (m .verdict)) (m .row) out .output }) e)
+    (record { answers = v ∙ ap (valued (made .count)) (s .answers); leaves = s .leaves })
+
+-- an answer with a value, and one that is a refusal already
+pub valued-accepted : (v a : ℕ) → a ≡ 0 → valued v a ≡ 256 * v
+unfolding valued
+valued-accepted v a e = rw (eq-eqb a 0 e) (omega arith)
+
+pub valued-refused : (v a : ℕ) → (a ≡ 0 → ⊥) → valued v a ≡ a
+unfolding valued
+valued-refused v a e = rw (ne-eqb a 0 e) refl
 
 module _ (q out : List ℕ) (r : ℕ) where
   pub read-sent : (x : List ℕ) (f : Packet) → readOf q ≡ Sent f → Says (puts (fieldList f) out) r x → Says (readSays q out) r x

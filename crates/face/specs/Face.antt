@@ -1,4 +1,4 @@
--- What each function of the C face answers and leaves: the call it stands for, and what that call tells (document 01, sections 5 and 6) as one number.
+-- What each function of the C face answers and leaves: the call it stands for, and what that call tells (document 01, sections 5 and 6; document 02, R-7) as one number.
 -- A record of another length than 128 bytes is refused 9. Assumes nothing.
 use mathlib.Core.Path.{_≡_}
 use mathlib.Core.Bool.{cond}
@@ -56,13 +56,20 @@ puts b out =
 unfoldable pub putsIf : Told → List ℕ → List ℕ → Said
 putsIf t b out = cond (eqb (t .number) 0) (puts b out) (record { answer = answerOf t; output = out })
 
--- ---- rows: 1, 26 and 1, 13, 26
+-- an answer, to which a value is given where it is 0, accepted without one
+unfoldable pub valued : ℕ → ℕ → ℕ
+valued v a = cond (eqb a 0) (answerOf (acceptedWith (v ∷ []))) a
+
+-- ---- rows: 1, 26 and 1, 13, 26; the value of a repair is the number of bytes mended
 
 unfoldable pub encodeSays : List ℕ → List ℕ → Said
 encodeSays info out = putsIf (verdictTold (encodeOf info .verdict)) (encodeOf info .checks) out
 
 unfoldable pub repairSays : List ℕ → List ℕ → Said
-repairSays row out = putsIf (verdictTold (repairRowOf row .verdict)) (repairRowOf row .row) out
+repairSays row out = record {
+  answer = valued (repairRowOf row .count) (putsIf (verdictTold (repairRowOf row .verdict)) (repairRowOf row .row) out .answer);
+  output = putsIf (verdictTold (repairRowOf row .verdict)) (repairRowOf row .row) out .output;
+}
 
 -- ---- fields: 1 to 8, 26; the values that reading tells are put, nine numbers in the table's order
 
@@ -113,7 +120,7 @@ closeSays h s x =
     })
     (record { answer = badRecord; held = h; store = s })
 
--- the value is 0 for Stored and 1 for Repeat
+-- the value is twice the bytes mended, and 1 more for Repeat
 unfoldable pub offerSays : List ℕ → List ℕ → List ℕ → Kept
 offerSays h s q =
     cond (eqb (length h) 128)

@@ -141,13 +141,13 @@ module _ (g : Settings) (file : List ℕ) (p : Protected g file) (i start : ℕ)
     found-there : placeNamed (x .held .places) (packetName f) ≡ At i
     found-there = ap (placeNamed (x .held .places)) of ∙ c .named
 
-    module _ (n : ℕ) (brings : judge own f q ≡ put n (payloadOf g file n)) where
+    module _ (n m : ℕ) (brings : judge own f q ≡ put n (payloadOf g file n) m) where
       placed : Placed own f n (payloadOf g file n)
       placed =
           subst (Sound own f) brings
           (subst (λ (o : Place). Sound o f (judge o f q)) (c .place) (offer-sound (x .held) (x .store) q (c .sound) f read i found-there))
 
-      after : contents own (offerOf (x .held) (x .store) q .store) ≡ heldAfter (put n (payloadOf g file n)) (contents own (x .store))
+      after : contents own (offerOf (x .held) (x .store) q .store) ≡ heldAfter (put n (payloadOf g file n) m) (contents own (x .store))
       after =
           subst (λ (o : Place). contents o (offerOf (x .held) (x .store) q .store) ≡ heldAfter (judge o f q) (contents o (x .store))) (c .place)
           (offer-holds (x .held) (x .store) q (c .sound) f read i found-there)
@@ -158,19 +158,19 @@ module _ (g : Settings) (file : List ℕ) (p : Protected g file) (i start : ℕ)
       unfolding step
       fills =
           ap (λ (l : List Content). getD l n wrong) after
-          ∙ held-after (contents own (x .store)) n (payloadOf g file n) (omega (arith, length-contents own (x .store), placed .below)) (c .slots n (placed .below))
+          ∙ held-after (contents own (x .store)) n (payloadOf g file n) m (omega (arith, length-contents own (x .store), placed .below)) (c .slots n (placed .below))
 
       -- every other slot is as it was
       leaves : (k : ℕ) → (k ≡ n → ⊥) → slot-in k (step (offering q) x .state) ≡ slot-in k x
       unfolding step
       leaves k d =
           ap (λ (l : List Content). getD l k wrong) after
-          ∙ slots-kept own f (x .store) (put n (payloadOf g file n)) placed (contents own (x .store)) k (λ z. d (z ∙ sym (placed .number)))
+          ∙ slots-kept own f (x .store) (put n (payloadOf g file n) m) placed (contents own (x .store)) k (λ z. d (z ∙ sym (placed .number)))
 
       brought-go : GoesOn x (step (offering q) x .state)
       unfolding step
       brought-go =
-          let there : (k : ℕ) → k ≡ n → Has k (step (offering q) x .state) = λ k z. subst (λ (m : ℕ). Has m (step (offering q) x .state)) (sym z) fills in
+          let there : (k : ℕ) → k ≡ n → Has k (step (offering q) x .state) = λ k z. subst (λ (j : ℕ). Has j (step (offering q) x .state)) (sym z) fills in
           record {
             collecting = record {
               sound = step-good (offering q) x (c .sound);
@@ -186,16 +186,16 @@ module _ (g : Settings) (file : List ℕ) (p : Protected g file) (i start : ℕ)
     judged-go none (refuse-packet r) e =
         unmoved-go q x c (ap (λ (o : Offering). o .store) (offer-placed (x .held) (x .store) q (c .sound) f read i found-there
         ∙ ap (offerJudged (getD (x .held .places) i unused) (x .store)) (ap (λ (o : Place). judge o f q) (c .place) ∙ e)))
-    judged-go none (put n b) e =
-        let same : b ≡ payloadOf g file n = cc (none f read n b (judge-start f q ∙ e)) in
-        brought-go n (e ∙ ap (put n) same)
+    judged-go none (put n b m) e =
+        let same : b ≡ payloadOf g file n = cc (none f read n b m (judge-start f q ∙ e)) in
+        brought-go n m (e ∙ ap (λ (l : List ℕ). put n l m) same)
 
   pub copy-go : (n : ℕ) (below : n < countOf g (length file)) (q : List ℕ) → Copy g file n q → (x : State) → Collecting x
       → GoesOn x (step (offering q) x .state) × Has n (step (offering q) x .state)
   copy-go n below q cp x c =
       let reads = copy-reads g file p n below q cp in
       let judged = copy-judged g file p n below q cp start in
-      (brought-go x c q (fieldsOf g file n) reads refl n judged, fills x c q (fieldsOf g file n) reads refl n judged)
+      (brought-go x c q (fieldsOf g file n) reads refl n _ judged, fills x c q (fieldsOf g file n) reads refl n _ judged)
 
   -- ---- any other offer
 
@@ -223,7 +223,7 @@ module _ (g : Settings) (file : List ℕ) (p : Protected g file) (i start : ℕ)
   fair-go c (Fair.hands r n out) x k = stays x k
   fair-go c (Fair.closes r d) x k = unnamed-go (closing r) x k (other-name r (settingsName g) d)
 
-  fair-run : {cs : List Call} → AllFair g file cs → (x : State) → Collecting x → GoesOn x (run step cs x .state)
+  pub fair-run : {cs : List Call} → AllFair g file cs → (x : State) → Collecting x → GoesOn x (run step cs x .state)
   fair-run AllFair.ended x k = stays x k
   fair-run (AllFair.next {c} {cs} f fs) x k =
       let a = fair-go c f x k in
@@ -286,17 +286,23 @@ pub record Collected (g : Settings) (file : List ℕ) (p : Protected g file) (x 
   pub collecting : Collecting g file p place start x
   pub all : (k : ℕ) → k < countOf g (length file) → Has g file p place start k x
 
+-- where open is accepted, a place and a start at which the file is collected from then on
+pub begun : (g : Settings) (file : List ℕ) (p : Protected g file) (x : State) → step (opening g (countOf g (length file))) x .answer .told .number ≡ 0
+    → (i : ℕ) × (start : ℕ) × Collecting g file p i start (step (opening g (countOf g (length file))) x .state)
+unfolding step
+begun g file p x answer =
+    let t = accepted-plan (x .held) (x .store) g (countOf g (length file)) (verdict-accepted (openOf (x .held) (x .store) g (countOf g (length file)) .kept .verdict) answer) in
+    (t .0, t .1, opened-collecting g file p x (t .0) (t .1) (t .2))
+
 pub collected : (g : Settings) (file : List ℕ) (p : Protected g file) (x : State) → step (opening g (countOf g (length file))) x .answer .told .number ≡ 0
     → (cs : List Call) → Carries g file cs → Collected g file p (run step cs (step (opening g (countOf g (length file))) x .state) .state)
-unfolding step
 collected g file p x answer cs carried =
-    let t = accepted-plan (x .held) (x .store) g (countOf g (length file)) (verdict-accepted (openOf (x .held) (x .store) g (countOf g (length file)) .kept .verdict) answer) in
-    let begun : Collecting g file p (t .0) (t .1) (step (opening g (countOf g (length file))) x .state) = opened-collecting g file p x (t .0) (t .1) (t .2) in
+    let b = begun g file p x answer in
     record {
-      place = t .0;
-      start = t .1;
-      collecting = fair-run g file p (t .0) (t .1) (carried .fair) _ begun .collecting;
-      all = λ k l. offered-run g file p (t .0) (t .1) k l (carried .every k l) (carried .fair) _ begun;
+      place = b .0;
+      start = b .1;
+      collecting = fair-run g file p (b .0) (b .1) (carried .fair) _ (b .2) .collecting;
+      all = λ k l. offered-run g file p (b .0) (b .1) k l (carried .every k l) (carried .fair) _ (b .2);
     }
 
 pub demand-3 : Demand3 step

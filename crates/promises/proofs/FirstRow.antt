@@ -1,16 +1,19 @@
 -- A program that repairs row 0 only breaks demand 3: a file of 478 zeros in one packet of two rows, one byte of row 1 altered. Either the CRC refuses and the slot stays
--- empty, or byte 239 of what is handed out is not the file's. Assumes nothing.
+-- empty, or byte 239 of what is handed out is not the file's. The same packet shows that a program has to tell what it mended. Assumes nothing.
 use mathlib.Core.Path.{_≡_, refl, sym, ap, ap₂, _∙_, subst}
+use mathlib.Core.Logic.{⊎-elim}
 use mathlib.Core.Bool.{Bool, true, false, cond}
 use mathlib.Core.List.{List, [], _∷_, _++_, flatten}
-use Prim.Native.Nat.{ℕ, zero, suc, _-_, _*_, _≤_, _<_}
+use Prim.Native.Nat.{ℕ, zero, suc, _+_, _-_, _*_, _/_, _%_, _≤_, _<_}
 use native.Mathlib.Omega.{arith}
+use borrow.Author.Tests.{eqb-false}
 use lib.ListN.{length, getD, take, drop, replicate, set, length-append, take-append-drop, length-take, length-drop, drop-of-length-le}
 use lib.Seq.{take-at, drop-at, drop-drop}
 use Rattle.ground.proofs.Listed.{listed-ext, joined-all}
 use Rattle.code.specs.Code.{Bytes, distance}
 use Rattle.code.specs.Repair.{checksOf}
 use Rattle.code.proofs.Cases.{row-cases}
+use Rattle.code.proofs.Distance.{distance-self}
 use Rattle.code.proofs.Lists.{zeros-bytes, append-bytes, bytes-parts}
 use Rattle.settings.specs.declared.Settings.{Settings}
 use Rattle.settings.specs.Settings.{settingsFit}
@@ -31,19 +34,19 @@ use Rattle.contents.specs.Slots.{stored}
 use Rattle.handing.specs.Hand.{Handing, handRows, handJoined, handContents, handOutOf}
 use Rattle.refusals.specs.declared.Verdict.{Verdict}
 use Rattle.refusals.specs.Told.{acceptedWith, verdictTold}
-use Rattle.code.specs.Mend.{whole, behind}
+use Rattle.code.specs.Mend.{whole, behind, alteredIn}
 use Rattle.opening.specs.Open.{take as take-plan, Opening, openOf}
 use Rattle.opening.proofs.PlanLaws.{Taking, taking-plan, open-by}
 use Rattle.opening.proofs.OpenLaws.{open-empty}
-use Rattle.promises.specs.Calls.{Answer, fresh, step}
-use Rattle.promises.specs.Calls.Call.{offering}
-use Rattle.promises.specs.Statements.{Protected, Copy, rowIn, Fair, AllFair, Offers, Carries, HandsOut, Demand3, FromFresh}
+use Rattle.promises.specs.Calls.{Answer, telling, State, fresh, step}
+use Rattle.promises.specs.Calls.Call.{opening, offering}
+use Rattle.promises.specs.Statements.{Protected, Copy, rowIn, bytesAltered, Fair, AllFair, Offers, Carries, HandsOut, Demand3, FromFresh, GradedFromFresh}
 use Rattle.refusals.specs.declared.Refusal.the-variants.{Crc, Missing}
-use lib.Dec.{ltb}
+use lib.Dec.{eqb, ltb}
 use Rattle.pack.proofs.Laws.{fieldsOf}
 use Rattle.sealing.specs.Sealing.{agrees}
 use Rattle.record.specs.Offer.{Offering, storing, putInto, put, refuse, judgeMended, judgeBy, offerJudged, offerBy}
-use Rattle.promises.specs.Wrong.{firstRowOnly, mendingFirst}
+use Rattle.promises.specs.Wrong.{firstRowOnly, mendingFirst, hushed, silent}
 use Rattle.promises.proofs.Judged.{not-different, copy-reads}
 use Rattle.promises.proofs.Demand.{Collecting, opened-collecting}
 use Rattle.promises.proofs.Fresh.{takes, opens}
@@ -197,17 +200,17 @@ empty =
     ap (λ (o : Opening). contents (placeOf two 1 0) (o .store)) (open-by freshRecord room two 1 (take-plan 0 0) (taking-plan freshRecord (length room) two 1 0 0 opens-there))
     ∙ open-empty freshRecord room two 1 0 0 opens-there
 
-first-mended : firstRowOnly 1 altered ≡ whole body
+first-mended : firstRowOnly 1 altered ≡ whole body 0
 unfolding firstRowOnly
-first-mended = rw altered-payload (ap (λ (a : Repaired). behind a 0 (whole wrong-row)) (repair-coded zero-row zero-coded))
+first-mended = rw altered-payload (ap (λ (a : Repaired). behind zero-row a 0 (whole wrong-row 0)) (repair-coded zero-row zero-coded) ∙ ap (λ (m : ℕ). whole body (m + 0)) (distance-self zero-row))
 
-judged-first : judgeBy firstRowOnly (placeOf two 1 0) (fieldsOf two zeros 0) altered ≡ cond (agrees altered body) (put 0 body) (refuse Crc)
+judged-first : judgeBy firstRowOnly (placeOf two 1 0) (fieldsOf two zeros 0) altered ≡ cond (agrees altered body) (put 0 body 0) (refuse Crc)
 unfolding judgeBy
 judged-first =
     let narrow : ltb 510 (length (payloadIn altered)) ≡ false = ap (λ (l : List ℕ). ltb 510 (length l)) altered-payload in
     rw (not-different two zeros 0 0, narrow) (ap (judgeMended 0 altered) first-mended)
 
-offered-first : offerBy firstRowOnly held store altered ≡ offerJudged (placeOf two 1 0) store (cond (agrees altered body) (put 0 body) (refuse Crc))
+offered-first : offerBy firstRowOnly held store altered ≡ offerJudged (placeOf two 1 0) store (cond (agrees altered body) (put 0 body 0) (refuse Crc))
 unfolding offerBy
 offered-first = rw (begun .sound, copy-reads two zeros protected 0 (omega arith) altered copy, begun .named, begun .place) (ap (offerJudged (placeOf two 1 0) store) judged-first)
 
@@ -242,8 +245,8 @@ first-row-lost d = by (agrees altered body) refl
     by true e =
         let slot : slotOf (placeOf two 1 0) store 0 ≡ holding [] = sym (reading-slots (placeOf two 1 0) store 0 (omega arith)) ∙ ap (λ (c : List Content). getD c 0 wrong) empty in
         let after : offerBy firstRowOnly held store altered .store ≡ stored store (slotAt (placeOf two 1 0) 0) body =
-        ap (λ (o : Offering). o .store) (offered-first ∙ ap (λ (b : Bool). offerJudged (placeOf two 1 0) store (cond b (put 0 body) (refuse Crc))) e
-        ∙ ap (λ (c : Content). storing store (slotAt (placeOf two 1 0) 0) body (putInto c body)) slot) in
+        ap (λ (o : Offering). o .store) (offered-first ∙ ap (λ (b : Bool). offerJudged (placeOf two 1 0) store (cond b (put 0 body 0) (refuse Crc))) e
+        ∙ ap (λ (c : Content). storing store (slotAt (placeOf two 1 0) 0) body (putInto c body 0)) slot) in
         let ends : endOf (placeOf two 1 0) ≤ length store = subst (λ (p : Place). endOf p ≤ length store) (begun .place) (named-facts (length store) (held .places) (begun .sound) (settingsName two) 0 (begun .named) .ends-within) in
         let holds : contents (placeOf two 1 0) (stored store (slotAt (placeOf two 1 0) 0) body) ≡ holding body ∷ [] =
         storing-sets (placeOf two 1 0) store 0 body ends (omega arith) refl ∙ ap (λ (c : List Content). set c 0 (holding body)) empty in
@@ -253,7 +256,7 @@ first-row-lost d = by (agrees altered body) refl
         let z : _≡_ {A = ℕ} 1 0 = sym wrong-file ∙ ap (λ (h : Handing). getD (h .output) 239 0) (sym handed) ∙ ap (λ (a : Answer). getD (a .output) 239 0) told in
         omega arith
     by false e =
-        let kept : offerBy firstRowOnly held store altered .store ≡ store = ap (λ (o : Offering). o .store) (offered-first ∙ ap (λ (b : Bool). offerJudged (placeOf two 1 0) store (cond b (put 0 body) (refuse Crc))) e) in
+        let kept : offerBy firstRowOnly held store altered .store ≡ store = ap (λ (o : Offering). o .store) (offered-first ∙ ap (λ (b : Bool). offerJudged (placeOf two 1 0) store (cond b (put 0 body 0) (refuse Crc))) e) in
         let handed : handOutOf held (offerBy firstRowOnly held store altered .store) (settingsName two) 478 zeros ≡ record { answer = Verdict.Refused (Missing 0); output = zeros } =
         ap (λ (t : List ℕ). handOutOf held t (settingsName two) 478 zeros) kept ∙ handed-of store (holding []) refl empty zeros ∙ missing in
         let z : _≡_ {A = ℕ} 21 0 = ap (λ (h : Handing). verdictTold (h .answer) .number) (sym handed) ∙ ap (λ (a : Answer). a .told .number) told in
@@ -266,4 +269,28 @@ first-row-breaks-demand-3 d =
 
 pub first-row-breaks-from-fresh : FromFresh mendingFirst → ⊥
 unfolding mendingFirst step
-first-row-breaks-from-fresh d = first-row-lost (d two zeros protected room (omega arith) (omega arith) (offering altered ∷ []) carried .hands)
+first-row-breaks-from-fresh d = first-row-lost (d two zeros protected room (omega arith, omega arith) (offering altered ∷ []) carried .hands)
+
+-- ---- the same copy: of its rows one byte is altered, and a program that mends but does not tell breaks promise 18
+
+one-altered : bytesAltered altered (payloadOf two zeros 0) ≡ 1
+unfolding alteredIn distance
+one-altered = ap₂ (λ (x y : List ℕ). alteredIn (length x / 255) x y) altered-payload zeros-payload
+
+hushed-small : (a : Answer) (v : ℕ) → hushed a ≡ telling (acceptedWith (v ∷ [])) → v < 2
+hushed-small a v = by (eqb (a .told .number) 0) refl
+  where
+    by : (t : Bool) → eqb (a .told .number) 0 ≡ t → cond t (telling (acceptedWith ((getD (a .told .values) 0 0 % 2) ∷ []))) a ≡ telling (acceptedWith (v ∷ [])) → v < 2
+    by true z e =
+        let w : getD (a .told .values) 0 0 % 2 ≡ v = ap (λ (x : Answer). getD (x .told .values) 0 0) e in
+        omega arith
+    by false z e = absurd (eqb-false (a .told .number) 0 z (ap (λ (x : Answer). x .told .number) e))
+
+pub silent-turned : GradedFromFresh silent → ⊥
+unfolding silent
+silent-turned d =
+    let x : State = step (opening two 1) (fresh room) .state in
+    ⊎-elim
+    (λ e. omega (arith, hushed-small (step (offering altered) x .answer) _ e, one-altered))
+    (λ e. omega (arith, hushed-small (step (offering altered) x .answer) _ e, one-altered))
+    (d two zeros protected room (omega arith, omega arith) [] AllFair.ended 0 (omega arith) altered copy)

@@ -68,14 +68,14 @@ module _ (g : Settings) (file : List ℕ) (p : Protected g file) where
 
 pub from-fresh : FromFresh step
 unfolding step
-from-fresh g file p s fits most cs carried = record {
+from-fresh g file p s room cs carried = record {
   packs = packed;
-  opens = opens g file p s fits limit;
-  hands = demand-3 g file p (fresh s) (ap (λ (a : Answer). a .told .number) (opens g file p s fits limit)) cs carried;
+  opens = opens g file p s (room .0) limit;
+  hands = demand-3 g file p (fresh s) (ap (λ (a : Answer). a .told .number) (opens g file p s (room .0) limit)) cs carried;
 }
   where
     limit : roomOf g file ≤ 16777216
-    limit = omega (arith, most)
+    limit = omega (arith, room .1)
 
     answer : Packing → Answer
     answer k = record { told = packedTold (k .answer); output = k .output }

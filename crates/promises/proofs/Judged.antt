@@ -25,7 +25,7 @@ use Rattle.record.proofs.MendLaws.{Altered, Intact, read-copy}
 use Rattle.record.proofs.OfferFacts.{read-known, read-name, SameFile, same-serves}
 use Rattle.record.proofs.OfferLaws.{judge-copy}
 use Rattle.promises.specs.Calls.{names}
-use Rattle.promises.specs.Statements.{Protected, Copy}
+use Rattle.promises.specs.Statements.{bytesAltered, Protected, Copy}
 
 -- a packet's fields are those of the file's own place
 module _ (g : Settings) (file : List ℕ) (n start : ℕ) where
@@ -58,13 +58,13 @@ module _ (g : Settings) (file : List ℕ) (p : Protected g file) (n : ℕ) (belo
     pub copy-reads : readOf q ≡ Sent (fieldsOf g file n)
     copy-reads = read-copy q (packetOf g file n) altered ∙ packet-reads g file n (p .fit) (p .count) below
 
-    -- and judged to be the packet's payload, for slot n
-    pub copy-judged : (start : ℕ) → judge (placeOf g (countOf g (length file)) start) (fieldsOf g file n) q ≡ put n (payloadOf g file n)
+    -- and judged to be the packet's payload, for slot n, mended where it was altered
+    pub copy-judged : (start : ℕ) → judge (placeOf g (countOf g (length file)) start) (fieldsOf g file n) q ≡ put n (payloadOf g file n) (bytesAltered q (payloadOf g file n))
     copy-judged start =
         let body : payloadIn (packetOf g file n) ≡ payloadOf g file n = packet-payload g file n in
         judge-copy (placeOf g (countOf g (length file)) start) (fieldsOf g file n) q (packetOf g file n) altered packet-intact (own-fields g file n start)
         (λ z. omega (arith, p .protection)) (omega (arith, ap length body, payload-most g file (p .fit) n))
-        ∙ ap (put n) body
+        ∙ ap (λ (b : List ℕ). put n b (bytesAltered q b)) body
 
     pub copy-names : names (settingsName g) q ≡ true
     copy-names =
@@ -77,7 +77,7 @@ pub same-payload : (g : Settings) (a b : List ℕ) (pa : Protected g a) (pb : Pr
 same-payload g a b pa pb n m la lb q ca cb =
     let read : Sent (fieldsOf g a n) ≡ Sent (fieldsOf g b m) = sym (copy-reads g a pa n la q ca) ∙ copy-reads g b pb m lb q cb in
     let fields : fieldsOf g a n ≡ fieldsOf g b m = cc in
-    let judged : put n (payloadOf g a n) ≡ put m (payloadOf g b m) =
+    let judged : put n (payloadOf g a n) (bytesAltered q (payloadOf g a n)) ≡ put m (payloadOf g b m) (bytesAltered q (payloadOf g b m)) =
     sym (copy-judged g a pa n la q ca 0) ∙ ap (λ (f : Packet). judge (placeOf g (f .count) 0) f q) fields ∙ copy-judged g b pb m lb q cb 0 in
     let number : m ≡ n = cc in
     let payload : payloadOf g a n ≡ payloadOf g b m = cc in

@@ -8,6 +8,7 @@ pub mod Own
 pub mod Whole
 pub mod Demand
 pub mod Fresh
+pub mod Graded
 pub mod EachRow
 pub mod Slots
 pub mod Cases

@@ -3,14 +3,14 @@
 use mathlib.Core.Path.{_≡_, refl, sym, ap, _∙_}
 use mathlib.Core.Bool.{Bool, true, false, cond, true≢false}
 use mathlib.Core.List.{List, [], _∷_, _++_, flatten}
-use Prim.Native.Nat.{ℕ}
+use Prim.Native.Nat.{ℕ, _+_}
 use native.Mathlib.Omega.{arith}
 use lib.ListN.{length, getD, replicate}
 use Rattle.refusals.specs.declared.Verdict.the-variants.{Accepted}
 use Rattle.ground.specs.Bits.{sum}
 use Rattle.field.specs.Field.{product, carryless, reduce}
 use Rattle.crc.specs.Crc.{bit, bits, feed, crc, crc32Of}
-use Rattle.code.specs.Code.{add, scale}
+use Rattle.code.specs.Code.{add, scale, distance}
 use Rattle.code.specs.Search.{Repaired, lower, remainder}
 use Rattle.code.specs.Repair.{checksOf}
 use Rattle.code.proofs.Exact.{repair-found}
@@ -59,15 +59,15 @@ fits-before : agreesBefore (under wrong-row) ≡ true
 unfolding agreesBefore agrees crc feed bits bit sum
 fits-before = refl
 
-mended-all-the-same : mendedIn 1 (under wrong-row) ≡ whole (zero-row ++ [])
+mended-all-the-same : mendedIn 1 (under wrong-row) ≡ whole (zero-row ++ []) (distance wrong-row zero-row + 0)
 unfolding mendedIn mendRows
-mended-all-the-same = ap (λ (a : Repaired). behind a 0 (whole [])) (repair-found wrong-row zero-row refl wrong-bytes wrong-near)
+mended-all-the-same = ap (λ (a : Repaired). behind wrong-row a 0 (whole [] 0)) (repair-found wrong-row zero-row refl wrong-bytes wrong-near)
 
 pub not-kept : keptIfFits (under wrong-row) ≡ mendedIn 1 (under wrong-row) → ⊥
 unfolding keptIfFits
 not-kept e =
-    let f : whole wrong-row ≡ whole (zero-row ++ []) =
-    sym (ap (λ (t : Bool). cond t (whole wrong-row) (mendedIn 1 (under wrong-row))) fits-before) ∙ e ∙ mended-all-the-same in
+    let f : whole wrong-row 0 ≡ whole (zero-row ++ []) (distance wrong-row zero-row + 0) =
+    sym (ap (λ (t : Bool). cond t (whole wrong-row 0) (mendedIn 1 (under wrong-row))) fits-before) ∙ e ∙ mended-all-the-same in
     let g : wrong-row ≡ zero-row ++ [] = cc in
     let z : _≡_ {A = ℕ} 1 0 = ap (λ (l : List ℕ). getD l 0 0) g in
     omega arith

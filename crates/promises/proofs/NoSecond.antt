@@ -41,7 +41,7 @@ module _ (g : Settings) (a b : List ℕ) (pa : Protected g a) (pb : Protected g 
       differ (sym (copy-names g a pa n l q ca) ∙ subst (λ (x : List ℕ). names (settingsName g) x ≡ false) s none)
   served n l q ca c e (Fair.noise q′ only) =
       let s : q′ ≡ q = cc in
-      cc (subst (BringsNoOther g b) s only (fieldsOf g a n) (copy-reads g a pa n l q ca) n (payloadOf g a n)
+      cc (subst (BringsNoOther g b) s only (fieldsOf g a n) (copy-reads g a pa n l q ca) n (payloadOf g a n) _
       (ap (λ (k : ℕ). judge (placeOf g k 0) (fieldsOf g a n) q) (sym same-count) ∙ copy-judged g a pa n l q ca 0))
   served n l q ca c e (Fair.packs x s k out) = let z : _≡_ {A = ℕ} 0 1 = cc in absurd (omega arith)
   served n l q ca c e (Fair.opens s k) = let z : _≡_ {A = ℕ} 0 1 = cc in absurd (omega arith)

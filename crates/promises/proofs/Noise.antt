@@ -17,12 +17,12 @@ use Rattle.promises.specs.Statements.{BringsNoOther}
 
 module _ (g : Settings) (file q : List ℕ) (r : Refusal) where
   pub unread-is-noise : readOf q ≡ Refused r → BringsNoOther g file q
-  unread-is-noise e f s n b j = let z : Refused r ≡ Sent f = sym e ∙ s in let y : _≡_ {A = ℕ} 0 1 = cc in absurd (omega arith)
+  unread-is-noise e f s n b m j = let z : Refused r ≡ Sent f = sym e ∙ s in let y : _≡_ {A = ℕ} 0 1 = cc in absurd (omega arith)
 
   pub refused-is-noise : (f : Packet) → readOf q ≡ Sent f → judge (placeOf g (countOf g (length file)) 0) f q ≡ refuse r → BringsNoOther g file q
-  refused-is-noise f s e k t n b j =
+  refused-is-noise f s e k t n b m j =
       let z : Sent f ≡ Sent k = sym s ∙ t in
       let same : f ≡ k = cc in
-      let y : refuse r ≡ put n b = sym e ∙ ap (λ (x : Packet). judge (placeOf g (countOf g (length file)) 0) x q) same ∙ j in
+      let y : refuse r ≡ put n b m = sym e ∙ ap (λ (x : Packet). judge (placeOf g (countOf g (length file)) 0) x q) same ∙ j in
       let w : _≡_ {A = ℕ} 0 1 = cc in
       absurd (omega arith)

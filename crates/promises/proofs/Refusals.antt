@@ -57,7 +57,7 @@ hand-keeps h s r n out = by (handOutOf h s r n out .answer) refl
 -- ---- offer: the store
 
 offer-keeps : (h : Record) (s q : List ℕ) → Turned (offeredTold (offerOf h s q .answer)) → offerOf h s q .store ≡ s
-offer-keeps h s q d = offer-unstored h s q (λ z. d (ap (λ (a : Offered). offeredTold a .number) z))
+offer-keeps h s q d = offer-unstored h s q (λ m z. d (ap (λ (a : Offered). offeredTold a .number) z))
 
 -- ---- open and close: the record and the store
 

@@ -33,7 +33,7 @@ use Rattle.record.specs.Told.{offeredTold}
 use Rattle.record.proofs.OfferCases.{offer-placed}
 use Rattle.promises.specs.Calls.{State, Outcome, step, telling}
 use Rattle.promises.specs.Calls.Call.{offering}
-use Rattle.promises.specs.Statements.{Protected, Copy, placeAt, slotIn, Carried, Accepts, OffersBySlots, RefusalsChangeNothing}
+use Rattle.promises.specs.Statements.{bytesAltered, Protected, Copy, placeAt, slotIn, Carried, Accepts, OffersBySlots, RefusalsChangeNothing}
 use Rattle.promises.specs.Misreadings.{putAt, putFound, putRead, replacing}
 use Rattle.promises.proofs.Judged.{copy-reads, copy-judged}
 use Rattle.promises.proofs.Own.{whole-copy}
@@ -59,9 +59,9 @@ payloads-differ e =
     omega arith
 
 -- a slot that holds another payload
-conflict : (a b : List ℕ) → 0 < length a → (a ≡ b → ⊥) → putInto (holding a) b ≡ Refused Conflict
-conflict [] b l d = absurd (omega arith)
-conflict (y ∷ a) b l d = rw (same-differs (y ∷ a) b d)
+conflict : (a b : List ℕ) (m : ℕ) → 0 < length a → (a ≡ b → ⊥) → putInto (holding a) b m ≡ Refused Conflict
+conflict [] b m l d = absurd (omega arith)
+conflict (y ∷ a) b m l d = rw (same-differs (y ∷ a) b d)
 
 -- ---- 7 is there, and 8 comes
 
@@ -89,7 +89,7 @@ later-copy = whole-copy one other protected-other 0 (omega arith)
 later-reads : readOf later ≡ Sent (fieldsOf one other 0)
 later-reads = copy-reads one other protected-other 0 (omega arith) later later-copy
 
-later-judged : judge (placeAt full 0) (fieldsOf one other 0) later ≡ put 0 (payloadOf one other 0)
+later-judged : judge (placeAt full 0) (fieldsOf one other 0) later ≡ put 0 (payloadOf one other 0) (bytesAltered later (payloadOf one other 0))
 later-judged =
     ap (λ (p : Place). judge p (fieldsOf one other 0) later) (there .place) ∙ copy-judged one other protected-other 0 (omega arith) later later-copy 0
 
@@ -97,10 +97,10 @@ said-conflict : offerOf (full .held) (full .store) later .answer ≡ Refused Con
 said-conflict =
     ap (λ (o : Offering). o .answer) (offer-placed (full .held) (full .store) later (there .sound) (fieldsOf one other 0) later-reads 0 (there .named)
     ∙ ap (offerJudged (placeAt full 0) (full .store)) later-judged
-    ∙ ap (λ (p : Place). offerJudged p (full .store) (put 0 (payloadOf one other 0))) (there .place)
-    ∙ ap (λ (c : Content). storing (full .store) (slotAt own 0) (payloadOf one other 0) (putInto c (payloadOf one other 0))) slot-full
+    ∙ ap (λ (p : Place). offerJudged p (full .store) (put 0 (payloadOf one other 0) (bytesAltered later (payloadOf one other 0)))) (there .place)
+    ∙ ap (λ (c : Content). storing (full .store) (slotAt own 0) (payloadOf one other 0) (putInto c (payloadOf one other 0) (bytesAltered later (payloadOf one other 0)))) slot-full
     ∙ ap (storing (full .store) (slotAt own 0) (payloadOf one other 0))
-    (conflict (payloadOf one byte 0) (payloadOf one other 0) (payload-some one byte (protected .fit) 0 (omega arith)) payloads-differ))
+    (conflict (payloadOf one byte 0) (payloadOf one other 0) _ (payload-some one byte (protected .fit) 0 (omega arith)) payloads-differ))
 
 number-16 : step (offering later) full .answer .told .number ≡ 16
 unfolding step
@@ -140,8 +140,8 @@ changed e =
     payloads-differ cc
 
 -- the slot that it names was not empty
-not-empty : (i n : ℕ) (b : List ℕ) → Carried full later i n b → slotIn full i n ≡ holding [] → ⊥
-not-empty i n b c e =
+not-empty : (i n : ℕ) (b : List ℕ) (m : ℕ) → Carried full later i n b m → slotIn full i n ≡ holding [] → ⊥
+not-empty i n b m c e =
     let read : Sent (c .fields) ≡ Sent (fieldsOf one other 0) = sym (c .read) ∙ later-reads in
     let fields : c .fields ≡ fieldsOf one other 0 = cc in
     let at : At i ≡ At 0 = sym (held-found full (packetName (c .fields)) i (c .held)) ∙ ap (λ (f : Packet). placeNamed (full .held .places) (packetName f)) fields ∙ there .named in
@@ -153,8 +153,8 @@ not-empty i n b c e =
     omega (arith, ap length empty, payload-some one byte (protected .fit) 0 (omega arith))
 
 accepted : (y : State) {v : List ℕ} → y .store ≡ replaced → Accepts full later y v → ⊥
-accepted y e (Accepts.stored i n b c empty now others) = not-empty i n b c empty
-accepted y e (Accepts.again i n b c held same) = changed (sym e ∙ ap (λ (x : State). x .store) same)
+accepted y e (Accepts.stored i n b m c empty now others) = not-empty i n b m c empty
+accepted y e (Accepts.again i n b m c held same) = changed (sym e ∙ ap (λ (x : State). x .store) same)
 
 pub replacing-turned : (a : Told) → OffersBySlots (replacing a) → RefusalsChangeNothing (replacing a) → ⊥
 replacing-turned a offers refusals = ⊎-elim taken turned (same-or-not (a .number) 0)

@@ -1,6 +1,6 @@
 -- Status and offers by the slots: the status of an open place is what its slots say; an offer that is accepted found its slot empty, and the slot then holds the payload, or
 -- found the payload there; no other slot changes. Assumes nothing.
-use mathlib.Core.Path.{_≡_, refl, sym, ap, _∙_}
+use mathlib.Core.Path.{_≡_, refl, sym, ap, ap₂, _∙_}
 use mathlib.Core.Logic.{⊎-elim}
 use mathlib.Core.Bool.{Bool, true, false, cond}
 use mathlib.Core.List.{List, [], _∷_}
@@ -47,7 +47,7 @@ use Rattle.standing.specs.Status.{standingIn, statusOf}
 use Rattle.standing.specs.Told.{standingTold}
 use Rattle.standing.proofs.StatusLaws.{status-found}
 use Rattle.promises.specs.Calls.{State, step, telling}
-use Rattle.promises.specs.Statements.{RowsNear, placeAt, slotIn, Held, lowestValues, slotsTold, StatusBySlots, Carried, OthersStay, Accepts, OffersBySlots}
+use Rattle.promises.specs.Statements.{RowsNear, bytesAltered, placeAt, slotIn, Held, lowestValues, slotsTold, StatusBySlots, Carried, OthersStay, Accepts, OffersBySlots}
 use Rattle.promises.proofs.EachRow.{rows-near}
 
 -- ---- the place that holds a resource and type
@@ -88,38 +88,41 @@ status-by-slots x r i h =
 
 -- ---- a packet that puts a payload
 
-record Puts (p : Place) (f : Packet) (q b : List ℕ) : Type 0 where
+record Puts (p : Place) (f : Packet) (q b : List ℕ) (m : ℕ) : Type 0 where
   serves : differs p f ≡ false
-  mended : mendedIn (f .protection) q ≡ whole b
+  mended : mendedIn (f .protection) q ≡ whole b m
   crc : agrees q b ≡ true
 
-module _ (p : Place) (f : Packet) (q : List ℕ) (k : ℕ) (b : List ℕ) where
-  puts-agreed : differs p f ≡ false → (c : List ℕ) → mendedIn (f .protection) q ≡ whole c → (t : Bool) → agrees q c ≡ t → cond t (put (f .number) c) (refuse Crc) ≡ put k b → Puts p f q b
-  puts-agreed d c e true a z = let w : c ≡ b = cc in record { serves = d; mended = e ∙ ap whole w; crc = ap (agrees q) (sym w) ∙ a }
-  puts-agreed d c e false a z = let o : _≡_ {A = ℕ} 0 1 = cc in absurd (omega arith)
+module _ (p : Place) (f : Packet) (q : List ℕ) (k : ℕ) (b : List ℕ) (m : ℕ) where
+  puts-agreed : differs p f ≡ false → (c : List ℕ) (n : ℕ) → mendedIn (f .protection) q ≡ whole c n → (t : Bool) → agrees q c ≡ t → cond t (put (f .number) c n) (refuse Crc) ≡ put k b m → Puts p f q b m
+  puts-agreed d c n e true a z =
+      let w : c ≡ b = cc in
+      let v : n ≡ m = cc in
+      record { serves = d; mended = e ∙ ap₂ whole w v; crc = ap (agrees q) (sym w) ∙ a }
+  puts-agreed d c n e false a z = let o : _≡_ {A = ℕ} 0 1 = cc in absurd (omega arith)
 
-  puts-mended : differs p f ≡ false → (m : Mended) → mendedIn (f .protection) q ≡ m → judgeMended (f .number) q m ≡ put k b → Puts p f q b
+  puts-mended : differs p f ≡ false → (x : Mended) → mendedIn (f .protection) q ≡ x → judgeMended (f .number) q x ≡ put k b m → Puts p f q b m
   puts-mended d (broken i) e z = let o : _≡_ {A = ℕ} 0 1 = cc in absurd (omega arith)
-  puts-mended d (whole c) e z = puts-agreed d c e (agrees q c) refl z
+  puts-mended d (whole c n) e z = puts-agreed d c n e (agrees q c) refl z
 
-  puts-known : judge p f q ≡ put k b → Puts p f q b
+  puts-known : judge p f q ≡ put k b m → Puts p f q b m
   unfolding judgeBy
   puts-known = other (differs p f) refl
     where
-      wide : differs p f ≡ false → (t : Bool) → cond t (refuse Wide) (judgeMended (f .number) q (mendedIn (f .protection) q)) ≡ put k b → Puts p f q b
+      wide : differs p f ≡ false → (t : Bool) → cond t (refuse Wide) (judgeMended (f .number) q (mendedIn (f .protection) q)) ≡ put k b m → Puts p f q b m
       wide d true z = let o : _≡_ {A = ℕ} 0 1 = cc in absurd (omega arith)
       wide d false z = puts-mended d (mendedIn (f .protection) q) refl z
 
       other : (t : Bool) → differs p f ≡ t
-          → cond t (refuse Other) (cond (ltb (p .slot) (length (payloadIn q))) (refuse Wide) (judgeMended (f .number) q (mendedIn (f .protection) q))) ≡ put k b → Puts p f q b
+          → cond t (refuse Other) (cond (ltb (p .slot) (length (payloadIn q))) (refuse Wide) (judgeMended (f .number) q (mendedIn (f .protection) q))) ≡ put k b m → Puts p f q b m
       other true e z = let o : _≡_ {A = ℕ} 0 1 = cc in absurd (omega arith)
       other false e z = wide e (ltb (p .slot) (length (payloadIn q))) z
 
--- rows that were repaired are near
-mended-near : (q b : List ℕ) (f : Packet) → Read q f → (f .protection ≡ 0 → ⊥) → mendedIn (f .protection) q ≡ whole b → RowsNear q b
-mended-near q b f r d e =
+-- rows that were repaired are near, and what was mended is counted
+mended-near : (q b : List ℕ) (m : ℕ) (f : Packet) → Read q f → (f .protection ≡ 0 → ⊥) → mendedIn (f .protection) q ≡ whole b m → RowsNear q b × (m ≡ bytesAltered q b)
+mended-near q b m f r d e =
     let one : f .protection ≡ 1 = positive (f .protection) (r .protection) d in
-    rows-near q b (ap (λ (n : ℕ). n % 255) (payload-length q (omega (arith, r .least))) ∙ r .multiple one) (sym (mended-rows (f .protection) q d) ∙ e)
+    rows-near q b m (ap (λ (n : ℕ). n % 255) (payload-length q (omega (arith, r .least))) ∙ r .multiple one) (sym (mended-rows (f .protection) q d) ∙ e)
   where
     positive : (t : ℕ) → t < 2 → (t ≡ 0 → ⊥) → t ≡ 1
     positive zero l d = absurd (d refl)
@@ -161,9 +164,9 @@ module _ (x : State) (q : List ℕ) where
   Says o = offeredTold (o .answer) .number ≡ 0 → Accepts x q (record { held = x .held; store = o .store }) (offeredTold (o .answer) .values)
 
   module _ (g : good (length (x .store)) (x .held .places) ≡ true) (f : Packet) (read : readOf q ≡ Sent f) (i : ℕ) (found : placeNamed (x .held .places) (packetName f) ≡ At i) where
-    carried : (n : ℕ) (b : List ℕ) → judge (placeAt x i) f q ≡ put n b → Placed (placeAt x i) f n b → Carried x q i n b
-    carried n b e w =
-        let k = puts-known (placeAt x i) f q n b e in
+    carried : (n : ℕ) (b : List ℕ) (m : ℕ) → judge (placeAt x i) f q ≡ put n b m → Placed (placeAt x i) f n b → Carried x q i n b m
+    carried n b m e w =
+        let k = puts-known (placeAt x i) f q n b m e in
         record {
           fields = f;
           read = read;
@@ -171,33 +174,35 @@ module _ (x : State) (q : List ℕ) where
           serves = k .serves;
           number = w .number;
           below = w .below;
-          plain = λ z. plain z (k .mended);
-          rows = λ d. mended-near q b f (read-known q f read) d (k .mended);
+          plain = λ z. plain z (k .mended) .0;
+          rows = λ d. mended-near q b m f (read-known q f read) d (k .mended) .0;
           crc = k .crc;
+          none-mended = λ z. plain z (k .mended) .1;
+          mended = λ d. mended-near q b m f (read-known q f read) d (k .mended) .1;
         }
       where
-        plain : f .protection ≡ 0 → mendedIn (f .protection) q ≡ whole b → b ≡ payloadIn q
-        plain z m = let o : whole b ≡ whole (payloadIn q) = sym m ∙ mended-plain (f .protection) q z in cc
+        plain : f .protection ≡ 0 → mendedIn (f .protection) q ≡ whole b m → (b ≡ payloadIn q) × (m ≡ 0)
+        plain z e = let o : whole b m ≡ whole (payloadIn q) 0 = sym e ∙ mended-plain (f .protection) q z in (cc, cc)
 
-    slot-said : (n : ℕ) (b : List ℕ) → judge (placeAt x i) f q ≡ put n b → Placed (placeAt x i) f n b → (c : Content) → slotIn x i n ≡ c
-        → Says (storing (x .store) (slotAt (placeAt x i) n) b (putInto c b))
-    slot-said n b e w wrong z o = absurd (omega arith)
-    slot-said n b e w (holding []) z o =
+    slot-said : (n : ℕ) (b : List ℕ) (m : ℕ) → judge (placeAt x i) f q ≡ put n b m → Placed (placeAt x i) f n b → (c : Content) → slotIn x i n ≡ c
+        → Says (storing (x .store) (slotAt (placeAt x i) n) b (putInto c b m))
+    slot-said n b m e w wrong z o = absurd (omega arith)
+    slot-said n b m e w (holding []) z o =
         let used = names-in-use (placeAt x i) (packetName f) (found-names (x .held .places) (packetName f) i found .1) in
         let room : length b ≤ placeAt x i .slot = fits-room (placeAt x i) (length b) (w .fits) in
         let ends : endOf (placeAt x i) ≤ length (x .store) = named-facts (length (x .store)) (x .held .places) g (packetName f) i found .ends-within in
-        Accepts.stored i n b (carried n b e w) z
+        Accepts.stored i n b m (carried n b m e w) z
         (slot-stored (placeAt x i) (x .store) n b (omega (arith, slot-within (placeAt x i) n (w .below) .1)) (w .fits))
         (others-stay x i n b used g (w .below) room)
-    slot-said n b e w (holding (y ∷ d)) z o = compared (same (y ∷ d) b) refl o
+    slot-said n b m e w (holding (y ∷ d)) z o = compared (same (y ∷ d) b) refl o
       where
-        compared : (t : Bool) → same (y ∷ d) b ≡ t → Says (storing (x .store) (slotAt (placeAt x i) n) b (cond t Repeat (Offered.Refused Conflict)))
-        compared true h o = Accepts.again i n b (carried n b e w) (z ∙ ap holding (same-equal (y ∷ d) b h)) refl
+        compared : (t : Bool) → same (y ∷ d) b ≡ t → Says (storing (x .store) (slotAt (placeAt x i) n) b (cond t (Repeat m) (Offered.Refused Conflict)))
+        compared true h o = Accepts.again i n b m (carried n b m e w) (z ∙ ap holding (same-equal (y ∷ d) b h)) refl
         compared false h o = absurd (omega arith)
 
     judged-said : (j : Judged) → judge (placeAt x i) f q ≡ j → Sound (placeAt x i) f j → Says (offerJudged (placeAt x i) (x .store) j)
     judged-said (refuse r) e w o = absurd (number-not-0 r o)
-    judged-said (put n b) e w o = slot-said n b e w (slotIn x i n) refl o
+    judged-said (put n b m) e w o = slot-said n b m e w (slotIn x i n) refl o
 
   case-said : (o : Offering) → Case (x .held) (x .store) q o → Says o
   case-said o (refused r) e = absurd (number-not-0 r e)

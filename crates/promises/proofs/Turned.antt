@@ -3,7 +3,7 @@
 use mathlib.Core.Path.{_≡_, refl, sym, ap, _∙_}
 use mathlib.Core.Logic.{⊎-elim}
 use mathlib.Core.List.{List, [], _∷_, _++_}
-use Prim.Native.Nat.{ℕ, _<_, _≤_}
+use Prim.Native.Nat.{ℕ, _+_, _*_, _<_, _≤_}
 use native.Mathlib.Omega.{arith}
 use lib.ListN.{length, getD, replicate}
 use Rattle.ground.specs.Bits.{sum}
@@ -18,7 +18,7 @@ use Rattle.code.specs.Repair.{Near}
 use Rattle.code.specs.Mend.{whole, behind}
 use Rattle.code.proofs.Lists.{zeros-bytes, bytes-cons, append-bytes}
 use Rattle.code.proofs.Division.{remainder-coded}
-use Rattle.code.proofs.Distance.{coded-unique}
+use Rattle.code.proofs.Distance.{distance-self, coded-unique}
 use Rattle.code.proofs.Exact.{repair-coded}
 use Rattle.settings.specs.declared.Settings.{Settings}
 use Rattle.settings.specs.Settings.{settingsFit}
@@ -90,26 +90,26 @@ empty =
 pub refusing-turned : FromFresh refusing → ⊥
 unfolding refusing
 refusing-turned d =
-    let e = d one byte protected room (omega arith) (omega arith) (offering packet ∷ []) carried .opens in
+    let e = d one byte protected room (omega arith, omega arith) (offering packet ∷ []) carried .opens in
     let z : _≡_ {A = ℕ} 17 0 = ap (λ (a : Answer). a .told .number) e in
     omega arith
 
 -- ---- one that stores nothing: an answer Stored says that the slot holds the payload, which is not empty; and hand out finds it empty
 
 -- a payload that was carried has bytes
-carried-some : (x : State) (q : List ℕ) (i n : ℕ) (b : List ℕ) → Carried x q i n b → 0 < length b
-carried-some x q i n b c =
+carried-some : (x : State) (q : List ℕ) (i n : ℕ) (b : List ℕ) (m : ℕ) → Carried x q i n b m → 0 < length b
+carried-some x q i n b m c =
     let least = read-known q (c .fields) (c .read) .least in
     let sized = payload-length q (omega arith) in
     ⊎-elim (λ z. omega (arith, ap length (c .plain z))) (λ d. omega (arith, c .rows d .sized)) (same-or-not (c .fields .protection) 0)
 
 -- Stored changes the store
 stored-changes : (x : State) (q v : List ℕ) → Accepts x q x v → v ≡ 0 ∷ [] → ⊥
-stored-changes x q v (Accepts.stored i n b c empty full others) e =
+stored-changes x q v (Accepts.stored i n b m c empty full others) e =
     let same : holding [] ≡ holding b = sym empty ∙ full in
     let none : [] ≡ b = cc in
-    omega (arith, carried-some x q i n b c, ap length none)
-stored-changes x q v (Accepts.again i n b c full same) e = let z : _≡_ {A = ℕ} 1 0 = ap (λ (l : List ℕ). getD l 0 0) e in omega arith
+    omega (arith, carried-some x q i n b m c, ap length none)
+stored-changes x q v (Accepts.again i n b m c full same) e = let z : _≡_ {A = ℕ} (2 * m + 1) 0 = ap (λ (l : List ℕ). getD l 0 0) e in omega arith
 
 pub losing-turned : OffersBySlots losing → ⊥
 unfolding losing
@@ -124,7 +124,7 @@ empty-handed =
 pub losing-breaks-demand-3 : FromFresh losing → ⊥
 unfolding losing step
 losing-breaks-demand-3 d =
-    let e = d one byte protected room (omega arith) (omega arith) (offering packet ∷ []) carried .hands (0 ∷ []) (omega arith) in
+    let e = d one byte protected room (omega arith, omega arith) (offering packet ∷ []) carried .hands (0 ∷ []) (omega arith) in
     let z : _≡_ {A = ℕ} 21 0 = ap (λ (h : Handing). verdictTold (h .answer) .number) (sym empty-handed) ∙ ap (λ (a : Answer). a .told .number) e in
     omega arith
 
@@ -135,8 +135,8 @@ unfolding firstFrom
 none-open s r i h = let e : Nothing ≡ At i = held-found (fresh s) r i h in let z : _≡_ {A = ℕ} 0 1 = cc in omega arith
 
 accepts-held : (x : State) (q : List ℕ) (y : State) {v : List ℕ} → Accepts x q y v → (r : Name) × (i : ℕ) × Held x r i
-accepts-held x q y (Accepts.stored i n b c empty full others) = (packetName (c .fields), i, c .held)
-accepts-held x q y (Accepts.again i n b c full same) = (packetName (c .fields), i, c .held)
+accepts-held x q y (Accepts.stored i n b m c empty full others) = (packetName (c .fields), i, c .held)
+accepts-held x q y (Accepts.again i n b m c full same) = (packetName (c .fields), i, c .held)
 
 pub boasting-turned : OffersBySlots boasting → ⊥
 unfolding boasting
@@ -181,9 +181,11 @@ wrong-near = record { coded = zero-coded; close = one-wrong }
 pub wrong-bytes : Bytes wrong-row
 wrong-bytes = bytes-cons 1 (replicate 254 0) (omega arith) (zeros-bytes 254)
 
-mended-wrong : firstRowOnly 1 two-rows ≡ whole (zero-row ++ wrong-row)
+mended-wrong : firstRowOnly 1 two-rows ≡ whole (zero-row ++ wrong-row) 0
 unfolding firstRowOnly
-mended-wrong = ap (λ (a : Repaired). behind a 0 (whole wrong-row)) (repair-coded zero-row zero-coded)
+mended-wrong =
+    ap (λ (a : Repaired). behind zero-row a 0 (whole wrong-row 0)) (repair-coded zero-row zero-coded)
+    ∙ ap (λ (m : ℕ). whole (zero-row ++ wrong-row) (m + 0)) (distance-self zero-row)
 
 rows-there : WholeRows two-rows
 rows-there = record {
@@ -194,7 +196,7 @@ rows-there = record {
 
 pub first-row-turned : MendsEachRow firstRowOnly → ⊥
 first-row-turned m =
-    let near : Near wrong-row wrong-row = m .sound two-rows (zero-row ++ wrong-row) rows-there mended-wrong .near 1 (omega arith) in
+    let near : Near wrong-row wrong-row = m .sound two-rows (zero-row ++ wrong-row) 0 rows-there mended-wrong .0 .near 1 (omega arith) in
     let same : wrong-row ≡ zero-row = coded-unique wrong-row zero-row (near .coded) zero-coded (omega (arith, one-wrong)) in
     let z : _≡_ {A = ℕ} 1 0 = ap (λ (l : List ℕ). getD l 0 0) same in
     omega arith

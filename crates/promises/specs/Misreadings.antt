@@ -42,12 +42,12 @@ agreesBefore q = agrees q (payloadIn q)
 
 -- a row kept unrepaired because the CRC fits
 unfoldable pub keptIfFits : List ℕ → Mended
-keptIfFits q = cond (agreesBefore q) (whole (payloadIn q)) (mendedIn 1 q)
+keptIfFits q = cond (agreesBefore q) (whole (payloadIn q) 0) (mendedIn 1 q)
 
 -- a later, different copy replaces a stored payload (where `step` says Conflict, 16), and a is answered
 abbrev pub putAt : Place → List ℕ → Judged → List ℕ
 putAt p s (refuse r) = s
-putAt p s (put k b) = stored s (slotAt p k) b
+putAt p s (put k b m) = stored s (slotAt p k) b
 
 abbrev pub putFound : State → Packet → List ℕ → Found → List ℕ
 putFound x f q (At i) = putAt (placeAt x i) (x .store) (judge (placeAt x i) f q)

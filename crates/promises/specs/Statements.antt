@@ -1,17 +1,17 @@
--- What an institute may rely on: document 01, section 5, section 7, the order's demands 2 and 3, and document 02, R-1. Each statement is about any program; proofs/ shows them of `step`.
+-- What an institute may rely on: document 01, section 5, section 7, the order's demands 2 and 3, and document 02, R-1 and R-7. Each statement is about any program; proofs/ shows them of `step`.
 -- docs/PROMISES.md says each in plain words. Assumes nothing.
 use mathlib.Core.Path.{_≡_}
 use mathlib.Core.Logic.{_⊎_}
 use mathlib.Core.Bool.{Bool, true, false, cond}
 use mathlib.Core.List.{List, [], _∷_, _++_, map}
-use Prim.Native.Nat.{ℕ, _+_, _-_, _*_, _%_, _≤_, _<_}
+use Prim.Native.Nat.{ℕ, _+_, _-_, _*_, _/_, _%_, _≤_, _<_}
 use lib.ListN.{length, getD, take, drop, replicate}
 use Rattle.ground.specs.Lists.{listed}
 use Rattle.refusals.specs.declared.Refusal.the-variants.{Unknown, Other, Slot, Size}
 use Rattle.refusals.specs.Told.{Told, acceptedWith, refusedAs}
 use Rattle.code.specs.Code.{Bytes, distance}
 use Rattle.code.specs.Repair.{Near}
-use Rattle.code.specs.Mend.{Mended, whole, broken}
+use Rattle.code.specs.Mend.{Mended, whole, broken, alteredIn}
 use Rattle.packet.specs.declared.Packet.{Packet}
 use Rattle.packet.specs.declared.Reading.the-variants.{Sent}
 use Rattle.settings.specs.declared.Settings.{Settings}
@@ -41,6 +41,10 @@ pub record RowsNear (q b : List ℕ) : Type 0 where
   pub sized : length b ≡ length (payloadIn q)
   pub near : (i : ℕ) → i * 255 < length (payloadIn q) → Near (rowIn q i) (take 255 (drop (i * 255) b))
 
+-- how many bytes of the payload of q are others in b: the sum over its rows of the places at which each differs (document 02, R-7)
+abbrev pub bytesAltered : List ℕ → List ℕ → ℕ
+bytesAltered q b = alteredIn (length (payloadIn q) / 255) (payloadIn q) b
+
 -- row i of q is the first that has no coded row within eight bytes
 pub record FirstBroken (q : List ℕ) (i : ℕ) : Type 0 where
   pub within : i * 255 < length (payloadIn q)
@@ -52,10 +56,11 @@ pub record WholeRows (q : List ℕ) : Type 0 where
   pub bytes : Bytes q
   pub multiple : length (payloadIn q) % 255 ≡ 0
 
--- a repair of packets is exact in every row: with protection it answers b exactly if b is near in each row, and row i exactly if that is the first that has no coded row near
+-- a repair of packets is exact in every row: with protection it answers b exactly if b is near in each row, counting the bytes in which they differ, and row i exactly if that is the
+-- first that has no coded row near
 pub record MendsEachRow (mend : ℕ → List ℕ → Mended) : Type 0 where
-  pub sound : (q b : List ℕ) → WholeRows q → mend 1 q ≡ whole b → RowsNear q b
-  pub complete : (q b : List ℕ) → WholeRows q → RowsNear q b → mend 1 q ≡ whole b
+  pub sound : (q b : List ℕ) (m : ℕ) → WholeRows q → mend 1 q ≡ whole b m → RowsNear q b × (m ≡ bytesAltered q b)
+  pub complete : (q b : List ℕ) → WholeRows q → RowsNear q b → mend 1 q ≡ whole b (bytesAltered q b)
   pub refusing : (q : List ℕ) (i : ℕ) → WholeRows q → mend 1 q ≡ broken i → FirstBroken q i
   pub refused : (q : List ℕ) (i : ℕ) → WholeRows q → FirstBroken q i → mend 1 q ≡ broken i
 
@@ -82,7 +87,7 @@ pub record Copy (g : Settings) (file : List ℕ) (n : ℕ) (q : List ℕ) : Type
 -- such an offer, with the resource and type in it or not: its fields are refused or differ from the place's, a row has no coded row within eight bytes, or the CRC differs
 abbrev pub BringsNoOther : Settings → List ℕ → List ℕ → Type 0
 BringsNoOther g file q =
-    (f : Packet) → readOf q ≡ Sent f → (n : ℕ) (b : List ℕ) → judge (placeOf g (countOf g (length file)) 0) f q ≡ put n b → b ≡ payloadOf g file n
+    (f : Packet) → readOf q ≡ Sent f → (n : ℕ) (b : List ℕ) (m : ℕ) → judge (placeOf g (countOf g (length file)) 0) f q ≡ put n b m → b ≡ payloadOf g file n
 
 -- what may stand in the list: a copy, an offer that does not name the file's resource and type, any other that brings no other payload, and every other call but one that closes them
 pub data Fair (g : Settings) (file : List ℕ) : Call → Type 0 where
@@ -148,10 +153,14 @@ pub record FreshHandsOut (f : Program) (g : Settings) (file s : List ℕ) (cs : 
 abbrev pub roomOf : Settings → List ℕ → ℕ
 roomOf g file = coverOf (countOf g (length file)) (g .size)
 
+-- a store has them, and they may be used
+abbrev pub HasRoom : Settings → List ℕ → List ℕ → Type 0
+HasRoom g file s = (roomOf g file ≤ length s) × (roomOf g file ≤ 16777216)
+
 abbrev pub FromFresh : Program → Type 0
 FromFresh f =
     (g : Settings) (file : List ℕ) → Protected g file
-    → (s : List ℕ) → roomOf g file ≤ length s → roomOf g file ≤ 16777216
+    → (s : List ℕ) → HasRoom g file s
     → (cs : List Call) → Carries g file cs → FreshHandsOut f g file s cs
 
 -- no second file fits: two files of one length, under one set of settings, that the same calls carry, are equal
@@ -237,8 +246,8 @@ StatusBySlots f =
     → f (asking r) x ≡ record { answer = telling (slotsTold (contents (placeAt x i) (x .store))); state = x }
 
 -- q carries b for slot n of place i: it is a packet of the place's file with that number, b is its payload, as it came without protection and near in each row with it, and
--- the CRC agrees with b
-pub record Carried (x : State) (q : List ℕ) (i n : ℕ) (b : List ℕ) : Type 0 where
+-- the CRC agrees with b; m bytes of it were mended: none without protection, the sum over the rows with it
+pub record Carried (x : State) (q : List ℕ) (i n : ℕ) (b : List ℕ) (m : ℕ) : Type 0 where
   pub fields : Packet
   pub read : readOf q ≡ Sent fields
   pub held : Held x (packetName fields) i
@@ -248,6 +257,8 @@ pub record Carried (x : State) (q : List ℕ) (i n : ℕ) (b : List ℕ) : Type 
   pub plain : fields .protection ≡ 0 → b ≡ payloadIn q
   pub rows : (fields .protection ≡ 0 → ⊥) → RowsNear q b
   pub crc : agrees q b ≡ true
+  pub none-mended : fields .protection ≡ 0 → m ≡ 0
+  pub mended : (fields .protection ≡ 0 → ⊥) → m ≡ bytesAltered q b
 
 -- the record and the store's length are as they were, and so is every slot of every place in use, but slot n of place i
 pub record OthersStay (x y : State) (i n : ℕ) : Type 0 where
@@ -255,11 +266,12 @@ pub record OthersStay (x y : State) (i n : ℕ) : Type 0 where
   pub sized : length (y .store) ≡ length (x .store)
   pub slots : (j k : ℕ) → inUse (placeAt x j) ≡ true → k < placeAt x j .count → ((j ≡ i) × (k ≡ n) → ⊥) → slotIn y j k ≡ slotIn x j k
 
--- what an accepted offer says, by its values: Stored (0), and the slot was empty and holds the payload; or Repeat (1), and it held the payload, and nothing changed
+-- what an accepted offer says, by its value: twice the bytes mended for Stored, and the slot was empty and holds the payload; or 1 more for Repeat, and it held the payload,
+-- and nothing changed
 pub data Accepts (x : State) (q : List ℕ) (y : State) : List ℕ → Type 0 where
-  stored : (i n : ℕ) (b : List ℕ) → Carried x q i n b → slotIn x i n ≡ holding [] → slotIn y i n ≡ holding b → OthersStay x y i n
-      → Accepts x q y (0 ∷ [])
-  again : (i n : ℕ) (b : List ℕ) → Carried x q i n b → slotIn x i n ≡ holding b → y ≡ x → Accepts x q y (1 ∷ [])
+  stored : (i n : ℕ) (b : List ℕ) (m : ℕ) → Carried x q i n b m → slotIn x i n ≡ holding [] → slotIn y i n ≡ holding b → OthersStay x y i n
+      → Accepts x q y ((2 * m) ∷ [])
+  again : (i n : ℕ) (b : List ℕ) (m : ℕ) → Carried x q i n b m → slotIn x i n ≡ holding b → y ≡ x → Accepts x q y ((2 * m + 1) ∷ [])
 
 abbrev pub OffersBySlots : Program → Type 0
 OffersBySlots f =
@@ -352,3 +364,27 @@ abbrev pub StreamsUnknown : Program → Type 0
 StreamsUnknown f =
     (x : State) (q : List ℕ) (fields : Packet) → good (length (x .store)) (x .held .places) ≡ true → readOf q ≡ Sent fields → fields .kind ≡ 0
     → f (offering q) x .answer .told ≡ refusedAs Unknown
+
+-- ---- how much was mended: document 02, R-7
+
+-- an offered copy of packet n is accepted, as Stored or as Repeat, with the number of bytes that are altered in its rows
+abbrev pub Graded : Program → Settings → List ℕ → State → Type 0
+Graded f g file x =
+    (n : ℕ) → n < countOf g (length file) → (q : List ℕ) → Copy g file n q
+    → (f (offering q) x .answer ≡ telling (acceptedWith ((2 * bytesAltered q (payloadOf g file n)) ∷ [])))
+    ⊎ (f (offering q) x .answer ≡ telling (acceptedWith ((2 * bytesAltered q (payloadOf g file n) + 1) ∷ [])))
+
+-- wherever the file's place is open and was offered nothing but what may stand in demand 3: so what is told grades the recording
+abbrev pub MendedIsAltered : Program → Type 0
+MendedIsAltered f =
+    (g : Settings) (file : List ℕ) → Protected g file
+    → (x : State) → IsOpened f g file x
+    → (cs : List Call) → AllFair g file cs
+    → Graded f g file (run f cs (opened f g file x) .state)
+
+-- from a fresh record over a store with room, no answer taken for granted
+abbrev pub GradedFromFresh : Program → Type 0
+GradedFromFresh f =
+    (g : Settings) (file : List ℕ) → Protected g file
+    → (s : List ℕ) → HasRoom g file s
+    → (cs : List Call) → AllFair g file cs → Graded f g file (run f cs (opened f g file (fresh s)) .state)

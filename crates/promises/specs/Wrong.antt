@@ -1,10 +1,10 @@
--- Programs that are turned away: document 01, section 7. Each is of the calls' own type, and does all else as `step` does; proofs/Turned.antt and FirstRow.antt show which
+-- Programs that are turned away: document 01, section 7; document 02, R-7. Each is of the calls' own type, and does all else as `step` does; proofs/Turned.antt and FirstRow.antt show which
 -- promise each breaks. Assumes nothing.
 use mathlib.Core.Bool.{cond}
 use mathlib.Core.List.{List, [], _∷_}
-use Prim.Native.Nat.{ℕ}
+use Prim.Native.Nat.{ℕ, _%_}
 use lib.Dec.{eqb}
-use lib.ListN.{take, drop}
+use lib.ListN.{getD, take, drop}
 use Rattle.refusals.specs.declared.Refusal.the-variants.{Unknown, Field}
 use Rattle.refusals.specs.Told.{acceptedWith, refusedAs}
 use Rattle.code.specs.Repair.{repairOf}
@@ -41,6 +41,13 @@ losing = offeringBy (λ q x. record { answer = telling (acceptedWith (0 ∷ []))
 unfoldable pub boasting : Program
 boasting = offeringBy (λ q x. record { answer = telling (acceptedWith (0 ∷ [])); state = step (offering q) x .state })
 
+-- it mends, and tells of no byte that it mended: 0 for Stored, 1 for Repeat
+abbrev pub hushed : Answer → Answer
+hushed a = cond (eqb (a .told .number) 0) (telling (acceptedWith ((getD (a .told .values) 0 0 % 2) ∷ []))) a
+
+unfoldable pub silent : Program
+silent = offeringBy (λ q x. record { answer = hushed (step (offering q) x .answer); state = step (offering q) x .state })
+
 -- its Status refuses where it should, and invents a number for every place that is open
 abbrev pub invented : Answer → Answer
 invented a = cond (eqb (a .told .number) 0) (telling (acceptedWith (7 ∷ []))) a
@@ -56,7 +63,7 @@ inventing (closing r) x = step (closing r) x
 -- a repair of packets that mends row 0 only and passes the rest through, and the program that offers so
 unfoldable pub firstRowOnly : ℕ → List ℕ → Mended
 firstRowOnly protection q =
-    cond (eqb protection 0) (whole (payloadIn q)) (behind (repairOf (take 255 (payloadIn q))) 0 (whole (drop 255 (payloadIn q))))
+    cond (eqb protection 0) (whole (payloadIn q) 0) (behind (take 255 (payloadIn q)) (repairOf (take 255 (payloadIn q))) 0 (whole (drop 255 (payloadIn q)) 0))
 
 unfoldable pub mendingFirst : Program
 mendingFirst =

@@ -14,22 +14,22 @@ use Rattle.code.specs.Code.{Bytes, Coded, distance}
 use Rattle.code.proofs.Mend.{rowOf, bytes-split, mend-whole, mend-length}
 use Rattle.packet.specs.Packet.{readOf}
 use Rattle.packet.proofs.Laws.{fields-first}
-use Rattle.code.specs.Mend.{whole}
+use Rattle.code.specs.Mend.{whole, alteredIn}
 use Rattle.record.specs.Mend.{payloadIn, mendedIn}
 use Rattle.sealing.specs.Sealing.{crcIn, agrees}
 use Rattle.record.proofs.OfferCases.{payload-length, mended-plain, mended-rows}
 
-pub mended-length : (t : ℕ) (q b : List ℕ) → 18 ≤ length q → (t ≡ 0) ⊎ ((length q - 18) % 255 ≡ 0) → mendedIn t q ≡ whole b → length b ≡ length q - 18
-mended-length t q b h m e = by (eqb t 0) refl
+pub mended-length : (t : ℕ) (q b : List ℕ) (n : ℕ) → 18 ≤ length q → (t ≡ 0) ⊎ ((length q - 18) % 255 ≡ 0) → mendedIn t q ≡ whole b n → length b ≡ length q - 18
+mended-length t q b n h m e = by (eqb t 0) refl
   where
     by : (x : Bool) → eqb t 0 ≡ x → length b ≡ length q - 18
     by true z =
-        let w : whole (payloadIn q) ≡ whole b = sym (mended-plain t q (eqb-true t 0 z)) ∙ e in
+        let w : whole (payloadIn q) 0 ≡ whole b n = sym (mended-plain t q (eqb-true t 0 z)) ∙ e in
         let v : payloadIn q ≡ b = cc in
         ap length (sym v) ∙ payload-length q h
     by false z =
         let r : (length q - 18) % 255 ≡ 0 = ⊎-elim (λ (o : t ≡ 0). absurd (eqb-false t 0 z o)) (λ o. o) m in
-        let w = mend-length _ 0 (payloadIn q) b (sym (mended-rows t q (eqb-false t 0 z)) ∙ e) in
+        let w = mend-length _ 0 (payloadIn q) b n (sym (mended-rows t q (eqb-false t 0 z)) ∙ e) in
         omega (arith, payload-length q h)
 
 -- ---- an altered copy q of a packet p: header and CRC intact, at most eight bytes altered in each row
@@ -83,8 +83,8 @@ module _ (q p : List ℕ) (a : Altered q p) where
     unfolding agrees
     agrees-copy = rw (crc-same, a .header) (w .agreed)
 
-    -- and repair gives that payload back
-    pub mended-copy : (t : ℕ) → (t ≡ 0 → ⊥) → mendedIn t q ≡ whole (payloadIn p)
+    -- and repair gives that payload back, mended where the copy was altered
+    pub mended-copy : (t : ℕ) → (t ≡ 0 → ⊥) → mendedIn t q ≡ whole (payloadIn p) (alteredIn (length (payloadIn q) / 255) (payloadIn q) (payloadIn p))
     mended-copy t z =
         let s : length q ≡ length p = a .sized in
         let g : 19 ≤ length p = w .least in

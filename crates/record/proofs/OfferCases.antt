@@ -12,8 +12,8 @@ use Rattle.ground.proofs.Writing.{sets-front}
 use Rattle.words.specs.Words.{same}
 use Rattle.refusals.specs.declared.Refusal.{Refusal}
 use Rattle.refusals.specs.declared.Refusal.the-variants.{Unknown, Other, Wide, Crc, Slot, Conflict}
-use Rattle.refusals.specs.declared.Verdict.{Verdict}
 use Rattle.refusals.specs.declared.Verdict.the-variants as verdicts
+use Rattle.repair.specs.declared.Counted.{Counted}
 use Rattle.repair.specs.Repair.{mendingOf, Mends}
 use Rattle.repair.proofs.AllRows.{mend-refused}
 use Rattle.packet.specs.declared.Packet.{Packet}
@@ -48,45 +48,45 @@ come e c = (c .0 ∙ ap (λ (x : Offering). x .answer) (sym e), c .1 ∙ ap (λ 
 
 -- ---- a payload and the slot of its number, which stands at at and has the length n, where the CRC agrees with it
 
-pub put-crc : (p : Place) (s : List ℕ) (k : ℕ) (b : List ℕ) (a : Bool) → a ≡ false → offerJudged p s (judgeCrc k b a) ≡ said (Refused Crc) s
-put-crc p s k b a h = rw h refl
+pub put-crc : (p : Place) (s : List ℕ) (k : ℕ) (b : List ℕ) (m : ℕ) (a : Bool) → a ≡ false → offerJudged p s (judgeCrc k b m a) ≡ said (Refused Crc) s
+put-crc p s k b m a h = rw h refl
 
-module _ (p : Place) (s : List ℕ) (k : ℕ) (b : List ℕ) (a : Bool) (h : a ≡ true) (at : ℕ) (d : at ≡ slotAt p k) (n : ℕ) (e : n ≡ lengthAt s at) where
-  agreed : offerJudged p s (judgeCrc k b a) ≡ offerJudged p s (put k b)
+module _ (p : Place) (s : List ℕ) (k : ℕ) (b : List ℕ) (m : ℕ) (a : Bool) (h : a ≡ true) (at : ℕ) (d : at ≡ slotAt p k) (n : ℕ) (e : n ≡ lengthAt s at) where
+  agreed : offerJudged p s (judgeCrc k b m a) ≡ offerJudged p s (put k b m)
   agreed = rw h refl
 
   slot-length : lengthAt s (slotAt p k) ≡ n
   slot-length = sym (e ∙ ap (lengthAt s) d)
 
-  pub put-wrong : lengthFits p n ≡ false → offerJudged p s (judgeCrc k b a) ≡ said (Refused Slot) s
+  pub put-wrong : lengthFits p n ≡ false → offerJudged p s (judgeCrc k b m a) ≡ said (Refused Slot) s
   put-wrong f = agreed ∙ rw (slot-wrong p s k (ap (lengthFits p) slot-length ∙ f)) refl
 
-  pub put-empty : n ≡ 0 → offerJudged p s (judgeCrc k b a) ≡ said Stored (stored s at b)
-  put-empty z = agreed ∙ rw (slot-empty p s k (slot-length ∙ z)) (ap (λ (x : ℕ). said Stored (stored s x b)) (sym d))
+  pub put-empty : n ≡ 0 → offerJudged p s (judgeCrc k b m a) ≡ said (Stored m) (stored s at b)
+  put-empty z = agreed ∙ rw (slot-empty p s k (slot-length ∙ z)) (ap (λ (x : ℕ). said (Stored m) (stored s x b)) (sym d))
 
   -- a slot that holds something, and r says whether that, as the code cuts it out, is the payload
   module _ (f : lengthFits p n ≡ true) (full : n ≡ 0 → ⊥) (l : at + 2 + n ≤ length s) (r : Bool) (t : r ≡ same (take (at + 2 + n - (at + 2)) (drop (at + 2) s)) b) where
     bytes-compared : r ≡ same (bytesAt s (at + 2) n) b
     bytes-compared =
         let e : at + 2 + n - (at + 2) ≡ n = omega arith in
-        t ∙ ap (λ (x : List ℕ). same x b) (ap (λ (m : ℕ). take m (drop (at + 2) s)) e ∙ sym (bytes-part s (at + 2) n l))
+        t ∙ ap (λ (x : List ℕ). same x b) (ap (λ (x : ℕ). take x (drop (at + 2) s)) e ∙ sym (bytes-part s (at + 2) n l))
 
-    put-full : offerJudged p s (judgeCrc k b a) ≡ storing s (slotAt p k) b (cond r Repeat (Refused Conflict))
+    put-full : offerJudged p s (judgeCrc k b m a) ≡ storing s (slotAt p k) b (cond r (Repeat m) (Refused Conflict))
     put-full = agreed ∙ by n refl
       where
-        by : (m : ℕ) → n ≡ m → offerJudged p s (put k b) ≡ storing s (slotAt p k) b (cond r Repeat (Refused Conflict))
+        by : (l : ℕ) → n ≡ l → offerJudged p s (put k b m) ≡ storing s (slotAt p k) b (cond r (Repeat m) (Refused Conflict))
         by zero w = absurd (full w)
-        by (suc m) w =
-            let o : slotOf p s k ≡ holding (bytesAt s (slotAt p k + 2) (suc m)) =
-            slot-holds p s k (suc m) (slot-length ∙ w) (sym (ap (lengthFits p) w) ∙ f) in
-            let y : same (bytesAt s (slotAt p k + 2) (suc m)) b ≡ r = sym (bytes-compared ∙ ap₂ (λ (x y : ℕ). same (bytesAt s (x + 2) y) b) d w) in
-            rw o (ap (λ (x : Bool). storing s (slotAt p k) b (cond x Repeat (Refused Conflict))) y)
+        by (suc l) w =
+            let o : slotOf p s k ≡ holding (bytesAt s (slotAt p k + 2) (suc l)) =
+            slot-holds p s k (suc l) (slot-length ∙ w) (sym (ap (lengthFits p) w) ∙ f) in
+            let y : same (bytesAt s (slotAt p k + 2) (suc l)) b ≡ r = sym (bytes-compared ∙ ap₂ (λ (x y : ℕ). same (bytesAt s (x + 2) y) b) d w) in
+            rw o (ap (λ (x : Bool). storing s (slotAt p k) b (cond x (Repeat m) (Refused Conflict))) y)
 
-    pub put-same : r ≡ true → offerJudged p s (judgeCrc k b a) ≡ said Repeat s
-    put-same w = put-full ∙ ap (λ (x : Bool). storing s (slotAt p k) b (cond x Repeat (Refused Conflict))) w
+    pub put-same : r ≡ true → offerJudged p s (judgeCrc k b m a) ≡ said (Repeat m) s
+    put-same w = put-full ∙ ap (λ (x : Bool). storing s (slotAt p k) b (cond x (Repeat m) (Refused Conflict))) w
 
-    pub put-conflict : r ≡ false → offerJudged p s (judgeCrc k b a) ≡ said (Refused Conflict) s
-    put-conflict w = put-full ∙ ap (λ (x : Bool). storing s (slotAt p k) b (cond x Repeat (Refused Conflict))) w
+    pub put-conflict : r ≡ false → offerJudged p s (judgeCrc k b m a) ≡ said (Refused Conflict) s
+    put-conflict w = put-full ∙ ap (λ (x : Bool). storing s (slotAt p k) b (cond x (Repeat m) (Refused Conflict))) w
 
 -- ---- the payload of a packet
 
@@ -113,7 +113,7 @@ copied-part b l h e =
     ap (take (length b)) (e ∙ sets-front (replicate 3825 0) b (omega (arith, length-replicate {A = ℕ} 3825 0)))
     ∙ take-at b (drop (length b) (replicate 3825 0)) (length b) refl
 
-pub mended-plain : (t : ℕ) (q : List ℕ) → t ≡ 0 → mendedIn t q ≡ whole (payloadIn q)
+pub mended-plain : (t : ℕ) (q : List ℕ) → t ≡ 0 → mendedIn t q ≡ whole (payloadIn q) 0
 unfolding mendedIn
 mended-plain t q z = rw (eq-eqb t 0 z) refl
 
@@ -123,13 +123,13 @@ mended-rows t q z = rw (ne-eqb t 0 z) refl
 
 -- ---- a packet judged at a place
 
--- the payload is b, as it came or repaired, and r says whether the CRC agrees
-pub mended-crc : (k : ℕ) (q b : List ℕ) (m : Mended) → m ≡ whole b → (r : Bool) → r ≡ agrees q b → judgeMended k q m ≡ judgeCrc k b r
-mended-crc k q b m e r a = ap (judgeMended k q) e ∙ sym (ap (judgeCrc k b) a)
+-- the payload is b, as it came or repaired at n bytes, and r says whether the CRC agrees
+pub mended-crc : (k : ℕ) (q b : List ℕ) (n : ℕ) (m : Mended) → m ≡ whole b n → (r : Bool) → r ≡ agrees q b → judgeMended k q m ≡ judgeCrc k b n r
+mended-crc k q b n m e r a = ap (judgeMended k q) e ∙ sym (ap (judgeCrc k b n) a)
 
 -- what the repair of a payload's rows was answered
-module _ (b : List ℕ) (m : length b % 255 ≡ 0) (h : length b ≤ 3825) (v : Verdict) (l : List ℕ) (w : Mends (mendingOf b) v l) where
-  pub rows-broken : (p : Place) (s : List ℕ) (k : ℕ) (q : List ℕ) (r : Refusal) → v ≡ verdicts.Refused r
+module _ (b : List ℕ) (m : length b % 255 ≡ 0) (h : length b ≤ 3825) (v : Counted) (l : List ℕ) (w : Mends (mendingOf b) v l) where
+  pub rows-broken : (p : Place) (s : List ℕ) (k : ℕ) (q : List ℕ) (r : Refusal) → v .verdict ≡ verdicts.Refused r
       → offerJudged p s (judgeMended k q (mendRows (length b / 255) 0 b)) ≡ said (Refused r) s
   rows-broken p s k q r e =
       let f = mend-refused b m h v l w r e in
@@ -150,14 +150,14 @@ module _ (p : Place) (f : Packet) (q : List ℕ) where
     judge-mended h = rw (d, le-ltb (p .slot) (length (payloadIn q)) h) refl
 
     -- what is put is the repaired payload, where its CRC agrees
-    pub judge-puts : (b : List ℕ) → length (payloadIn q) ≤ p .slot → mendedIn (f .protection) q ≡ whole b → agrees q b ≡ true → judge p f q ≡ put (f .number) b
-    judge-puts b h m a = judge-mended h ∙ mended-crc (f .number) q b (mendedIn (f .protection) q) m true (sym a)
+    pub judge-puts : (b : List ℕ) (n : ℕ) → length (payloadIn q) ≤ p .slot → mendedIn (f .protection) q ≡ whole b n → agrees q b ≡ true → judge p f q ≡ put (f .number) b n
+    judge-puts b n h m a = judge-mended h ∙ mended-crc (f .number) q b n (mendedIn (f .protection) q) m true (sym a)
 
     -- the payload goes on as it came, or to be repaired
     module _ (s : List ℕ) (h : length (payloadIn q) ≤ p .slot) where
-      pub offer-as-it-came : f .protection ≡ 0 → (r : Bool) → r ≡ agrees q (cut q) → offerJudged p s (judge p f q) ≡ offerJudged p s (judgeCrc (f .number) (cut q) r)
+      pub offer-as-it-came : f .protection ≡ 0 → (r : Bool) → r ≡ agrees q (cut q) → offerJudged p s (judge p f q) ≡ offerJudged p s (judgeCrc (f .number) (cut q) 0 r)
       offer-as-it-came z r a =
-          ap (offerJudged p s) (judge-mended h ∙ mended-crc (f .number) q (cut q) (mendedIn (f .protection) q) (mended-plain (f .protection) q z ∙ ap whole (sym (payload-cut q))) r a)
+          ap (offerJudged p s) (judge-mended h ∙ mended-crc (f .number) q (cut q) 0 (mendedIn (f .protection) q) (mended-plain (f .protection) q z ∙ ap (λ (b : List ℕ). whole b 0) (sym (payload-cut q))) r a)
 
       pub offer-repaired : (f .protection ≡ 0 → ⊥)
           → offerJudged p s (judge p f q) ≡ offerJudged p s (judgeMended (f .number) q (mendRows (length (cut q) / 255) 0 (cut q)))

@@ -1,10 +1,10 @@
 -- What an offer does, in terms of what places hold: document 01, section 5. It changes at most the addressed slot of the place that it names, and that from empty
 -- to the payload; and it depends on nothing else of the store but its length. The packet may be any list. Assumes nothing.
-use mathlib.Core.Path.{_≡_, refl, sym, ap, subst, _∙_}
+use mathlib.Core.Path.{_≡_, refl, sym, ap, ap₂, subst, _∙_}
 use mathlib.Core.Logic.{_⊎_, inl, inr, ⊎-map}
 use mathlib.Core.Bool.{Bool, true, false, cond}
 use mathlib.Core.List.{List, [], _∷_}
-use Prim.Native.Nat.{ℕ, _-_, _%_, _<_, _≤_}
+use Prim.Native.Nat.{ℕ, _-_, _/_, _%_, _<_, _≤_}
 use native.Mathlib.Omega.{arith}
 use borrow.Author.Tests.{eqb-true, eqb-false, ltb-false}
 use lib.Dec.{eqb, ltb}
@@ -32,7 +32,7 @@ use Rattle.contents.proofs.Slots.{fits-made, fits-room}
 use Rattle.contents.proofs.Places.{reading-slots, storing-sets, storing-leaves, apart-meets}
 use Rattle.record.specs.declared.Offered.{Offered}
 use Rattle.record.specs.declared.Offered.the-variants.{Stored, Repeat, Refused}
-use Rattle.code.specs.Mend.{Mended, whole, broken}
+use Rattle.code.specs.Mend.{Mended, whole, broken, alteredIn}
 use Rattle.record.specs.Mend.{payloadIn, mendedIn}
 use Rattle.sealing.specs.Sealing.{agrees}
 use Rattle.record.specs.Offer.{packetName, nameIn, differs, Judged, refuse, put, judgeMended, judge, putInto, Offering, storing, offerJudged, offerOf, judgeBy}
@@ -49,7 +49,7 @@ pub record Placed (p : Place) (f : Packet) (k : ℕ) (b : List ℕ) : Type 0 whe
 
 abbrev pub Sound : Place → Packet → Judged → Type 0
 Sound p f (refuse r) = Unit {0}
-Sound p f (put k b) = Placed p f k b
+Sound p f (put k b m) = Placed p f k b
 
 module _ (n : ℕ) (p : Place) (f : Packet) (q : List ℕ) (w : PlaceFacts n p) (named : names p (packetName f) ≡ true) (r : Read q f) where
   -- without protection any length is taken; with it the payload is whole rows
@@ -61,10 +61,10 @@ module _ (n : ℕ) (p : Place) (f : Packet) (q : List ℕ) (w : PlaceFacts n p) 
       by false t = let z : f .protection ≡ 0 → ⊥ = eqb-false _ _ t in inr (r .multiple (omega (arith, r .protection)))
 
   module _ (d : differs p f ≡ false) (l : length (payloadIn q) ≤ p .slot) where
-    payload-placed : (b : List ℕ) → mendedIn (f .protection) q ≡ whole b → Placed p f (f .number) b
-    payload-placed b m =
+    payload-placed : (b : List ℕ) (k : ℕ) → mendedIn (f .protection) q ≡ whole b k → Placed p f (f .number) b
+    payload-placed b k m =
         let h : 18 ≤ length q = omega (arith, r .least) in
-        let e : length b ≡ length q - 18 = mended-length (f .protection) q b h rows-read m in
+        let e : length b ≡ length q - 18 = mended-length (f .protection) q b k h rows-read m in
         let s = same-file p f d in
         record {
           number = refl;
@@ -75,10 +75,10 @@ module _ (n : ℕ) (p : Place) (f : Packet) (q : List ℕ) (w : PlaceFacts n p) 
 
     mended-sound : (m : Mended) → mendedIn (f .protection) q ≡ m → Sound p f (judgeMended (f .number) q m)
     mended-sound (broken i) e = tt
-    mended-sound (whole b) e = by (agrees q b)
+    mended-sound (whole b k) e = by (agrees q b)
       where
-        by : (a : Bool) → Sound p f (cond a (put (f .number) b) (refuse Crc))
-        by true = payload-placed b e
+        by : (a : Bool) → Sound p f (cond a (put (f .number) b k) (refuse Crc))
+        by true = payload-placed b k e
         by false = tt
 
   pub judge-sound : Sound p f (judge p f q)
@@ -95,118 +95,129 @@ module _ (n : ℕ) (p : Place) (f : Packet) (q : List ℕ) (w : PlaceFacts n p) 
       other true t = tt
       other false t = wide t (ltb (p .slot) (length (payloadIn q))) refl
 
--- what an altered copy of a packet of the place's file puts is that packet's own payload
+-- what an altered copy of a packet of the place's file puts is that packet's own payload, mended where the copy was altered
 pub judge-copy : (o : Place) (f : Packet) (q p : List ℕ) → Altered q p → Intact p → SameFile o f → (f .protection ≡ 0 → ⊥) → length (payloadIn p) ≤ o .slot
-    → judge o f q ≡ put (f .number) (payloadIn p)
+    → judge o f q ≡ put (f .number) (payloadIn p) (alteredIn (length (payloadIn q) / 255) (payloadIn q) (payloadIn p))
 judge-copy o f q p a w s z l =
     let n : length q ≡ length p = a .sized in
     let g : 19 ≤ length p = w .least in
-    judge-puts o f q (same-serves o f s) (payloadIn p) (omega (arith, payload-length q (omega arith), payload-length p (omega arith)))
+    judge-puts o f q (same-serves o f s) (payloadIn p) _ (omega (arith, payload-length q (omega arith), payload-length p (omega arith)))
     (mended-copy q p a w (f .protection) z) (agrees-copy q p a w)
 
 -- ---- at one place: the answer and what the place holds afterwards, by what it held
 
 abbrev pub answered : Judged → List Content → Offered
 answered (refuse r) c = Refused r
-answered (put k b) c = putInto (getD c k wrong) b
+answered (put k b m) c = putInto (getD c k wrong) b m
 
 abbrev pub kept : Offered → List Content → ℕ → List ℕ → List Content
-kept Stored c k b = set c k (holding b)
-kept Repeat c k b = c
+kept (Stored m) c k b = set c k (holding b)
+kept (Repeat m) c k b = c
 kept (Refused r) c k b = c
 
 abbrev pub heldAfter : Judged → List Content → List Content
 heldAfter (refuse r) c = c
-heldAfter (put k b) c = kept (putInto (getD c k wrong) b) c k b
+heldAfter (put k b m) c = kept (putInto (getD c k wrong) b m) c k b
 
 module _ (s : List ℕ) (at : ℕ) (b : List ℕ) where
   storing-answer : (a : Offered) → storing s at b a .answer ≡ a
-  storing-answer Stored = refl
-  storing-answer Repeat = refl
+  storing-answer (Stored m) = refl
+  storing-answer (Repeat m) = refl
   storing-answer (Refused r) = refl
 
   storing-length : (a : Offered) → length (storing s at b a .store) ≡ length s
-  storing-length Stored = length-stored s at b
-  storing-length Repeat = refl
+  storing-length (Stored m) = length-stored s at b
+  storing-length (Repeat m) = refl
   storing-length (Refused r) = refl
 
-  storing-same : (a : Offered) → (storing s at b a .answer ≡ Stored → ⊥) → storing s at b a .store ≡ s
-  storing-same Stored h = absurd (h refl)
-  storing-same Repeat h = refl
+  storing-same : (a : Offered) → ((m : ℕ) → storing s at b a .answer ≡ Stored m → ⊥) → storing s at b a .store ≡ s
+  storing-same (Stored m) h = absurd (h m refl)
+  storing-same (Repeat m) h = refl
   storing-same (Refused r) h = refl
 
 module _ (p : Place) (f : Packet) (s : List ℕ) where
   answer-at : (j : Judged) → Sound p f j → offerJudged p s j .answer ≡ answered j (contents p s)
   answer-at (refuse r) w = refl
-  answer-at (put k b) w =
-      storing-answer s (slotAt p k) b (putInto (slotOf p s k) b)
-      ∙ ap (λ (x : Content). putInto x b) (sym (reading-slots p s k (w .below)))
+  answer-at (put k b m) w =
+      storing-answer s (slotAt p k) b (putInto (slotOf p s k) b m)
+      ∙ ap (λ (x : Content). putInto x b m) (sym (reading-slots p s k (w .below)))
 
   holds-at : (j : Judged) → Sound p f j → endOf p ≤ length s → contents p (offerJudged p s j .store) ≡ heldAfter j (contents p s)
   holds-at (refuse r) w h = refl
-  holds-at (put k b) w h =
-      by (putInto (slotOf p s k) b) ∙ ap (λ (x : Content). kept (putInto x b) (contents p s) k b) (sym (reading-slots p s k (w .below)))
+  holds-at (put k b m) w h =
+      by (putInto (slotOf p s k) b m) ∙ ap (λ (x : Content). kept (putInto x b m) (contents p s) k b) (sym (reading-slots p s k (w .below)))
     where
       by : (a : Offered) → contents p (storing s (slotAt p k) b a .store) ≡ kept a (contents p s) k b
-      by Stored = storing-sets p s k b h (w .below) (w .fits)
-      by Repeat = refl
+      by (Stored n) = storing-sets p s k b h (w .below) (w .fits)
+      by (Repeat x) = refl
       by (Refused r) = refl
 
   leaves-at : (j : Judged) → Sound p f j → (o : Place) → meets p o ≡ false → contents o (offerJudged p s j .store) ≡ contents o s
   leaves-at (refuse r) w o m = refl
-  leaves-at (put k b) w o m = by (putInto (slotOf p s k) b)
+  leaves-at (put k b n) w o m = by (putInto (slotOf p s k) b n)
     where
       by : (a : Offered) → contents o (storing s (slotAt p k) b a .store) ≡ contents o s
-      by Stored = storing-leaves p o s k b m (w .below) (fits-room p (length b) (w .fits))
-      by Repeat = refl
+      by (Stored x) = storing-leaves p o s k b m (w .below) (fits-room p (length b) (w .fits))
+      by (Repeat x) = refl
       by (Refused r) = refl
 
   length-at : (j : Judged) → length (offerJudged p s j .store) ≡ length s
   length-at (refuse r) = refl
-  length-at (put k b) = storing-length s (slotAt p k) b (putInto (slotOf p s k) b)
+  length-at (put k b m) = storing-length s (slotAt p k) b (putInto (slotOf p s k) b m)
 
-  same-at : (j : Judged) → (offerJudged p s j .answer ≡ Stored → ⊥) → offerJudged p s j .store ≡ s
+  same-at : (j : Judged) → ((m : ℕ) → offerJudged p s j .answer ≡ Stored m → ⊥) → offerJudged p s j .store ≡ s
   same-at (refuse r) h = refl
-  same-at (put k b) h = storing-same s (slotAt p k) b (putInto (slotOf p s k) b) h
+  same-at (put k b m) h = storing-same s (slotAt p k) b (putInto (slotOf p s k) b m) h
 
   -- at most the slot of the packet's number changes
   pub slots-kept : (j : Judged) → Sound p f j → (c : List Content) (k : ℕ) → (k ≡ f .number → ⊥) → getD (heldAfter j c) k wrong ≡ getD c k wrong
   slots-kept (refuse r) w c k d = refl
-  slots-kept (put i b) w c k d = by (putInto (getD c i wrong) b)
+  slots-kept (put i b m) w c k d = by (putInto (getD c i wrong) b m)
     where
       by : (a : Offered) → getD (kept a c i b) k wrong ≡ getD c k wrong
-      by Stored = getD-set-other c i k (holding b) wrong (λ (z : k ≡ i). d (z ∙ w .number))
-      by Repeat = refl
+      by (Stored x) = getD-set-other c i k (holding b) wrong (λ (z : k ≡ i). d (z ∙ w .number))
+      by (Repeat x) = refl
       by (Refused r) = refl
 
 -- a slot that is empty, or holds the payload already, holds it afterwards
-pub held-after : (c : List Content) (k : ℕ) (b : List ℕ) → k < length c → (getD c k wrong ≡ holding []) ⊎ (getD c k wrong ≡ holding b) → getD (heldAfter (put k b) c) k wrong ≡ holding b
-held-after c k b h (inl e) = rw e (getD-set-same c k (holding b) wrong h)
-held-after c k [] h (inr e) = rw e (getD-set-same c k (holding []) wrong h)
-held-after c k (x ∷ b) h (inr e) = rw (e, same-self (x ∷ b)) e
+pub held-after : (c : List Content) (k : ℕ) (b : List ℕ) (m : ℕ) → k < length c → (getD c k wrong ≡ holding []) ⊎ (getD c k wrong ≡ holding b)
+    → getD (heldAfter (put k b m) c) k wrong ≡ holding b
+held-after c k b m h (inl e) = rw e (getD-set-same c k (holding b) wrong h)
+held-after c k [] m h (inr e) = rw e (getD-set-same c k (holding []) wrong h)
+held-after c k (x ∷ b) m h (inr e) = rw (e, same-self (x ∷ b)) e
+
+-- and what is answered is Stored or Repeat, with the bytes mended
+pub answer-after : (c : List Content) (k : ℕ) (b : List ℕ) (m : ℕ) → (getD c k wrong ≡ holding []) ⊎ (getD c k wrong ≡ holding b)
+    → (answered (put k b m) c ≡ Stored m) ⊎ (answered (put k b m) c ≡ Repeat m)
+answer-after c k b m (inl e) = inl (rw e refl)
+answer-after c k [] m (inr e) = inl (rw e refl)
+answer-after c k (x ∷ b) m (inr e) = inr (rw (e, same-self (x ∷ b)) refl)
 
 -- where the answer is Stored: the slot was empty, and holds the payload that was put; every other is as it was
-pub record Storing (p : Place) (f : Packet) (q : List ℕ) (c c′ : List Content) : Type 0 where
+pub record Storing (p : Place) (f : Packet) (q : List ℕ) (m : ℕ) (c c′ : List Content) : Type 0 where
   pub payload : List ℕ
-  pub judged : judge p f q ≡ put (f .number) payload
+  pub judged : judge p f q ≡ put (f .number) payload m
   pub empty : getD c (f .number) wrong ≡ holding []
   pub after : c′ ≡ set c (f .number) (holding payload)
 
-storing-known : (p : Place) (f : Packet) (q : List ℕ) (c c′ : List Content) (j : Judged) → judge p f q ≡ j → Sound p f j → answered j c ≡ Stored → c′ ≡ heldAfter j c → Storing p f q c c′
-storing-known p f q c c′ (refuse r) e w a h = let z : _≡_ {A = ℕ} 0 1 = cc in absurd (omega arith)
-storing-known p f q c c′ (put k b) e w a h = by (getD c k wrong) refl a h
+storing-known : (p : Place) (f : Packet) (q : List ℕ) (m : ℕ) (c c′ : List Content) (j : Judged) → judge p f q ≡ j → Sound p f j → answered j c ≡ Stored m → c′ ≡ heldAfter j c
+    → Storing p f q m c c′
+storing-known p f q m c c′ (refuse r) e w a h = let z : _≡_ {A = ℕ} 0 1 = cc in absurd (omega arith)
+storing-known p f q m c c′ (put k b n) e w a h = by (getD c k wrong) refl a h
   where
-    by : (x : Content) → getD c k wrong ≡ x → putInto x b ≡ Stored → c′ ≡ kept (putInto x b) c k b → Storing p f q c c′
+    by : (x : Content) → getD c k wrong ≡ x → putInto x b n ≡ Stored m → c′ ≡ kept (putInto x b n) c k b → Storing p f q m c c′
     by wrong z a h = let o : _≡_ {A = ℕ} 0 1 = cc in absurd (omega arith)
-    by (holding []) z a h = record {
-      payload = b;
-      judged = e ∙ ap (λ (x : ℕ). put x b) (w .number);
-      empty = ap (λ (x : ℕ). getD c x wrong) (sym (w .number)) ∙ z;
-      after = h ∙ ap (λ (x : ℕ). set c x (holding b)) (w .number);
-    }
+    by (holding []) z a h =
+        let same : n ≡ m = cc in
+        record {
+          payload = b;
+          judged = e ∙ ap₂ (λ (x y : ℕ). put x b y) (w .number) same;
+          empty = ap (λ (x : ℕ). getD c x wrong) (sym (w .number)) ∙ z;
+          after = h ∙ ap (λ (x : ℕ). set c x (holding b)) (w .number);
+        }
     by (holding (x ∷ d)) z a h = other (same (x ∷ d) b) a
       where
-        other : (t : Bool) → cond t Repeat (Refused Conflict) ≡ Stored → Storing p f q c c′
+        other : (t : Bool) → cond t (Repeat n) (Refused Conflict) ≡ Stored m → Storing p f q m c c′
         other true a = let o : _≡_ {A = ℕ} 0 1 = cc in absurd (omega arith)
         other false a = let o : _≡_ {A = ℕ} 0 1 = cc in absurd (omega arith)
 
@@ -242,18 +253,18 @@ module _ (h : Record) (s q : List ℕ) where
       by o (placed g f e i w) = length-at (getD (h .places) i unused) f s (judge (getD (h .places) i unused) f q)
 
   -- refused, or a repeat: the store is as it was
-  pub offer-unstored : (offerOf h s q .answer ≡ Stored → ⊥) → offerOf h s q .store ≡ s
+  pub offer-unstored : ((m : ℕ) → offerOf h s q .answer ≡ Stored m → ⊥) → offerOf h s q .store ≡ s
   offer-unstored = by (offerOf h s q) offer-case
     where
-      by : (o : Offering) → Case h s q o → (o .answer ≡ Stored → ⊥) → o .store ≡ s
+      by : (o : Offering) → Case h s q o → ((m : ℕ) → o .answer ≡ Stored m → ⊥) → o .store ≡ s
       by o (refused r) d = refl
       by o (placed g f e i w) d = same-at (getD (h .places) i unused) f s (judge (getD (h .places) i unused) f q) d
 
   pub offer-refused : (r : Refusal) → offerOf h s q .answer ≡ Refused r → offerOf h s q .store ≡ s
-  offer-refused r e = offer-unstored (λ (z : offerOf h s q .answer ≡ Stored). let o : _≡_ {A = ℕ} 0 1 = cc in omega arith)
+  offer-refused r e = offer-unstored (λ (m : ℕ) (z : offerOf h s q .answer ≡ Stored m). let o : _≡_ {A = ℕ} 0 1 = cc in omega arith)
 
-  pub offer-repeat : offerOf h s q .answer ≡ Repeat → offerOf h s q .store ≡ s
-  offer-repeat e = offer-unstored (λ (z : offerOf h s q .answer ≡ Stored). let o : _≡_ {A = ℕ} 0 1 = cc in omega arith)
+  pub offer-repeat : (n : ℕ) → offerOf h s q .answer ≡ Repeat n → offerOf h s q .store ≡ s
+  offer-repeat n e = offer-unstored (λ (m : ℕ) (z : offerOf h s q .answer ≡ Stored m). let o : _≡_ {A = ℕ} 0 1 = cc in omega arith)
 
   -- ---- the place that the packet names
   module _ (g : good (length s) (h .places) ≡ true) (f : Packet) (e : readOf q ≡ Sent f) (i : ℕ) (w : placeNamed (h .places) (packetName f) ≡ At i) where
@@ -271,10 +282,10 @@ module _ (h : Record) (s q : List ℕ) where
         ∙ holds-at (getD (h .places) i unused) f s (judge (getD (h .places) i unused) f q) offer-sound
         (named-facts (length s) (h .places) g (packetName f) i w .ends-within)
 
-    pub offer-stored : offerOf h s q .answer ≡ Stored
-        → Storing (getD (h .places) i unused) f q (contents (getD (h .places) i unused) s) (contents (getD (h .places) i unused) (offerOf h s q .store))
-    offer-stored a =
-        storing-known (getD (h .places) i unused) f q (contents (getD (h .places) i unused) s) _ (judge (getD (h .places) i unused) f q) refl offer-sound
+    pub offer-stored : (m : ℕ) → offerOf h s q .answer ≡ Stored m
+        → Storing (getD (h .places) i unused) f q m (contents (getD (h .places) i unused) s) (contents (getD (h .places) i unused) (offerOf h s q .store))
+    offer-stored m a =
+        storing-known (getD (h .places) i unused) f q m (contents (getD (h .places) i unused) s) _ (judge (getD (h .places) i unused) f q) refl offer-sound
         (sym offer-answer ∙ a) offer-holds
 
   -- ---- a place that it does not name

@@ -15,9 +15,9 @@ use Rattle.record.specs.Offer.{Judged, refuse, put, Offering}
 abbrev pub Comes : Offering → Offered → List ℕ → Type 0
 Comes o a s = (a ≡ o .answer) × (s ≡ o .store)
 
--- a payload with what is said of its CRC
-abbrev pub judgeCrc : ℕ → List ℕ → Bool → Judged
-judgeCrc number b agreed = cond agreed (put number b) (refuse Crc)
+-- a payload of which m bytes were mended, with what is said of its CRC
+abbrev pub judgeCrc : ℕ → List ℕ → ℕ → Bool → Judged
+judgeCrc number b m agreed = cond agreed (put number b m) (refuse Crc)
 
 -- the refusal of a reading that is one
 abbrev pub refusalIn : Reading → Refusal

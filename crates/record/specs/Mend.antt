@@ -1,4 +1,4 @@
--- A packet's payload, repaired row by row: document 01, section 5, Offer.
+-- A packet's payload, repaired row by row: document 01, section 5, Offer; how many bytes of it were mended: document 02, R-7.
 -- Assumes nothing.
 use mathlib.Core.Bool.{cond}
 use mathlib.Core.List.{List}
@@ -11,6 +11,6 @@ use Rattle.code.specs.Mend.{Mended, whole, mendRows}
 abbrev pub payloadIn : List ℕ → List ℕ
 payloadIn q = take (length q - 18) (drop 14 q)
 
--- with protection every row is repaired; without, the payload is taken as it is
+-- with protection every row is repaired, and what was mended is added up over the rows; without, the payload is taken as it is, and nothing was
 unfoldable pub mendedIn : ℕ → List ℕ → Mended
-mendedIn protection q = cond (eqb protection 0) (whole (payloadIn q)) (mendRows (length (payloadIn q) / 255) 0 (payloadIn q))
+mendedIn protection q = cond (eqb protection 0) (whole (payloadIn q) 0) (mendRows (length (payloadIn q) / 255) 0 (payloadIn q))

@@ -1,4 +1,4 @@
--- Offer: document 01, section 5; by resource and type, document 02, R-1. Refusals in the order 9, then 1 to 8 as the field reader gives them, then 10 to 16.
+-- Offer: document 01, section 5; by resource and type, document 02, R-1; with the bytes mended, R-7. Refusals in the order 9, then 1 to 8 as the field reader gives them, then 10 to 16.
 -- Assumes nothing.
 use mathlib.Core.Bool.{Bool, cond, not, _&&_, _||_}
 use mathlib.Core.List.{List, [], _∷_}
@@ -38,14 +38,14 @@ differs p f =
     not (eqb (f .update) (p .update)) || (not (eqb (f .count) (p .count))
     || (not (eqb (f .protection) (p .protection)) || (eqb (f .protection) 1 && not (eqb (f .rows) (p .rows)))))
 
--- what a packet comes to at a place, whatever the store holds: a refusal, or a payload for a slot
+-- what a packet comes to at a place, whatever the store holds: a refusal, or for the slot of its number a payload of which so many bytes were mended
 pub data Judged : Type 0 where
   refuse : Refusal → Judged
-  put : ℕ → List ℕ → Judged
+  put : ℕ → List ℕ → ℕ → Judged
 
 abbrev pub judgeMended : ℕ → List ℕ → Mended → Judged
 judgeMended number q (broken i) = refuse (Repair i)
-judgeMended number q (whole b) = cond (agrees q b) (put number b) (refuse Crc)
+judgeMended number q (whole b m) = cond (agrees q b) (put number b m) (refuse Crc)
 
 -- by any mending of packets; ours is `mendedIn`
 unfoldable pub judgeBy : (ℕ → List ℕ → Mended) → Place → Packet → List ℕ → Judged
@@ -56,11 +56,11 @@ judgeBy mend p f q =
 abbrev pub judge : Place → Packet → List ℕ → Judged
 judge = judgeBy mendedIn
 
--- what a payload comes to at what a slot holds
-abbrev pub putInto : Content → List ℕ → Offered
-putInto wrong b = Offered.Refused Slot
-putInto (holding []) b = Stored
-putInto (holding (x ∷ a)) b = cond (same (x ∷ a) b) Repeat (Offered.Refused Conflict)
+-- what a payload comes to at what a slot holds; Stored and Repeat carry how many bytes of it were mended
+abbrev pub putInto : Content → List ℕ → ℕ → Offered
+putInto wrong b m = Offered.Refused Slot
+putInto (holding []) b m = Stored m
+putInto (holding (x ∷ a)) b m = cond (same (x ∷ a) b) (Repeat m) (Offered.Refused Conflict)
 
 -- what is answered, and what the store then holds
 pub record Offering : Type 0 where
@@ -69,13 +69,13 @@ pub record Offering : Type 0 where
 
 -- the store changes with the answer Stored alone
 abbrev pub storing : List ℕ → ℕ → List ℕ → Offered → Offering
-storing s at b Stored = record { answer = Stored; store = stored s at b }
-storing s at b Repeat = record { answer = Repeat; store = s }
+storing s at b (Stored m) = record { answer = Stored m; store = stored s at b }
+storing s at b (Repeat m) = record { answer = Repeat m; store = s }
 storing s at b (Offered.Refused r) = record { answer = Offered.Refused r; store = s }
 
 abbrev pub offerJudged : Place → List ℕ → Judged → Offering
 offerJudged p s (refuse r) = record { answer = Offered.Refused r; store = s }
-offerJudged p s (put k b) = storing s (slotAt p k) b (putInto (slotOf p s k) b)
+offerJudged p s (put k b m) = storing s (slotAt p k) b (putInto (slotOf p s k) b m)
 
 module _ (mend : ℕ → List ℕ → Mended) where
   abbrev pub offerFound : Record → List ℕ → Packet → List ℕ → Found → Offering

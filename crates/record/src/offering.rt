@@ -46,11 +46,18 @@ fn differs(p: Place, fields: Packet) -> bool
     fields.protection == 1 && fields.rows != p.rows
 }
 
-// A payload meets the slot of its number: an empty one takes it, and no other changes. `agrees` says whether the packet's CRC is that of its header and this
-// payload; where it is not, the slot is not looked at.
-fn put_in(p: Place, store: &mut [u8], number: u32, payload: &[u8], agrees: bool) -> Offered
+// A payload, of which `mended` bytes were mended, meets the slot of its number: an empty one takes it, and no other changes. `agrees` says whether the packet's CRC is
+// that of its header and this payload; where it is not, the slot is not looked at.
+fn put_in(
+    p: Place,
+    store: &mut [u8],
+    number: u32,
+    payload: &[u8],
+    mended: u32,
+    agrees: bool,
+) -> Offered
     requires { ⌜ (slotAt p number + (p .slot + 2) ≤ length (now store)) × (length (now payload) ≤ p .slot) ⌝ }
-    ensures { λ r. ⌜ Comes (offerJudged p (now (store .entry)) (judgeCrc number (now (payload .entry)) agrees)) r (now (store .exit)) ⌝ }
+    ensures { λ r. ⌜ Comes (offerJudged p (now (store .entry)) (judgeCrc number (now (payload .entry)) mended agrees)) r (now (store .exit)) ⌝ }
 {
     if !agrees {
         return Offered::Refused(Refusal::Crc);
@@ -62,11 +69,11 @@ fn put_in(p: Place, store: &mut [u8], number: u32, payload: &[u8], agrees: bool)
     }
     if n == 0 {
         contents::put_slot(store, at, payload);
-        return Offered::Stored;
+        return Offered::Stored(mended);
     }
     let from = at + 2;
     if words::same(&store[from..from + n], payload) {
-        return Offered::Repeat;
+        return Offered::Repeat(mended);
     }
     Offered::Refused(Refusal::Conflict)
 }
@@ -79,12 +86,20 @@ fn offer_rows(p: Place, store: &mut [u8], number: u32, packet: &[u8], payload: &
     let n = payload.len();
     let mut buffer = [0u8; Packet::PROTECTED];
     words::copy_in(&mut buffer, 0, payload);
-    let verdict = repair::mend(&mut buffer[..n]);
+    let counted = repair::mend(&mut buffer[..n]);
+    let verdict = counted.verdict;
     if let Verdict::Refused(refusal) = verdict {
         return Offered::Refused(refusal);
     }
-    let mended = &buffer[..n];
-    put_in(p, store, number, mended, sealing::agrees(packet, mended))
+    let repaired = &buffer[..n];
+    put_in(
+        p,
+        store,
+        number,
+        repaired,
+        counted.count,
+        sealing::agrees(packet, repaired),
+    )
 }
 
 // A packet that was read, at the place that holds its resource and type.
@@ -106,6 +121,7 @@ fn offer_at(p: Place, store: &mut [u8], fields: Packet, packet: &[u8]) -> Offere
             store,
             fields.number,
             payload,
+            0,
             sealing::agrees(packet, payload),
         );
     }

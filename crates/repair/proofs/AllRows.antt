@@ -1,37 +1,37 @@
 -- Rows mended all or none: the row at the front, and those behind it, come to what all come to (`mendRows` of crate code).
 -- Assumes nothing.
 use mathlib.Core.Path.{_≡_, refl, sym, ap, ap₂, subst, _∙_}
-use mathlib.Core.Bool.{Bool, true, false, cond}
+use mathlib.Core.Bool.{Bool, true, false}
 use mathlib.Core.List.{List, [], _∷_, _++_, append-nil}
 use Prim.Native.Nat.{ℕ, zero, suc, _+_, _-_, _*_, _/_, _%_, _≤_, _<_}
 use native.Mathlib.Nat.{min-eq-right, lt-of-lt-of-le, le-of-eq}
 use native.Mathlib.Omega.{arith}
-use borrow.Author.Tests.{eq-eqb, ne-eqb, le-leb, lt-leb}
+use borrow.Author.Tests.{eq-eqb, ne-eqb, le-leb, lt-leb, lt-ltb, le-ltb}
 use lib.ListN.{length, getD, take, drop, set, length-append, length-drop, take-append-drop, List·getD-append}
 use lib.Seq.{sets, set-append-left, length-take-le, take-all, drop-drop}
 use borrow.Rule.Slice.PartMut.{putMid}
 use Rattle.ground.specs.Bits.{sum}
 use Rattle.ground.proofs.Writing.{sets-front, sets-all}
-use Rattle.refusals.specs.declared.Verdict.{Verdict}
 use Rattle.refusals.specs.declared.Verdict.the-variants.{Accepted, Refused}
 use Rattle.refusals.specs.declared.Refusal.{Refusal}
 use Rattle.refusals.specs.declared.Refusal.the-variants.{Short, Repair}
-use Rattle.code.specs.Code.{Bytes}
+use Rattle.code.specs.Code.{Bytes, distance}
 use Rattle.code.specs.Search.{Repaired, remainder}
 use Rattle.code.specs.Search.Repaired.{found, none}
 use Rattle.code.specs.Repair.{repairOf}
 use Rattle.code.specs.Mend.{Mended as Whole, whole, broken, behind, mendRows}
 use Rattle.code.proofs.Lists.{zeros, length-zeros}
 use Rattle.code.proofs.Division.{length-remainder, remainder-bytes}
-use Rattle.code.proofs.Mend.{mend-first, none-left, bytes-split}
+use Rattle.code.proofs.Mend.{mend-first, mend-few, none-left, bytes-split}
 use Rattle.errata.specs.declared.Errata.{Errata}
 use Rattle.errata.specs.Errata.{errataOf}
 use Rattle.errata.specs.InnerErrata.{entries, mendedBy, Ordered}
 use Rattle.errata.proofs.Mending.{mended-length}
-use Rattle.errata.proofs.Moved.{errata-ordered, errata-found, errata-none}
+use Rattle.errata.proofs.Moved.{errata-ordered, errata-found, errata-counted, errata-none}
 use Rattle.encoding.specs.Encode.{remaindersOf}
 use Rattle.encoding.proofs.Feeding.{rest-there, rest-among, length-remainders}
-use Rattle.repair.specs.Repair.{Mending, mendingAs, mendingOf, Mends}
+use Rattle.repair.specs.declared.Counted.{Counted}
+use Rattle.repair.specs.Repair.{Mending, nothingMended, mendingAs, mendingOf, Mends}
 use Rattle.repair.specs.InnerRows.{Resting, Ends, Finished, toldOf}
 
 -- ---- the row at the front
@@ -73,54 +73,56 @@ module _ (b : List ℕ) (i : ℕ) (some : 255 ≤ length b) where
   abbrev others : List ℕ
   others = drop 255 b
 
-  all : (a : Repaired) → repairOf first ≡ a → mendRows (length b / 255) i b ≡ behind a i (mendRows (length others / 255) (i + 1) others)
+  all : (a : Repaired) → repairOf first ≡ a → mendRows (length b / 255) i b ≡ behind first a i (mendRows (length others / 255) (i + 1) others)
   all a e =
       let n : length b / 255 - 1 ≡ length others / 255 = omega (arith, length-drop 255 b) in
       let k : suc i ≡ i + 1 = omega arith in
       mend-first (length b / 255) i b (omega arith)
-      ∙ ap (λ (x : Repaired). behind x i (mendRows (length b / 255 - 1) (suc i) others)) e
-      ∙ ap₂ (λ (x y : ℕ). behind a i (mendRows x y others)) n k
+      ∙ ap (λ (x : Repaired). behind first x i (mendRows (length b / 255 - 1) (suc i) others)) e
+      ∙ ap₂ (λ (x y : ℕ). behind first a i (mendRows x y others)) n k
 
   pub row-broken : i < 15 → repairOf first ≡ none → Ends b (mendRows (length b / 255) i b) i b
   row-broken h e = subst (λ (m : Whole). Ends b m i b) (sym (all none e)) (h, refl, refl)
 
-  module _ (at c : List ℕ) (n : ℕ) (e : repairOf first ≡ found (mendedBy first (entries at) (entries c) n)) where
+  module _ (at c : List ℕ) (n : ℕ) (e : repairOf first ≡ found (mendedBy first (entries at) (entries c) n))
+      (counted : n ≡ distance first (mendedBy first (entries at) (entries c) n)) where
     abbrev fixed : List ℕ
     fixed = mendedBy first (entries at) (entries c) n
 
     -- the rows behind came to m, ended as r, and left `rest`
     pub row-done : (r : ℕ) (part rest mid out : List ℕ) → part ≡ others → Ends part (mendRows (length part / 255) (i + 1) part) r rest → mid ≡ first ++ rest
-        → {x : ℕ} → (x ≡ r) × Finished r mid at c n out → Ends b (mendRows (length b / 255) i b) x out
+        → {x : ℕ} → Finished r mid at c n x out → Ends b (mendRows (length b / 255) i b) x out
     row-done r part rest mid out s p q {x} f =
-        subst (λ (y : ℕ). Ends b (mendRows (length b / 255) i b) y out) (sym (f .0))
-        (by (mendRows (length others / 255) (i + 1) others) refl (subst (λ (l : List ℕ). Ends l (mendRows (length l / 255) (i + 1) l) r rest) s p))
+        by (mendRows (length others / 255) (i + 1) others) refl (subst (λ (l : List ℕ). Ends l (mendRows (length l / 255) (i + 1) l) r rest) s p)
       where
-        by : (m : Whole) → mendRows (length others / 255) (i + 1) others ≡ m → Ends others m r rest → Ends b (mendRows (length b / 255) i b) r out
-        by (whole s) z p =
-            let g : mendRows (length b / 255) i b ≡ whole (fixed ++ s) = all (found fixed) e ∙ ap (behind (found fixed) i) z in
-            subst (λ (m : Whole). Ends b m r out) (sym g) (
-              p .0,
-              f .1 .added (omega (arith, p .0)) ∙ ap (λ (l : List ℕ). mendedBy l (entries at) (entries c) n) (q ∙ ap (λ (l : List ℕ). first ++ l) (p .1))
+        by : (m : Whole) → mendRows (length others / 255) (i + 1) others ≡ m → Ends others m r rest → Ends b (mendRows (length b / 255) i b) x out
+        by (whole s k) z p =
+            let g : mendRows (length b / 255) i b ≡ whole (fixed ++ s) (distance first fixed + k) = all (found fixed) e ∙ ap (behind first (found fixed) i) z in
+            let d = f .added (omega (arith, p .0)) in
+            subst (λ (m : Whole). Ends b m x out) (sym g) (
+              omega (arith, d .0, p .0, counted),
+              d .1 ∙ ap (λ (l : List ℕ). mendedBy l (entries at) (entries c) n) (q ∙ ap (λ (l : List ℕ). first ++ l) (p .1))
                   ∙ mended-front first s (entries at) (entries c) n (length-take-le 255 b some),
             )
         by (broken j) z p =
-            let g : mendRows (length b / 255) i b ≡ broken j = all (found fixed) e ∙ ap (behind (found fixed) i) z in
-            subst (λ (m : Whole). Ends b m r out) (sym g)
-            (p .0, p .1, f .1 .kept (omega (arith, p .0, p .1)) ∙ q ∙ ap (λ (l : List ℕ). first ++ l) (p .2) ∙ take-append-drop 255 b)
+            let g : mendRows (length b / 255) i b ≡ broken j = all (found fixed) e ∙ ap (behind first (found fixed) i) z in
+            let d = f .kept (omega (arith, p .0, p .1)) in
+            subst (λ (m : Whole). Ends b m x out) (sym g)
+            (p .0, d .0 ∙ p .1, d .1 ∙ q ∙ ap (λ (l : List ℕ). first ++ l) (p .2) ∙ take-append-drop 255 b)
 
 -- ---- the row at the front mended
 
-pub nothing-added : (r : ℕ) (b at c : List ℕ) (n : ℕ) → n ≡ 0 → Finished r b at c n b
+pub nothing-added : (r : ℕ) (b at c : List ℕ) (n : ℕ) → n ≡ 0 → Finished r b at c n r b
 unfolding mendedBy
 nothing-added r b at c n e =
-    record { kept = λ h. refl; added = λ h. sym (ap (λ (k : ℕ). mendedBy b (entries at) (entries c) k) e) }
+    record { kept = λ h. (refl, refl); added = λ h. (omega arith, sym (ap (λ (k : ℕ). mendedBy b (entries at) (entries c) k) e)) }
 
-pub not-added : (r : ℕ) (b at c : List ℕ) (n : ℕ) → r < 15 → Finished r b at c n b
-not-added r b at c n h = record { kept = λ l. refl; added = λ l. absurd (omega arith) }
+pub not-added : (r : ℕ) (b at c : List ℕ) (n : ℕ) → r < 15 → Finished r b at c n r b
+not-added r b at c n h = record { kept = λ l. (refl, refl); added = λ l. absurd (omega arith) }
 
 -- the row at the front, held by value, mended and put back
 pub put-back : (r : ℕ) (b at c : List ℕ) (n : ℕ) (fixed out : List ℕ) → 15 ≤ r → 255 ≤ length b → fixed ≡ mendedBy (take 255 b) (entries at) (entries c) n
-    → out ≡ sets b 0 fixed → Finished r b at c n out
+    → out ≡ sets b 0 fixed → Finished r b at c n (r + n) out
 put-back r b at c n fixed out l h f g =
     let k : length (take 255 b) ≡ 255 = length-take-le 255 b h in
     let m : List ℕ = mendedBy (take 255 b) (entries at) (entries c) n in
@@ -128,10 +130,13 @@ put-back r b at c n fixed out l h f g =
     record {
       kept = λ x. absurd (omega arith);
       added =
-          λ x. g ∙ ap (sets b 0) f
-          ∙ sets-front b m (omega arith) ∙ ap (λ (i : ℕ). m ++ drop i b) s
-          ∙ sym (mended-front (take 255 b) (drop 255 b) (entries at) (entries c) n k)
-          ∙ ap (λ (l : List ℕ). mendedBy l (entries at) (entries c) n) (take-append-drop 255 b);
+          λ x. (
+            refl,
+            g ∙ ap (sets b 0) f
+                ∙ sets-front b m (omega arith) ∙ ap (λ (i : ℕ). m ++ drop i b) s
+                ∙ sym (mended-front (take 255 b) (drop 255 b) (entries at) (entries c) n k)
+                ∙ ap (λ (l : List ℕ). mendedBy l (entries at) (entries c) n) (take-append-drop 255 b),
+          );
     }
 
 -- ---- what is known of the row at the front, and of those behind it
@@ -195,33 +200,56 @@ module _ (b : List ℕ) (some : 255 ≤ length b) (bytes : Bytes b) (rest : List
     pub row-found : e .fits ≡ true → repairOf (take 255 b) ≡ found (mendedBy (take 255 b) (entries (e .at)) (entries (e .values)) (e .n))
     row-found = errata-found rest rest-long rest-bytes (take 255 b) long row-bytes left e told
 
+    pub row-counted : e .fits ≡ true → e .n ≡ distance (take 255 b) (mendedBy (take 255 b) (entries (e .at)) (entries (e .values)) (e .n))
+    row-counted = errata-counted rest rest-long rest-bytes (take 255 b) long row-bytes left e told
+
     pub row-none : e .fits ≡ false → repairOf (take 255 b) ≡ none
     row-none = errata-none rest rest-long rest-bytes (take 255 b) long row-bytes left e told
 
+-- ---- how much is counted: at most eight bytes in each row
+
+pub ends-few : (b : List ℕ) (i : ℕ) (r : ℕ) (out : List ℕ) → Ends b (mendRows (length b / 255) i b) r out → r ≤ 15 + length b / 255 * 8
+ends-few b i r out = by (mendRows (length b / 255) i b) refl
+  where
+    by : (m : Whole) → mendRows (length b / 255) i b ≡ m → Ends b m r out → r ≤ 15 + length b / 255 * 8
+    by (whole c k) e p = omega (arith, p .0, mend-few (length b / 255) i b c k e)
+    by (broken k) e p = omega (arith, p .0, p .1)
+
+-- in the rows behind the first, of fifteen
+pub ended-few : (b : List ℕ) (i : ℕ) (rests : List ℕ) → Resting b i rests → 255 ≤ length b → (part : List ℕ) → part ≡ drop 255 b
+    → (r : ℕ) (out : List ℕ) → Ends part (mendRows (length part / 255) (i + 1) part) r out → r ≤ 127
+ended-few b i rests w h part e r out p =
+    let n : length part / 255 ≤ 14 = omega (arith, ap length e, length-drop 255 b, w .few) in
+    omega (arith, ends-few part (i + 1) r out p)
+
 -- ---- the call's ends
 
-pub ends-few : (b : List ℕ) (m : Whole) (r : ℕ) (out : List ℕ) → Ends b m r out → r ≤ 15
-ends-few b (whole c) r out p = omega (arith, p .0)
-ends-few b (broken i) r out p = omega (arith, p .0, p .1)
-
-ends-mends : (b : List ℕ) (m : Whole) (r : ℕ) (v : Verdict) (out : List ℕ) → Ends b m r out → v ≡ toldOf r → Mends (mendingAs b m) v out
+pub ended-mended : (r : ℕ) → 15 ≤ r → toldOf r ≡ record { verdict = Accepted; count = r - 15 }
 unfolding toldOf
-ends-mends b (whole c) r v out p e = record { answers = e ∙ ap toldOf (p .0); leaves = p .1 }
-ends-mends b (broken i) r v out p e =
-    let ne : i ≡ 15 → ⊥ = λ z. omega (arith, p .0) in
-    record { answers = e ∙ ap toldOf (p .1) ∙ ap (λ (t : Bool). cond t Accepted (Refused (Repair i))) (ne-eqb i 15 ne); leaves = p .2 }
+ended-mended r h = rw (le-ltb r 15 h) refl
 
-pub mend-short : (b : List ℕ) → (length b % 255 ≡ 0 → ⊥) → Mends (mendingOf b) (Refused Short) b
+pub ended-broken : (r : ℕ) → r < 15 → toldOf r ≡ nothingMended (Repair r)
+unfolding toldOf
+ended-broken r h = rw (lt-ltb r 15 h) refl
+
+ends-mends : (b : List ℕ) (m : Whole) (r : ℕ) (v : Counted) (out : List ℕ) → Ends b m r out → v ≡ toldOf r → Mends (mendingAs b m) v out
+ends-mends b (whole c k) r v out p e =
+    let n : r - 15 ≡ k = omega (arith, p .0) in
+    record { answers = e ∙ ended-mended r (omega (arith, p .0)) ∙ ap (λ (x : ℕ). record { verdict = Accepted; count = x }) n; leaves = p .1 }
+ends-mends b (broken i) r v out p e =
+    record { answers = e ∙ ended-broken r (omega (arith, p .0, p .1)) ∙ ap (λ (k : ℕ). nothingMended (Repair k)) (p .1); leaves = p .2 }
+
+pub mend-short : (b : List ℕ) → (length b % 255 ≡ 0 → ⊥) → Mends (mendingOf b) (nothingMended Short) b
 unfolding mendingOf
 mend-short b h = rw (ne-eqb (length b % 255) 0 h) (record { answers = refl; leaves = refl })
 
 module _ (b : List ℕ) (m : length b % 255 ≡ 0) where
-  pub mend-long : 3825 < length b → Mends (mendingOf b) (Refused Short) b
+  pub mend-long : 3825 < length b → Mends (mendingOf b) (nothingMended Short) b
   unfolding mendingOf
   mend-long h = rw (eq-eqb (length b % 255) 0 m, lt-leb (length b) 3825 h) (record { answers = refl; leaves = refl })
 
   module _ (h : length b ≤ 3825) where
-    pub mend-all : (r : ℕ) (v : Verdict) (out : List ℕ) → Ends b (mendRows (length b / 255) 0 b) r out → v ≡ toldOf r → Mends (mendingOf b) v out
+    pub mend-all : (r : ℕ) (v : Counted) (out : List ℕ) → Ends b (mendRows (length b / 255) 0 b) r out → v ≡ toldOf r → Mends (mendingOf b) v out
     unfolding mendingOf
     mend-all r v out p e =
         rw (eq-eqb (length b % 255) 0 m, le-leb (length b) 3825 h) (ends-mends b (mendRows (length b / 255) 0 b) r v out p e)
@@ -241,30 +269,32 @@ module _ (b : List ℕ) (m : length b % 255 ≡ 0) where
 
 -- ---- what an answer of `mend` tells of whole rows
 
-module _ (b : List ℕ) (m : length b % 255 ≡ 0) (h : length b ≤ 3825) (v : Verdict) (out : List ℕ) (p : Mends (mendingOf b) v out) where
+module _ (b : List ℕ) (m : length b % 255 ≡ 0) (h : length b ≤ 3825) (v : Counted) (out : List ℕ) (p : Mends (mendingOf b) v out) where
   mended-as : (w : Whole) → mendRows (length b / 255) 0 b ≡ w → Mends (mendingAs b w) v out
   unfolding mendingOf
   mended-as w e =
       subst (λ (x : Mending). Mends x v out) (rw (eq-eqb (length b % 255) 0 m, le-leb (length b) 3825 h) (ap (mendingAs b) e)) p
 
-  pub mend-accepted : v ≡ Accepted → mendRows (length b / 255) 0 b ≡ whole out
+  pub mend-accepted : v .verdict ≡ Accepted → mendRows (length b / 255) 0 b ≡ whole out (v .count)
   mend-accepted e = by (mendRows (length b / 255) 0 b) refl
     where
-      by : (w : Whole) → mendRows (length b / 255) 0 b ≡ w → w ≡ whole out
-      by (whole c) f = ap whole (sym (mended-as (whole c) f .leaves))
+      by : (w : Whole) → mendRows (length b / 255) 0 b ≡ w → w ≡ whole out (v .count)
+      by (whole c k) f =
+          let m = mended-as (whole c k) f in
+          ap₂ whole (sym (m .leaves)) (sym (ap (λ (x : Counted). x .count) (m .answers)))
       by (broken i) f =
-          let x : Accepted ≡ Refused (Repair i) = sym e ∙ mended-as (broken i) f .answers in
+          let x : Accepted ≡ Refused (Repair i) = sym e ∙ ap (λ (x : Counted). x .verdict) (mended-as (broken i) f .answers) in
           let z : _≡_ {A = ℕ} 0 1 = cc in
           absurd (omega arith)
 
-  pub mend-refused : (r : Refusal) → v ≡ Refused r → (i : ℕ) × (r ≡ Repair i) × (mendRows (length b / 255) 0 b ≡ broken i)
+  pub mend-refused : (r : Refusal) → v .verdict ≡ Refused r → (i : ℕ) × (r ≡ Repair i) × (mendRows (length b / 255) 0 b ≡ broken i)
   mend-refused r e = by (mendRows (length b / 255) 0 b) refl
     where
       by : (w : Whole) → mendRows (length b / 255) 0 b ≡ w → (i : ℕ) × (r ≡ Repair i) × (w ≡ broken i)
-      by (whole c) f =
-          let x : Refused r ≡ Accepted = sym e ∙ mended-as (whole c) f .answers in
+      by (whole c k) f =
+          let x : Refused r ≡ Accepted = sym e ∙ ap (λ (x : Counted). x .verdict) (mended-as (whole c k) f .answers) in
           let z : _≡_ {A = ℕ} 0 1 = cc in
           absurd (omega arith)
       by (broken i) f =
-          let x : Refused r ≡ Refused (Repair i) = sym e ∙ mended-as (broken i) f .answers in
+          let x : Refused r ≡ Refused (Repair i) = sym e ∙ ap (λ (x : Counted). x .verdict) (mended-as (broken i) f .answers) in
           (i, cc, refl)

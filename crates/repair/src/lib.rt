@@ -3,7 +3,7 @@
 ghost use mathlib.Core.Path.{_≡_};
 ghost use Prim.Native.Nat.{_≤_};
 ghost use Rattle.repair.specs.InnerRows.{toldOf};
-ghost use Rattle.repair.specs.Repair.{mendingOf, Mends};
+ghost use Rattle.repair.specs.Repair.{nothingMended, mendingOf, Mends};
 
 mod rows;
 
@@ -11,28 +11,47 @@ use packet::Packet;
 use refusals::Refusal;
 use refusals::Verdict;
 
+// What mending answers, and how many bytes it mended; 0 beside a refusal.
+pub struct Counted {
+    pub verdict: Verdict,
+    pub count: u32,
+}
+
 // Repairs each of up to fifteen rows that stand one behind the other, where they stand: 13, with the first row that has no coded row within eight bytes, and 1 where
 // they are not whole rows or more than fifteen. Refused, nothing is changed.
-pub fn mend(rows: &mut [u8]) -> Verdict
+pub fn mend(rows: &mut [u8]) -> Counted
     ensures { λ r. ⌜ Mends (mendingOf (now (rows .entry))) r (now (rows .exit)) ⌝ }
 {
     if rows.len() % 255 != 0 {
-        return Verdict::Refused(Refusal::Short);
+        return refused(Refusal::Short);
     }
     if Packet::PROTECTED < rows.len() {
-        return Verdict::Refused(Refusal::Short);
+        return refused(Refusal::Short);
     }
     let rests = encoding::remainders(rows);
     told(rows::mend_from(rows, 0, &rests))
 }
 
-// What is told of rows by the first that is broken, of fifteen.
-fn told(broken: usize) -> Verdict
-    requires { ⌜ broken ≤ 15 ⌝ }
-    ensures { λ r. ⌜ r ≡ toldOf broken ⌝ }
+// Beside a refusal nothing is mended.
+fn refused(refusal: Refusal) -> Counted
+    ensures { λ r. ⌜ r ≡ nothingMended refusal ⌝ }
 {
-    if broken == 15 {
-        return Verdict::Accepted;
+    Counted {
+        verdict: Verdict::Refused(refusal),
+        count: 0,
     }
-    Verdict::Refused(Refusal::Repair(broken as u32))
+}
+
+// What is told of rows by what they end as: the first that is broken, of fifteen, or 15 and as many as the bytes that were mended.
+fn told(ended: usize) -> Counted
+    requires { ⌜ ended ≤ 135 ⌝ }
+    ensures { λ r. ⌜ r ≡ toldOf ended ⌝ }
+{
+    if ended < 15 {
+        return refused(Refusal::Repair(ended as u32));
+    }
+    Counted {
+        verdict: Verdict::Accepted,
+        count: (ended - 15) as u32,
+    }
 }

@@ -35,24 +35,24 @@ fn corrected(rows: &[u8], e: Errata) -> [u8; 255]
     row
 }
 
-// Where the rows behind were mended, none of them broken, corrects the row at the front. A row with nothing to add is right as it stands.
-fn finish(broken: usize, rows: &mut [u8], e: Errata) -> usize
-    requires { ⌜ Ordered (e .n) (e .at) × (255 ≤ length (now rows)) ⌝ }
-    ensures { λ r. ⌜ (r ≡ broken) × Finished broken (now (rows .entry)) (e .at) (e .values) (e .n) (now (rows .exit)) ⌝ }
+// Where the rows behind were mended, none of them broken, corrects the row at the front, and counts its bytes to theirs. A row with nothing to add is right as it stands.
+fn finish(ended: usize, rows: &mut [u8], e: Errata) -> usize
+    requires { ⌜ Ordered (e .n) (e .at) × (255 ≤ length (now rows)) × (ended ≤ 127) ⌝ }
+    ensures { λ r. ⌜ Finished ended (now (rows .entry)) (e .at) (e .values) (e .n) r (now (rows .exit)) ⌝ }
 {
-    if broken < 15 {
-        return broken;
+    if ended < 15 {
+        return ended;
     }
     if e.n == 0 {
-        return broken;
+        return ended;
     }
     let row = corrected(rows, e);
     words::copy_in(rows, 0, &row);
-    broken
+    ended + e.n
 }
 
 // Mends the rows, of which the first is row i, or none of them: what was found of a row waits until all rows behind it are found. The first row that has no coded
-// row within eight bytes; 15, which no row is, where all are mended.
+// row within eight bytes; where all are mended 15, which no row is, and as many more as the bytes that were mended.
 pub(crate) fn mend_from(rows: &mut [u8], i: usize, rests: &[u8; 240]) -> usize
     requires { ⌜ Resting (now rows) i (now rests) ⌝ }
     ensures { λ r. ⌜ Ends (now (rows .entry)) (mendRows (length (now (rows .entry)) / 255) i (now (rows .entry))) r (now (rows .exit)) ⌝ }
@@ -64,6 +64,6 @@ pub(crate) fn mend_from(rows: &mut [u8], i: usize, rests: &[u8; 240]) -> usize
     if !e.fits {
         return i;
     }
-    let broken = mend_from(&mut rows[255..], i + 1, rests);
-    finish(broken, rows, e)
+    let ended = mend_from(&mut rows[255..], i + 1, rests);
+    finish(ended, rows, e)
 }

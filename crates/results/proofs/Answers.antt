@@ -24,5 +24,8 @@ standing-as-one κs a r s d e p q = (equation p q, refl)
 pub put-if-one : OneResult answers.put_if.ended answers.put_if.Reads.Learnt
 put-if-one κs a r s d e p q = (equation (p .answers) (q .answers), after 2 (lent (equation (p .leaves) (q .leaves)) refl))
 
+pub with-value-one : OneResult answers.with_value.ended answers.with_value.Reads.Learnt
+with-value-one κs a r s d e p q = (equation p q, refl)
+
 pub composed-as-one : OneResult answers.composed_as.ended answers.composed_as.Reads.Learnt
 composed-as-one κs a r s d e p q = (equation p q, refl)

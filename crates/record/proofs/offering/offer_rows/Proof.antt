@@ -68,8 +68,8 @@ array-share-prefix-buffer c =
     let m = c .before .before .before in
     omega (arith, long m, length-append (m .mend .last .0) (drop (length (b (copied m))) (copied m .copy-in .last .0)))
 
-slice-aggregate-mended : tie.Need-slice-aggregate-mended
-slice-aggregate-mended c =
+slice-aggregate-repaired : tie.Need-slice-aggregate-repaired
+slice-aggregate-repaired c =
     let m = c .before .before .before .before in
     sym (ap length (front m (drop (length (b (copied m))) (copied m .copy-in .last .0))) ∙ long m)
 
@@ -90,8 +90,8 @@ returns-2 c =
     let a = c .before .before .before .before .before .before .before .before .before .before .before .before .before .before .before .before .before .args in
     come
     (ap (offerJudged (a .p) (a .store .now))
-    (mended-crc (a .number) (a .packet .now) _ _
-    (mend-accepted (b (copied m)) (c .before .before .before .before .before .before .before .before .before .before .before .before .before .before .before .before .before .pre .4) (c .before .before .before .before .before .before .before .before .before .before .before .before .before .before .before .before .before .pre .3) _ _ (mended m) (c .before .before .before .before .before .before .enum-told .given .1) ∙ ap whole (sym (front m _)))
+    (mended-crc (a .number) (a .packet .now) _ _ _
+    (mend-accepted (b (copied m)) (c .before .before .before .before .before .before .before .before .before .before .before .before .before .before .before .before .before .pre .4) (c .before .before .before .before .before .before .before .before .before .before .before .before .before .before .before .before .before .pre .3) _ _ (mended m) (c .before .before .before .before .before .before .enum-told .given .1) ∙ ap (λ (l : List ℕ). whole l (m .mend .result .count)) (sym (front m _)))
     _ (c .before .before .before .agrees .ensures ∙ agrees-long (a .packet .now) _ (c .before .before .before .before .before .before .before .before .before .before .before .before .before .before .before .before .before .pre .1))))
     (c .before .before .put-in .ensures)
 
@@ -108,7 +108,7 @@ offer-rows-spec =
     returns
     enum-told
     array-share-prefix-buffer
-    slice-aggregate-mended
+    slice-aggregate-repaired
     agrees-requires
     put-in-requires
     same-length

@@ -40,7 +40,7 @@ module _ (c : tie.Else2) where
 returns : tie.Need-returns
 returns c =
     let a = c .before .before .before .args in
-    told (put-crc (a .p) (a .store .now) (a .number) (a .payload .now) (a .agrees) (not-true _ (c .if1 .taken)))
+    told (put-crc (a .p) (a .store .now) (a .number) (a .payload .now) (a .mended) (a .agrees) (not-true _ (c .if1 .taken)))
 
 cast-at : tie.Need-cast-at
 cast-at c = omega arith
@@ -69,7 +69,7 @@ same-length c = omega arith
 returns-2 : tie.Need-returns-2
 returns-2 c =
     let a = c .before .before .before .before .before .before .before .before .before .args in
-    told (put-wrong (a .p) (a .store .now) (a .number) (a .payload .now) (a .agrees) (not-false _ (c .before .before .before .before .before .before .if1 .left)) _ (sym (slot-sum (a .p) (a .number))) _ (c .before .before .slot-length .ensures) (sym (c .before .length-fits .ensures) ∙ not-true _ (c .if2 .taken)))
+    told (put-wrong (a .p) (a .store .now) (a .number) (a .payload .now) (a .mended) (a .agrees) (not-false _ (c .before .before .before .before .before .before .if1 .left)) _ (sym (slot-sum (a .p) (a .number))) _ (c .before .before .slot-length .ensures) (sym (c .before .length-fits .ensures) ∙ not-true _ (c .if2 .taken)))
 
 put-slot-requires : tie.Need-put-slot-requires
 put-slot-requires c κs = tt
@@ -81,7 +81,7 @@ returns-3 : tie.Need-returns-3
 returns-3 c =
     let d = c .before .before .before .before .before in
     let a = came d .args in
-    let w = told (put-empty (a .p) (a .store .now) (a .number) (a .payload .now) (a .agrees) (agreed d) _ (sym (slot-sum (a .p) (a .number))) _ (d .before .before .slot-length .ensures) (c .before .before .before .before .if3 .taken)) in
+    let w = told (put-empty (a .p) (a .store .now) (a .number) (a .payload .now) (a .mended) (a .agrees) (agreed d) _ (sym (slot-sum (a .p) (a .number))) _ (d .before .before .slot-length .ensures) (c .before .before .before .before .if3 .taken)) in
     (w .0, c .before .before .put-slot .ensures .1 ∙ taken d ∙ w .1)
 
 add-from : tie.Need-add-from
@@ -109,7 +109,7 @@ returns-4 : tie.Need-returns-4
 returns-4 c =
     let d = c .before .before .before .before .before in
     let a = came d .args in
-    told (put-same (a .p) (a .store .now) (a .number) (a .payload .now) (a .agrees) (agreed d) _ (sym (slot-sum (a .p) (a .number))) _ (d .before .before .slot-length .ensures) (fits d) (c .before .before .before .before .if3 .left) (ends d) _ (c .before .same .ensures) (c .if4 .taken))
+    told (put-same (a .p) (a .store .now) (a .number) (a .payload .now) (a .mended) (a .agrees) (agreed d) _ (sym (slot-sum (a .p) (a .number))) _ (d .before .before .slot-length .ensures) (fits d) (c .before .before .before .before .if3 .left) (ends d) _ (c .before .same .ensures) (c .if4 .taken))
 
 same-length-4 : tie.Need-same-length-4
 same-length-4 c = omega arith
@@ -118,7 +118,7 @@ returns-5 : tie.Need-returns-5
 returns-5 c =
     let d = c .before .before .before .before .before in
     let a = came d .args in
-    told (put-conflict (a .p) (a .store .now) (a .number) (a .payload .now) (a .agrees) (agreed d) _ (sym (slot-sum (a .p) (a .number))) _ (d .before .before .slot-length .ensures) (fits d) (c .before .before .before .before .if3 .left) (ends d) _ (c .before .same .ensures) (c .if4 .left))
+    told (put-conflict (a .p) (a .store .now) (a .number) (a .payload .now) (a .mended) (a .agrees) (agreed d) _ (sym (slot-sum (a .p) (a .number))) _ (d .before .before .slot-length .ensures) (fits d) (c .before .before .before .before .if3 .left) (ends d) _ (c .before .same .ensures) (c .if4 .left))
 
 pub put-in-spec : {M : Type 1} → statement M
 put-in-spec =
