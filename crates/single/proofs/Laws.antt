@@ -1,4 +1,4 @@
--- A payload of one row is mended as that row is repaired, and at most eight bytes of it.
+-- A payload of one row is mended as that row is repaired; what is counted of it.
 -- Assumes nothing.
 use mathlib.Core.Path.{_≡_, refl, sym, ap, subst, _∙_}
 use mathlib.Core.Bool.{Bool, true, false, cond}
@@ -10,7 +10,8 @@ use borrow.Author.Tests.{eq-eqb, le-leb}
 use lib.Dec.{eqb}
 use lib.ListN.{length, take, replicate}
 use lib.Seq.{take-all}
-use Rattle.refusals.specs.declared.Verdict.the-variants.{Refused}
+use Rattle.refusals.specs.declared.Verdict.the-variants.{Accepted, Refused}
+use Rattle.refusals.specs.declared.Refusal.{Refusal}
 use Rattle.refusals.specs.declared.Refusal.the-variants.{Short}
 use Rattle.code.specs.Code.{distance}
 use Rattle.code.specs.Search.{Repaired}
@@ -21,7 +22,7 @@ use Rattle.code.proofs.Exact.{repair-near}
 use Rattle.repair.specs.declared.Counted.{Counted}
 use Rattle.repair.specs.Repair.{Mending, mendingAs, mendingOf, Mends}
 use Rattle.single.specs.declared.Mended.{Mended}
-use Rattle.single.specs.Single.{mendedAs, mendOf, repairRowOf}
+use Rattle.single.specs.Single.{mendedAs, mendOf, repairRowOf, RepairCounts}
 
 pub mend-one : (row : List ℕ) (r : Counted) (out : List ℕ) → length row ≡ 255 → Mends (mendingOf row) r out
     → _≡_ {A = Mended} (record { verdict = r .verdict; row = out; count = r .count }) (mendOf row)
@@ -50,12 +51,31 @@ mend-one row r out n p =
         λ i. record { verdict = v i .verdict; row = l i; count = n i }
     by none v o = λ i. record { verdict = v i .verdict; row = o i; count = v i .count }
 
--- at most eight
-pub few-mended : (row : List ℕ) → repairRowOf row .count ≤ 8
+-- ---- what is counted
+
+-- what is answered, by the length and the repair
+abbrev answer : List ℕ → Bool → Repaired → Mended
+answer row t a = cond t (mendedAs row a) (record { verdict = Refused Short; row = replicate 255 0; count = 0 })
+
+pub repair-counts : RepairCounts
 unfolding repairRowOf mendOf
-few-mended row = by (eqb (length row) 255) (repairOf row) refl
+repair-counts row = record {
+  few = few (eqb (length row) 255) (repairOf row) refl;
+  told = told (eqb (length row) 255) (repairOf row);
+  none-told = none-told (eqb (length row) 255) (repairOf row);
+}
   where
-    by : (t : Bool) (a : Repaired) → repairOf row ≡ a → cond t (mendedAs row a) (record { verdict = Refused Short; row = replicate 255 0; count = 0 }) .count ≤ 8
-    by true (found s) e = repair-near row s e .close
-    by true none e = omega arith
-    by false a e = omega arith
+    few : (t : Bool) (a : Repaired) → repairOf row ≡ a → answer row t a .count ≤ 8
+    few true (found s) e = repair-near row s e .close
+    few true none e = omega arith
+    few false a e = omega arith
+
+    told : (t : Bool) (a : Repaired) → answer row t a .verdict ≡ Accepted → answer row t a .count ≡ distance row (answer row t a .row)
+    told true (found s) v = refl
+    told true none v = let z : _≡_ {A = ℕ} 0 1 = cc in absurd (omega arith)
+    told false a v = let z : _≡_ {A = ℕ} 0 1 = cc in absurd (omega arith)
+
+    none-told : (t : Bool) (a : Repaired) (r : Refusal) → answer row t a .verdict ≡ Refused r → answer row t a .count ≡ 0
+    none-told true (found s) r v = let z : _≡_ {A = ℕ} 0 1 = cc in absurd (omega arith)
+    none-told true none r v = refl
+    none-told false a r v = refl
