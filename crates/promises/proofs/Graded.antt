@@ -1,8 +1,8 @@
 -- What is told of a copy is how many bytes of it are altered: while its file is collected, its slot is empty or holds its payload, and the copy is judged to be that payload,
 -- mended where it was altered. Assumes nothing.
-use mathlib.Core.Path.{_≡_, sym, ap, _∙_}
+use mathlib.Core.Path.{_≡_, ap, _∙_}
 use mathlib.Core.Logic.{_⊎_, ⊎-map}
-use mathlib.Core.List.{List, []}
+use mathlib.Core.List.{List}
 use Prim.Native.Nat.{ℕ, _<_}
 use native.Mathlib.Omega.{arith}
 use lib.ListN.{length}
@@ -16,7 +16,7 @@ use Rattle.record.specs.declared.Offered.the-variants.{Stored, Repeat}
 use Rattle.record.specs.Offer.{Judged, judge, offerOf}
 use Rattle.record.specs.Told.{offeredTold}
 use Rattle.record.proofs.OfferLaws.{answered, answer-after, offer-answer}
-use Rattle.promises.specs.Calls.{Answer, telling, State, step, run, fresh}
+use Rattle.promises.specs.Calls.{Answer, telling, State, step, fresh}
 use Rattle.promises.specs.Statements.{bytesAltered, Protected, Copy, Graded, MendedIsAltered, GradedFromFresh}
 use Rattle.promises.proofs.Judged.{copy-reads, copy-judged}
 use Rattle.promises.proofs.Demand.{Collecting, own, fair-run, begun}

@@ -2,7 +2,7 @@
 -- Assumes nothing.
 use mathlib.Core.Path.{_≡_, sym, subst}
 use mathlib.Core.List.{List}
-use Prim.Native.Nat.{ℕ, _/_, _%_, _≤_}
+use Prim.Native.Nat.{ℕ, _%_, _≤_}
 use lib.ListN.{length}
 use Rattle.repair.specs.declared.Counted.{Counted}
 use Rattle.repair.specs.Repair.{mendingOf, Mends}
