@@ -100,7 +100,9 @@ uint32_t bh_crc32(const uint8_t *bytes, size_t n);
  * Refusals: 1 where n is not 239; 26 where room is below 16. */
 uint64_t bh_encode_row(const uint8_t *info, size_t n, uint8_t *checks, size_t room);
 
-/* The one coded row that differs from the given 255 bytes in at most eight of them, written to the start of `fixed`.
+/* The one coded row that differs from the given 255 bytes in at most eight of them, written to the start of `fixed`. Value: in how many
+ * it differs, 0 to 8, checks as well as information bytes. A row that was sent and altered in more than eight may lie within eight of
+ * another coded row: then that one is written, and the value is how far it is.
  * Refusals: 1 where n is not 255; 13 where there is no such row; 26 where room is below 255. */
 uint64_t bh_repair_row(const uint8_t *row, size_t n, uint8_t *fixed, size_t room);
 
@@ -135,12 +137,24 @@ uint64_t bh_open(uint8_t *record, size_t rn, uint8_t *store, size_t sn, uint16_t
 uint64_t bh_open_house(uint8_t *record, size_t rn, uint8_t *store, size_t sn, uint16_t resource, uint8_t type, uint8_t update,
                        uint32_t count);
 
-/* Offers one packet. With protection each row is repaired first; then the CRC has to agree. Value 0: stored in its slot, payload
- * first and length last. Value 1: the slot holds these bytes already. The record is only read.
+/* Offers one packet. With protection each row is repaired first; then the CRC has to agree. Accepted: it is stored in its slot, payload
+ * first and length last, or it is a repeat, and the slot holds these bytes already. The record is only read.
+ * Value: 2 * mended + (0 stored, 1 a repeat). bh_is_repeat() and bh_mended() take it apart: a program that takes a value of 0 for stored,
+ * or of 1 for a repeat, errs as soon as a byte was mended.
+ * Mended are the bytes in which the packet's rows, as they came, differ from those that are stored: at most 120, eight in each of fifteen
+ * rows, checks as well as information bytes; 0 without protection. Header and CRC are never mended. A copy of a sent packet that is
+ * altered in k bytes of its rows, at most eight a row, and is accepted, is answered with k. A row altered in more than eight may lie
+ * within eight of another coded row; the CRC nearly always refuses it then, and where it agrees the count says nothing of what was sent.
+ * A packet that comes twice is mended twice: a repeat has a count of its own. A refusal has none, whatever was repaired before it.
  * The packet names its place itself: the resource by its bytes 3 and 4, the type by the two high bits of byte 12, both before any CRC
  * has confirmed them. A packet of a stream is always 10, as is one of a description of whose resource only the file is open.
  * Refusals: 9; 1 to 8 as bh_read_fields; 10 to 16. */
 uint64_t bh_offer(const uint8_t *record, size_t rn, uint8_t *store, size_t sn, const uint8_t *packet, size_t n);
+
+/* Of an answer of bh_offer, and of no other call: the value of bh_repair_row is the count itself. Both are 0 for a refusal, whose value
+ * is another: 13 with row 1 is no repeat. */
+static inline int bh_is_repeat(uint64_t answer) { return bh_number(answer) == BH_ACCEPTED && (bh_value(answer) & 1) == 1; }
+static inline uint32_t bh_mended(uint64_t answer) { return bh_number(answer) == BH_ACCEPTED ? (uint32_t)(bh_value(answer) >> 1) : 0; }
 
 /* How the place of a resource and a type stands. Value: filled + 2^24 * (lowest empty + 1), the number of slots that are filled and
  * the lowest that is empty; the second part is 0 where none is. bh_filled() and bh_lowest_empty() take it apart.

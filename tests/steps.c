@@ -25,12 +25,13 @@ static void must(int holds, const char *what)
     }
 }
 
-static void offer_alone(const uint8_t *record, uint8_t *store, const uint8_t *packet, size_t n)
+static void offer_alone(const uint8_t *record, uint8_t *store, const uint8_t *packet, size_t n, uint32_t mended)
 {
     if (ptrace(PTRACE_TRACEME, 0, NULL, NULL) != 0)
         _exit(NO_TRACING);
     raise(SIGSTOP);
-    _exit(bh_offer(record, BH_RECORD, store, ROOM, packet, n) == 0 ? 0 : 1);
+    uint64_t answer = bh_offer(record, BH_RECORD, store, ROOM, packet, n);
+    _exit(bh_number(answer) == BH_ACCEPTED && !bh_is_repeat(answer) && bh_mended(answer) == mended ? 0 : 1);
 }
 
 /* One file of one packet, with `wrong` bytes altered in each row. Returns the number of instructions that were looked behind. */
@@ -48,12 +49,13 @@ static long walk(uint8_t protection, uint16_t size, size_t length, int wrong, ui
     memcpy(before, store, ROOM);
     memcpy(after, store, ROOM);
     must(bh_offer(record, BH_RECORD, after, ROOM, packet, n) == 0, "offering");
+    uint32_t altered = 0;
     for (size_t row = 14; protection && row + 255 <= n - 4; row += 255)
-        for (int k = 0; k < wrong; k++)
+        for (int k = 0; k < wrong; k++, altered++)
             packet[row + (size_t)k * 30] ^= (uint8_t)(k + 1);
     pid_t child = fork();
     if (child == 0)
-        offer_alone(record, store, packet, n);
+        offer_alone(record, store, packet, n, altered);
     int status;
     long steps = 0;
     for (must(waitpid(child, &status, 0) == child, "waiting"); WIFSTOPPED(status); steps++) {
