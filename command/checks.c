@@ -78,22 +78,15 @@ static int in_one_byte(uint32_t bits)
 
 /* ---- rows */
 
-static unsigned distance(const uint8_t *a, const uint8_t *b)
-{
-    unsigned n = 0;
-    for (size_t i = 0; i < BH_ROW; i++)
-        n += a[i] != b[i];
-    return n;
-}
-
 /* The coded rows within eight bytes, for each row of a payload; answers the bytes that differ, or -1 for a row that has none. The first row that
  * differs, or has none, is told. */
 static int coded_rows(const uint8_t *payload, size_t n, uint8_t *to, int *row)
 {
     unsigned bytes = 0;
     for (size_t at = 0; at < n; at += BH_ROW) {
-        int none = bh_number(bh_repair_row(payload + at, BH_ROW, to + at, BH_ROW)) != BH_ACCEPTED;
-        unsigned here = none ? 0 : distance(payload + at, to + at);
+        uint64_t answer = bh_repair_row(payload + at, BH_ROW, to + at, BH_ROW);
+        int none = bh_number(answer) != BH_ACCEPTED;
+        unsigned here = none ? 0 : (unsigned)bh_value(answer);
         if (none || (here > 0 && bytes == 0))
             *row = (int)(at / BH_ROW);
         if (none)
