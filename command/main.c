@@ -32,9 +32,9 @@ static const struct command {
      "      slot of S bytes for each, settings as in pack"},
     {"offer", "json each strict wait", offer, "offer ARCHIVE RECORDING.. [--each] [--json] [--strict] [--wait SECONDS]",
      "offers every packet found in the recordings (- for standard input), past noise, as they come, and\n"
-     "      tells the tally; with --each also a line for every packet: resource, type, number, answer. Exit\n"
-     "      status 1 where a sound packet of an open place was refused, or none was found; with --strict for\n"
-     "      any refusal"},
+     "      tells the tally, bytes mended among it; with --each also a line for every packet: resource, type,\n"
+     "      number, answer, bytes mended. Exit status 1 where a sound packet of an open place was refused, or\n"
+     "      none was found; with --strict for any refusal"},
     {"status", "resource type json wait", status, "status ARCHIVE [--resource N [--type 1|2]] [--json] [--wait SECONDS]",
      "how far each place, or one, has come, what was refused of it, and the room in the store"},
     {"verify", "resource type json mend wait", verify, "verify ARCHIVE [--resource N [--type 1|2]] [--mend] [--json] [--wait SECONDS]",

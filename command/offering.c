@@ -11,6 +11,7 @@
 
 struct tally {
     uint64_t stored, repeated, refused[BH_CONFLICT + 1], skipped;
+    uint64_t mended; /* bytes, in the packets stored and repeated */
     uint64_t lost; /* packets of open places that were sound and were refused */
     char cause[BH_CONFLICT + 1][96]; /* of the first refusal with this number */
 };
@@ -57,7 +58,7 @@ static void tell_cause(char *to, size_t room, unsigned number, struct bh_place p
 static void tell_packet(struct offering *o, const uint32_t *fields, uint64_t answer, const char *cause)
 {
     unsigned number = bh_number(answer);
-    const char *words = number != BH_ACCEPTED ? "refused" : bh_value(answer) == 0 ? "stored" : "repeated";
+    const char *words = number != BH_ACCEPTED ? "refused" : bh_is_repeat(answer) ? "repeated" : "stored";
     int unread = number >= BH_SHORT && number <= BH_RESOURCE;
     if (o->json && unread)
         fputs("{\"resource\": null, \"type\": null, \"number\": null", o->lines);
@@ -68,6 +69,8 @@ static void tell_packet(struct offering *o, const uint32_t *fields, uint64_t ans
     fprintf(o->lines, o->json ? ", \"answer\": \"%s\"" : " %s", words);
     if (number != BH_ACCEPTED)
         fprintf(o->lines, o->json ? ", \"refusal\": %u, \"name\": \"%s\"" : " %u %s", number, refusal_name(number));
+    else
+        fprintf(o->lines, o->json ? ", \"mended_bytes\": %" PRIu32 : " mended %" PRIu32, bh_mended(answer));
     if (*cause)
         fprintf(o->lines, o->json ? ", \"cause\": \"%s\"" : ": %s", cause);
     fputs(o->json ? "}\n" : "\n", o->lines);
@@ -91,14 +94,15 @@ static int tell_damage(struct archive *a, struct bh_place p, uint32_t number, ch
 }
 
 /* counts for the command, and for the place if the packet names one; damaged: what stands in its slot is not what was stored */
-static void count_packet(struct offering *o, int place, unsigned number, int repeat, int sound, int damaged)
+static void count_packet(struct offering *o, int place, uint64_t answer, int sound, int damaged)
 {
     struct tally *t = &o->tally;
+    unsigned number = bh_number(answer);
     enum counter which = COUNTERS;
     o->found += (uint64_t)sound;
     if (number != BH_ACCEPTED)
         t->refused[number]++;
-    else if (repeat)
+    else if (bh_is_repeat(answer))
         t->repeated++, which = REPEATED;
     else
         t->stored++, which = STORED;
@@ -106,10 +110,12 @@ static void count_packet(struct offering *o, int place, unsigned number, int rep
         which = CONFLICTS;
     if (number == BH_OTHER && sound)
         which = OTHERS;
+    t->mended += bh_mended(answer);
     t->lost += sound && (number == BH_CONFLICT || number == BH_SLOT || number == BH_OTHER || number == BH_WIDE);
     if (which == COUNTERS)
         return;
     count_more(&o->archive, place, which, 1);
+    count_more(&o->archive, place, MENDED, bh_mended(answer));
     o->changed = 1;
 }
 
@@ -128,10 +134,10 @@ static int take_packet(struct offering *o, const uint8_t *packet, size_t n)
         tell_cause(cause, sizeof cause, number, place_of(a->record, place), fields, n);
     if (number == BH_CONFLICT || number == BH_SLOT)
         damaged = tell_damage(a, place_of(a->record, place), fields[1], cause, sizeof cause);
-    if (number == BH_ACCEPTED && bh_value(answer) == 0)
+    if (number == BH_ACCEPTED && !bh_is_repeat(answer))
         keep_slot(a, place, fields[1]);
     int unjudged = number == BH_OTHER || number == BH_WIDE || (number == BH_UNKNOWN && o->found == 0);
-    count_packet(o, place, number, bh_value(answer) != 0, judged || (unjudged && is_sound(packet, n)), damaged);
+    count_packet(o, place, answer, judged || (unjudged && is_sound(packet, n)), damaged);
     if (*cause && o->tally.cause[number][0] == '\0')
         memcpy(o->tally.cause[number], cause, sizeof cause);
     if (o->each)
@@ -262,7 +268,7 @@ static void tell_tally(const struct tally *t, int json)
     if (json)
         printf("{\"stored\": %" PRIu64 ", \"repeated\": %" PRIu64 ", \"refused\": {", t->stored, t->repeated);
     else
-        printf("stored    %" PRIu64 "\nrepeated  %" PRIu64 "\nrefused   %" PRIu64 "\n", t->stored, t->repeated, all_refused(t));
+        printf("stored    %" PRIu64 "\nrepeated  %" PRIu64 "\nmended    %" PRIu64 " bytes\nrefused   %" PRIu64 "\n", t->stored, t->repeated, t->mended, all_refused(t));
     for (unsigned k = 1; k <= BH_CONFLICT; k++) {
         if (t->refused[k] == 0)
             continue;
@@ -272,7 +278,10 @@ static void tell_tally(const struct tally *t, int json)
             printf("  %2u %-11s %" PRIu64 "%s%s%s\n", k, refusal_name(k), t->refused[k], t->cause[k][0] ? "  (" : "", t->cause[k], t->cause[k][0] ? ")" : "");
         between = ", ";
     }
-    printf(json ? "}, \"lost\": %" PRIu64 ", \"skipped_bytes\": %" PRIu64 "}\n" : "lost      %" PRIu64 "\nskipped   %" PRIu64 " bytes\n", t->lost, t->skipped);
+    if (json)
+        printf("}, \"lost\": %" PRIu64 ", \"mended_bytes\": %" PRIu64 ", \"skipped_bytes\": %" PRIu64 "}\n", t->lost, t->mended, t->skipped);
+    else
+        printf("lost      %" PRIu64 "\nskipped   %" PRIu64 " bytes\n", t->lost, t->skipped);
 }
 
 int offer(const struct arguments *a)
