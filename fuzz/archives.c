@@ -210,8 +210,8 @@ static const struct {
 } plan[] = {{7, 510, 1, 1, 3}, {8, 20, 2, 0, 20}, {9, 30, 1, 0, 3}, {10, 300, 1, 0, 2}, {7, 255, 2, 1, 2}};
 enum { PLANNED = sizeof plan / sizeof *plan, CLOSED = 2 };
 
-/* Offers a packet of the plan; answers what the library does. */
-static uint64_t offer_packet(struct archive *a, size_t k, uint32_t number)
+/* Offers a packet of the plan, with so many bytes altered in each of its rows; answers what the library does. */
+static uint64_t offer_packet(struct archive *a, size_t k, uint32_t number, unsigned wrong)
 {
     static uint8_t content[2000], sent[BH_LARGEST_PACKET];
     size_t n = plan[k].count * (size_t)(plan[k].protection ? plan[k].slot / BH_ROW * BH_ROW_INFO : plan[k].slot);
@@ -220,14 +220,28 @@ static uint64_t offer_packet(struct archive *a, size_t k, uint32_t number)
     uint64_t packed = bh_pack(content, n, plan[k].resource, plan[k].type, 0, plan[k].protection, 1, plan[k].slot, number, sent, sizeof sent);
     if (bh_number(packed) != BH_ACCEPTED)
         fail("a packet of the plan cannot be made");
-    return bh_offer(a->record, BH_RECORD, a->store, a->store_size, sent, (size_t)bh_value(packed));
+    uint32_t altered = 0;
+    for (size_t row = BH_HEADER; plan[k].protection && row + BH_ROW + BH_CRC <= bh_value(packed); row += BH_ROW)
+        for (unsigned i = 0; i < wrong; i++, altered++)
+            sent[row + (number * 7 + i * 31) % BH_ROW] ^= (uint8_t)(i + 1);
+    uint64_t answer = bh_offer(a->record, BH_RECORD, a->store, a->store_size, sent, (size_t)bh_value(packed));
+    if (bh_number(answer) == BH_ACCEPTED && bh_mended(answer) != altered)
+        fault("another number of bytes mended than were altered");
+    return answer;
+}
+
+static void count_offer(struct archive *a, int place, uint64_t answer)
+{
+    count_more(a, place, bh_is_repeat(answer) ? REPEATED : STORED, 1);
+    count_more(a, place, MENDED, bh_mended(answer));
 }
 
 static void store_packet(struct archive *a, size_t k, uint32_t number)
 {
-    if (offer_packet(a, k, number) != BH_ACCEPTED)
-        fail("a packet of the sound archive was refused");
-    count_more(a, (int)k, STORED, 1);
+    uint64_t answer = offer_packet(a, k, number, number);
+    if (bh_number(answer) != BH_ACCEPTED || bh_is_repeat(answer))
+        fail("a packet of the sound archive was not stored");
+    count_offer(a, (int)k, answer);
 }
 
 static void make_checks(struct archive *a)
@@ -558,18 +572,24 @@ static void look_at(struct archive *a, int mend, int keep_it)
         fault("looking changed the archive");
 }
 
-/* what offer does with every packet of the plan */
-static void offer_all(struct archive *a)
+/* What offer does with every packet of the plan; answers whether something has to be committed, if only what was counted. */
+static int offer_all(struct archive *a, unsigned wrong)
 {
+    int counted = 0;
     for (size_t k = 0; k < PLANNED; k++)
         for (uint32_t number = 0; number < plan[k].count; number++) {
-            if (offer_packet(a, k, number) != BH_ACCEPTED)
+            uint64_t answer = offer_packet(a, k, number, wrong);
+            if (bh_number(answer) != BH_ACCEPTED)
                 continue;
             int place = find_place(a->record, plan[k].resource, plan[k].type);
+            count_offer(a, place, answer);
+            counted = 1;
+            if (bh_is_repeat(answer))
+                continue;
             renew_for(a, slot_of(a->store, place_of(a->record, place), number));
-            count_more(a, place, STORED, 1);
             keep_slot(a, place_of(a->record, place), number);
         }
+    return counted;
 }
 
 /* another command, while this one has let go of the archive */
@@ -589,12 +609,11 @@ static void write_to(struct archive *a, unsigned way)
     look_at(a, 0, 0);
     if (way & 1)
         look_at(a, 1, 1);
-    if (way & 2)
-        offer_all(a);
+    int counted = way & 2 ? offer_all(a, way % 9) : 0;
     if (way & 4) {
         count_more(a, (int)(way / 8 % BH_PLACES), REPEATED, way);
         commit(a);
-    } else if (a->growing > 0) {
+    } else if (counted || a->growing > 0) {
         commit(a);
     }
     if (way & 8) {
