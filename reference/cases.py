@@ -267,7 +267,11 @@ class Run:
         self.call(lambda: self.write(encode_row(self.bytes)))
 
     def do_repair(self, _):
-        self.call(lambda: self.write(repair_row(self.bytes)))
+        def work():
+            row, mended = repair_row(self.bytes)
+            self.write(row)
+            return mended
+        self.call(work)
 
     def do_read(self, words):
         def work():
@@ -312,7 +316,10 @@ class Run:
         self.call(lambda: self.receiver().open(self.house(), numbers(words)[0] % WORD))
 
     def do_offer(self, _):
-        self.call(lambda: {"Stored": 0, "Repeat": 1}[self.receiver().offer(self.bytes)])
+        def work():
+            answer, mended = self.receiver().offer(self.bytes)
+            return 2 * mended + {"Stored": 0, "Repeat": 1}[answer]
+        self.call(work)
 
     def named(self, words):
         """The resource and the type at the start of a line's numbers."""
@@ -355,7 +362,7 @@ class Run:
 
     def stores(self, packet):
         try:
-            return self.receiver().offer(packet) == "Stored"
+            return self.receiver().offer(packet)[0] == "Stored"
         except Refused:
             return False
 

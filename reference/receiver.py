@@ -159,33 +159,41 @@ def key_equation(syndromes):
 POINTS = [INVERSE[ALPHA[254 - i]] for i in range(255)]
 
 
+def places_apart(a, b):
+    """The number of places at which two equally long parts differ."""
+    return sum(x != y for x, y in zip(a, b, strict=True))
+
+
 def repair_row(row):
-    """The coded row within eight bytes. What the algorithm proposes is judged by the code itself."""
+    """The coded row within eight bytes, and at how many of them it differs from what came in (document 02, R-7). What the algorithm proposes is judged
+    by the code itself."""
     if len(row) != 255:
         raise Refused(1)
     rest = rest_of(row)
     if not any(rest):
-        return bytes(row)
+        return bytes(row), 0
     locator, evaluator = key_equation([value(rest, ALPHA[j]) for j in range(16)])
     slope, fixed = derivative(locator), bytearray(row)
     for i in range(255):
         if value(locator, POINTS[i]) == 0:
             quotient = MUL[value(evaluator, POINTS[i])][INVERSE[value(slope, POINTS[i])]]
             fixed[i] ^= MUL[ALPHA[254 - i]][quotient]
-    if sum(a != b for a, b in zip(fixed, row)) > 8 or any(rest_of(fixed)):
+    apart = places_apart(fixed, row)
+    if apart > 8 or any(rest_of(fixed)):
         raise Refused(13)
-    return bytes(fixed)
+    return bytes(fixed), apart
 
 
 def repair_rows(payload):
-    """All rows of a payload; the refusal names the first that cannot be repaired."""
-    mended = bytearray()
+    """All rows of a payload, and the sum over them of what was mended: what differs from the payload that came. The refusal names the first row that cannot
+    be repaired."""
+    fixed = bytearray()
     for k in range(len(payload) // 255):
         try:
-            mended += repair_row(payload[255 * k : 255 * k + 255])
+            fixed += repair_row(payload[255 * k : 255 * k + 255])[0]
         except Refused:
             raise Refused(13, k) from None
-    return bytes(mended)
+    return bytes(fixed), places_apart(fixed, payload)
 
 
 # ---- fields, section 2: one long number, cut into its fields
@@ -419,19 +427,20 @@ class Receiver:
         return [self.slot(p, k) for k in range(p["count"])]
 
     def offer(self, packet):
+        """Stored or Repeat, and how many bytes of the payload were mended: 0 without protection."""
         self.used()
         f = read_fields(packet)
         _, p = self.find(*named(f))
         if any(f[k] != p[k] for k in ("update", "count", "protection")) or (f["protection"] == 1 and f["rows"] != p["rows"]):
             raise Refused(11)
-        payload = bytes(packet[14:-4])
+        payload, mended = bytes(packet[14:-4]), 0
         if len(payload) > p["slot"]:
             raise Refused(12)
         if f["protection"] == 1:
-            payload = repair_rows(payload)
+            payload, mended = repair_rows(payload)
         if crc32(packet[:14] + payload) != int.from_bytes(packet[-4:], "big"):
             raise Refused(14)
-        return self.keep(p, f["number"], payload)
+        return self.keep(p, f["number"], payload), mended
 
     def keep(self, p, k, payload):
         there = self.slot(p, k)

@@ -109,9 +109,9 @@ def test_seventeen():
         row = bytearray(CASE_5)
         for i in places[:8]:
             row[i] = 0
-        same(r.repair_row(row), CASE_5)
+        same(r.repair_row(row), (CASE_5, 8))
         row[places[8]] = 0
-        same(r.repair_row(row), bytes(255))
+        same(r.repair_row(row), (bytes(255), 8))
 
 
 # ---- a second decoder: Peterson, Gorenstein and Zierler's, by elimination
@@ -167,16 +167,15 @@ def place_and_mend(row, s, v, backward):
     return bytes(fixed) if not any(sums(fixed)) else None
 
 
-def both_repair(row, wanted="either"):
-    """Both decoders say the same, and what was to come."""
+def both_repair(row, *wanted):
+    """Both decoders say the same, and what was to come: a row and how much of it was mended."""
     second = second_repair(row)
     if second is None:
         refused(13, 0, r.repair_row, row)
     else:
-        same(r.repair_row(row), second)
-    if wanted != "either":
-        same(second, wanted)
-    return second
+        same(r.repair_row(row), (second, sum(1 for a, b in zip(row, second) if a ^ b)))
+    if wanted:
+        same(r.repair_row(row), wanted)
 
 
 def altered(row, places):
@@ -195,7 +194,7 @@ def test_repair_up_to_eight():
     for wrong in range(9):
         for places in [RANDOM.sample(range(255), wrong) for _ in range(6)] + [range(wrong), range(255 - wrong, 255), range(235, 235 + wrong)]:
             row = coded_row()
-            both_repair(altered(row, places), row)
+            both_repair(altered(row, places), row, wrong)
 
 
 def test_repair_beyond():
@@ -210,7 +209,7 @@ def test_repair_beyond():
 
 
 def between_two():
-    """Two coded rows that differ in seventeen bytes, and rows eight from the one, eight from the other, and nine from both."""
+    """Two coded rows that differ in seventeen bytes, the rows on a way from the one to the other, and one that is nine from both."""
     row, by = coded_row(), 1 + RANDOM.randrange(255)
     shift = RANDOM.randrange(239)
     other = bytes(a ^ r.MUL[by][b] for a, b in zip(row, CASE_5[shift:] + CASE_5[:shift]))
@@ -218,15 +217,75 @@ def between_two():
     same(len(apart), 17)
     RANDOM.shuffle(apart)
     mixed = bytearray(row)
-    for i in apart[:8]:
+    for k, i in enumerate(apart, 1):
         mixed[i] = other[i]
-    both_repair(mixed, row)
-    mixed[apart[8]] = other[apart[8]]
-    both_repair(mixed, other)
+        both_repair(mixed, *((row, k) if k <= 8 else (other, 17 - k)))
+    for i in apart[9:]:
+        mixed[i] = row[i]
     mixed[apart[8]] = next(b for b in range(256) if b not in (row[apart[8]], other[apart[8]]))
     both_repair(mixed)
     for n in (0, 254, 256):
         refused(1, 0, r.repair_row, bytes(n))
+
+
+# ---- how much was mended, document 02, R-7
+
+
+def test_mended_in_a_row():
+    """Any number of places, in the information, in the checks or in both; bits and values do not matter."""
+    for wrong in range(9):
+        for part in (range(239), range(239, 255), range(255)):
+            row = coded_row()
+            places = RANDOM.sample(part, wrong)
+            same(r.repair_row(altered(row, places)), (row, wrong))
+            flipped = bytearray(row)
+            for i in places:
+                flipped[i] ^= 255
+            same(r.repair_row(flipped), (row, wrong))
+
+
+def test_mended_in_rows():
+    """The sum over the rows, each of which may have any number; a row beyond repair leaves none to tell."""
+    for rows in (1, 2, 3, 15):
+        for wrong in ([8] * rows, [0] * (rows - 1) + [5], [5] + [0] * (rows - 1), [RANDOM.randrange(9) for _ in range(rows)]):
+            sound = [coded_row() for _ in range(rows)]
+            came = [altered(row, RANDOM.sample(range(255), k)) for row, k in zip(sound, wrong)]
+            same(r.repair_rows(b"".join(came)), (b"".join(sound), sum(wrong)))
+        refused(13, rows - 1, r.repair_rows, b"".join(came[:-1]) + cases.generated(3, 255))
+
+
+def spoilt(packet, wrong):
+    """So many bytes altered in each of its rows."""
+    rows = [altered(packet[14 + 255 * k : 269 + 255 * k], RANDOM.sample(range(255), n)) for k, n in enumerate(wrong)]
+    return packet[:14] + b"".join(rows) + packet[-4:]
+
+
+def test_mended_in_a_packet():
+    """Each copy tells its own sum, whether it is stored or not; a refusal tells none, and leaves none behind."""
+    s = settings(9, 2, 1, 1, 15, 3825)
+    one, two = packets_of(s, some(2 * 239 * 15))
+    other, _ = packets_of(s, some(2 * 239 * 15))
+    record = r.Receiver(bytearray(128), bytearray(8000))
+    record.open(s, 2)
+    refused(14, 0, record.offer, altered(spoilt(one, [8] * 15), [3842]))
+    refused(13, 14, record.offer, spoilt(one, [8] * 14 + [12]))
+    same(record.offer(spoilt(one, [8] * 15)), ("Stored", 120))
+    for wrong in ([0] * 15, [0] * 14 + [1], [7] + [0] * 14, list(range(8, 0, -1)) + list(range(7)), [1] * 15):
+        same(record.offer(spoilt(one, wrong)), ("Repeat", sum(wrong)))
+        refused(16, 0, record.offer, spoilt(other, wrong))
+    same([record.offer(two), record.offer(spoilt(two, [8] * 15))], [("Stored", 0), ("Repeat", 120)])
+    record.store[1] = 255
+    refused(15, 0, record.offer, spoilt(one, [8] * 15))
+
+
+def test_mended_without_protection():
+    """Also where the payload is a row that could be mended."""
+    s = settings(9, 1, 1, 0, 0, 255)
+    record = r.Receiver(bytearray(128), bytearray(257))
+    record.open(s, 1)
+    row = altered(coded_row(), range(8))
+    same([record.offer(packets_of(s, row)[0]) for _ in range(2)], [("Stored", 0), ("Repeat", 0)])
+    same(record.hand_out(9, 1, 255, 255), row)
 
 
 # ---- headers and packing
@@ -340,8 +399,10 @@ def send(s, file, spoil):
     RANDOM.shuffle(order)
     for k, n in enumerate(order):
         same(record.status(s["resource"], s["type"]), (k, min(order[k:])))
-        packet = spoil(packer.packet(s, n, 4095))
-        same([record.offer(packet), record.offer(packet)], ["Stored", "Repeat"])
+        sound = packer.packet(s, n, 4095)
+        packet = spoil(sound)
+        spoilt = sum(a != b for a, b in zip(packet, sound))
+        same([record.offer(packet), record.offer(packet), record.offer(sound)], [("Stored", spoilt), ("Repeat", spoilt), ("Repeat", 0)])
     same(record.status(s["resource"], s["type"]), (count, None))
     same(record.hand_out(s["resource"], s["type"], len(file), len(file)), file)
     refused(26, 0, record.hand_out, s["resource"], s["type"], len(file), len(file) - 1)
@@ -367,7 +428,7 @@ def test_file_and_description():
         RANDOM.shuffle(sent)
         done = {1: 0, 2: 0}
         for s, packet in sent:
-            same([record.offer(packet), record.offer(packet)], ["Stored", "Repeat"])
+            same([record.offer(packet), record.offer(packet)], [("Stored", 0), ("Repeat", 0)])
             done[s["type"]] += 1
             same({k: record.status(9, k)[0] for k in (1, 2)}, done)
         same({k: record.hand_out(9, k, len(file), len(file)) for k, file in files.items()}, files)
@@ -702,9 +763,12 @@ offer
 case crc-altered refused 14
 flip 527 1
 offer
-case repaired-and-stored accepted
+case repaired-and-stored accepted 16
 offer
-case repeated accepted 1
+case repeated accepted 17
+take 528
+offer
+case repeated-unaltered accepted 1
 poke 0 09 00
 status 5 1
 case slot-too-long refused 15
