@@ -8,7 +8,7 @@ import random, sys
 
 from cases import Case, Run
 from random_descriptions import Choices, Descriptions
-from receiver import MARK, PLACE, header_of, place_of, read_description, up
+from receiver import GENERATOR, MARK, PLACE, header_of, place_of, read_description, up
 
 FIELDS = ["resource", "type", "update", "protection", "rows", "size"]
 RESOURCES = list(range(1, 12)) + [256, 65535]
@@ -187,14 +187,33 @@ class Writer(Choices):
         s = self.pick(s, s, s, s, s, {**s, "seed": s["seed"] + 1}, {**s, "update": (s["update"] + 1) % 16}, {**s, "type": 3 - s["type"]})
         self.say_packet(s, self.below(count_of(s)))
         for _ in range(self.pick(0, 0, 0, 1, 1, 1, 2)):
-            self.pick(self.spoil_rows, self.spoil_rows, self.spoil_row, self.spoil_bits, self.spoil_header, self.spoil_header, self.spoil_length)()
+            self.pick(self.spoil_rows, self.spoil_rows, self.spoil_each_row, self.spoil_each_row, self.spoil_row, self.spoil_bits, self.spoil_header,
+                      self.spoil_header, self.spoil_length)()
         self.call("offer")
         if self.often(0.2):
             self.call("offer")
 
-    def offer_whole(self, s, n):
+    def offer_mendable(self, s, n):
+        """Altered where that can be mended."""
         self.say_packet(s, n)
+        if s["protection"]:
+            self.spoil_each_row()
         self.call("offer")
+
+    def step_mend(self):
+        """Packets of a protected file, each in copies that are altered in other places; mostly into a place that is opened anew for them."""
+        protected = [s for s in self.senders.values() if s["protection"]]
+        if not protected:
+            return self.step_open()
+        s = self.pick(*protected)
+        if self.often(0.6) and self.call(f"close {words(s)}"):
+            self.open_well(s)
+        for n in self.random.sample(range(count_of(s)), min(count_of(s), self.pick(1, 2, 3))):
+            for _ in range(self.pick(1, 2, 2, 3)):
+                self.offer_mendable({**s, "seed": s["seed"] + 1} if self.often(0.1) else s, n)
+            if self.often(0.2):
+                self.say(f"flip {len(self.run.bytes) - 1 - self.below(4)} {1 + self.below(255)}")
+                self.call("offer")
 
     def spoil_rows(self):
         self.say(f"damage {self.pick(0, 1, 2, 3, 4, 4, 5)} {self.below(1 << 32)}")
@@ -205,6 +224,22 @@ class Writer(Choices):
         base = 14 + 255 * self.below(up(rows, 255))
         for _ in range(self.pick(1, 5, 7, 8, 8, 9, 10, 12)):
             self.say(f"flip {base + self.below(255)} {1 + self.below(255)}")
+
+    def spoil_each_row(self):
+        """Each row of the payload at a number of places of its own, all of which can be mended as a rule."""
+        for base in range(14, len(self.run.bytes) - 258, 255):
+            self.flip_places(base, range(255), self.pick(0, 0, 0, 1, 1, 2, 3, 4, 5, 6, 7, 8) if self.often(0.99) else 9)
+
+    def flip_places(self, base, part, count):
+        for at in self.random.sample(part, count):
+            self.say(f"flip {base + at} {1 + self.below(255)}")
+
+    def flip_towards(self, base, count):
+        """So many of the seventeen places at which another coded row differs from this one, so that from nine on it is the nearer of the two: the
+        generator's coefficients, wherever they begin, are a coded row."""
+        shift = self.below(255)
+        for i in self.random.sample(range(17), count):
+            self.say(f"flip {base + (shift + i) % 255} {GENERATOR[i]}")
 
     def spoil_bits(self):
         for _ in range(self.pick(1, 1, 2)):
@@ -278,7 +313,7 @@ class Writer(Choices):
         before = self.run.store[at : at + 2]
         length = self.pick(0, 1, 254, 255, 256, 510, s["size"], s["size"] + 1, 65535)
         self.say(f"poke {at} {length % 256:02x} {length // 256:02x}")
-        self.pick(self.step_status, self.step_hand, lambda: self.offer_whole(s, k))()
+        self.pick(self.step_status, self.step_hand, lambda: self.offer_mendable(s, k))()
         self.call(self.pick(f"status {words(s)}", f"hand {words(s)} {s['length']}"))
         if before and self.often(0.8):
             self.say(f"poke {at} {hexes(before)}")
@@ -364,13 +399,15 @@ class Writer(Choices):
         self.some_bytes_of_out()
 
     def step_repair(self):
-        """A coded row with some bytes altered, or none."""
+        """A coded row with some bytes altered, anywhere, in the information or in the checks, or none; or altered towards another coded row."""
         self.say(f"random {self.below(1 << 32)} 239")
         self.say("out 0 16")
         self.call("encode")
         self.say("append 16")
-        for _ in range(self.below(14)):
-            self.say(f"flip {self.below(255)} {1 + self.below(255)}")
+        if self.often(0.2):
+            self.flip_towards(0, self.below(18))
+        else:
+            self.flip_places(0, self.pick(range(255), range(239), range(239, 255)), self.pick(*range(10), self.below(14)))
         if self.often(0.1):
             self.say(self.pick("cut 254", "grow 256", "cut 0"))
         self.say(f"out {self.below(256)} {self.pick(255, 255, 254, 300)}")
@@ -440,8 +477,9 @@ class Writer(Choices):
 
     # ---- all together
 
-    WEIGHTS = {"fresh": 3, "open": 16, "close": 5, "offer": 26, "offer_made": 7, "offer_noise": 3, "status": 5, "hand": 7, "complete": 6, "poke": 5,
-               "fill_slots": 3, "place": 6, "pack": 8, "pack_many": 1, "read": 9, "encode": 2, "repair": 4, "crc": 2, "describe": 12, "edit_lines": 2, "compose": 8}
+    WEIGHTS = {"fresh": 3, "open": 16, "close": 5, "offer": 26, "offer_made": 7, "offer_noise": 3, "mend": 6, "status": 5, "hand": 7, "complete": 6,
+               "poke": 5, "fill_slots": 3, "place": 6, "pack": 8, "pack_many": 1, "read": 9, "encode": 2, "repair": 5, "crc": 2, "describe": 12,
+               "edit_lines": 2, "compose": 8}
 
     def look(self):
         """Now and then all that is at hand, or a part of it."""

@@ -990,8 +990,20 @@ def told_of_shares(run, places):
     return f"share of both: {run.answer.number}" if both else f"share of the resource: {run.answer.number}" if one else None
 
 
+def told_of_mended(run, call):
+    """How much a repair or an offer says that it mended; or the refusal of a packet in which something was."""
+    number, value = run.answer.number, run.answer.value
+    if call == "repair" and number == 0:
+        return f"repair: {value}"
+    if call == "offer" and number == 0:
+        return f"{'Repeat' if value % 2 else 'Stored'}: {value // 2 if value < 18 else 'more than a row can have'}"
+    if call == "offer" and number in (14, 15, 16) and r.fields_of(run.bytes)["protection"] == 1 and r.repair_rows(run.bytes[14:-4])[1]:
+        return f"mended, and refused {number}"
+    return None
+
+
 class Watched(random_cases.Writer):
-    """Writes a random file, and keeps what its answers show of resource and type together."""
+    """Writes a random file, and keeps what its answers show of resource and type together, and of what was mended."""
 
     def __init__(self, seed):
         super().__init__(seed)
@@ -1002,6 +1014,7 @@ class Watched(random_cases.Writer):
         super().say(line)
         if words[0] in ("status", "hand", "close", "offer", "open", "open-house"):
             self.told |= {told_of_types(self.run, words, places), told_of_shares(self.run, places)}
+        self.told |= {told_of_mended(self.run, words[0])}
 
 
 def every_way(told):
@@ -1016,10 +1029,19 @@ def every_way(told):
     same([t for t in told if t and t.startswith("share of both") and t != "share of both: 9" or t == "share of the resource: 9"], [])
 
 
+def every_number(told):
+    """Repair, Stored and Repeat each with every number that a row can have; an offer with more too, and refused although its rows were mended."""
+    wanted = {f"{answer}: {number}" for answer in ("repair", "Stored", "Repeat") for number in range(9)}
+    wanted |= {f"{answer}: more than a row can have" for answer in ("Stored", "Repeat")}
+    wanted |= {f"mended, and refused {number}" for number in (14, 15, 16)}
+    same(wanted - told, set())
+
+
 def test_random_files():
     writer = Watched(2)
     lines = writer.write(2000)
     every_way(writer.told)
+    every_number(writer.told)
     same([n for n in r.REFUSALS if not any(f" refused {n} " in line + " " for line in lines)], [])
     for call in ("describe", "compose"):
         answers = {answer.split(" ", 2)[2] for line, answer in zip(lines, lines[1:]) if line.startswith(call + " ")}
