@@ -2,9 +2,9 @@
  * Calls of the library, chosen by bytes. The same bytes make the same calls, whether a fuzzer or the random driver below chose them.
  *
  * Every lent part ends at a page that nobody may touch and has known bytes before it. After each call: the answer's number is one that the
- * call may give; a refusal has changed nothing; what an accepted call may not touch is as it was; and a call about one type has left
- * status and file of the other type under that resource. With a transcript open, each call is written in the language of
- * reference/README.md with what was answered, for the second program to check.
+ * call may give; a refusal has changed nothing; what an accepted call may not touch is as it was; what it says it has mended is what
+ * differs from what came; and a call about one type has left status and file of the other type under that resource. With a transcript
+ * open, each call is written in the language of reference/README.md with what was answered, for the second program to check.
  */
 #include "lent.h"
 
@@ -80,17 +80,29 @@ static size_t little(const uint8_t *p, int n)
     return v;
 }
 
-/* the length at which this place's file is handed out with every slot filled: all that came, or all of its tables. The record is a good one */
+/* the place of a resource and a type that a good record holds */
+static const uint8_t *place_of(size_t resource, unsigned type)
+{
+    for (const uint8_t *p = record.at; p < record.at + BH_RECORD; p += 16)
+        if (little(p, 2) == resource && p[2] == type)
+            return p;
+    fail("accepted, and no place has this resource and type");
+    return NULL;
+}
+
+static const uint8_t *slot_of(const uint8_t *place, size_t k)
+{
+    return store.at + little(place + 12, 4) + k * (little(place + 10, 2) + 2);
+}
+
+/* the length at which this place's file is handed out with every slot filled: all that came, or all of its tables */
 static uint64_t length_in_place(uint16_t resource, uint8_t type)
 {
+    const uint8_t *p = place_of(resource, type);
     size_t sum = 0;
-    for (const uint8_t *p = record.at; p < record.at + BH_RECORD; p += 16)
-        if (little(p, 2) == resource && p[2] == type) {
-            for (size_t k = 0; k < little(p + 4, 4); k++)
-                sum += little(store.at + little(p + 12, 4) + k * (little(p + 10, 2) + 2), 2);
-            return p[8] ? sum / 255 * 239 : sum;
-        }
-    return 0;
+    for (size_t k = 0; k < little(p + 4, 4); k++)
+        sum += little(slot_of(p, k), 2);
+    return p[8] ? sum / 255 * 239 : sum;
 }
 
 static void ask(struct answers *a, uint8_t type)
@@ -158,18 +170,21 @@ static void new_store(void)
     say_record();
 }
 
-static void new_out(void)
+static void fill_out(unsigned fill, size_t length)
 {
-    unsigned fill = pick(), way = pick();
-    size_t length = way % 8 == 0 ? wide() % OUT_ROOM : way % 8 == 1 ? 255 : way % 8 == 2 ? pick() : way % 8 == 3 ? file.n : 4095;
     SAY("out %u %zu\n", fill, length);
     size_of(&out, length);
     memset(out.at, (int)fill, length);
 }
 
-static void open_place(void)
+static void new_out(void)
 {
-    uint32_t count = number_of(packets());
+    unsigned fill = pick(), way = pick();
+    fill_out(fill, way % 8 == 0 ? wide() % OUT_ROOM : way % 8 == 1 ? 255 : way % 8 == 2 ? pick() : way % 8 == 3 ? file.n : 4095);
+}
+
+static void open_count(uint32_t count)
+{
     int house = pick() % 8 == 0;
     ask_before(now.resource);
     keep_all();
@@ -182,6 +197,11 @@ static void open_place(void)
         fail("what was opened is not empty");
     if (bh_number(a) == BH_HELD && stands(now.type) == BH_UNKNOWN)
         fail("held by another type");
+}
+
+static void open_place(void)
+{
+    open_count(number_of(packets()));
 }
 
 /* the other type under the same resource, as it is or with one setting another */
@@ -209,7 +229,24 @@ static void pack_one(void)
     }
 }
 
-/* wrong bytes, cut or longer packets, the other type, a stream, or arbitrary bytes with a start mark or without */
+static void seal(void)
+{
+    uint32_t crc = bh_crc32(packet.at, packet.n - 4);
+    for (int b = 0; b < 4; b++)
+        packet.at[packet.n - 4 + (size_t)b] = (uint8_t)(crc >> (24 - 8 * b));
+}
+
+/* each row of the payload at a number of places of its own, all of which can be mended as a rule */
+static void spoil_rows(void)
+{
+    for (size_t at = BH_HEADER; at + BH_ROW + BH_CRC <= packet.n; at += BH_ROW) {
+        unsigned way = pick();
+        for (unsigned k = way < 4 ? 12 : way % 9; k > 0; k--)
+            packet.at[at + pick() % BH_ROW] ^= (uint8_t)pick();
+    }
+}
+
+/* wrong bytes anywhere or in each row, cut or longer packets, the other type, a stream, or arbitrary bytes with a start mark or without */
 static void spoil(void)
 {
     unsigned way = pick() % 8;
@@ -226,6 +263,8 @@ static void spoil(void)
         memcpy(held, packet.at, n);
         size_of(&packet, n);
         memcpy(packet.at, held, n);
+    } else if (way == 7) {
+        spoil_rows();
     } else if (packet.n > 18) {
         for (unsigned k = pick() % 12; k > 0; k--)
             packet.at[14 + wide() % (packet.n - 18)] ^= (uint8_t)pick();
@@ -235,12 +274,61 @@ static void spoil(void)
             packet.at[12] ^= 0xC0;
         if (way == 5)
             packet.at[9] &= 0xF0, packet.at[10] = packet.at[11] = 0, packet.at[12] &= 0x3F;
-        if (way >= 2 && way <= 5) {
-            uint32_t crc = bh_crc32(packet.at, packet.n - 4);
-            for (int b = 0; b < 4; b++)
-                packet.at[packet.n - 4 + (size_t)b] = (uint8_t)(crc >> (24 - 8 * b));
-        }
+        if (way >= 2 && way <= 5)
+            seal();
     }
+}
+
+/* at how many of n places they differ */
+static size_t apart(const uint8_t *a, const uint8_t *b, size_t n)
+{
+    size_t differ = 0;
+    for (size_t i = 0; i < n; i++)
+        differ += a[i] != b[i];
+    return differ;
+}
+
+/* the rows of an offered packet; 0 without protection */
+static size_t rows_offered(void)
+{
+    return packet.n >= BH_SMALLEST_PACKET && (packet.at[12] >> 4 & 3) == 1 ? (packet.n - 18) / BH_ROW : 0;
+}
+
+/* the first row of an offered packet that no call can repair; the number of its rows where there is none */
+static size_t first_beyond(void)
+{
+    uint8_t fixed[BH_ROW];
+    size_t k = 0;
+    while (k < rows_offered() && bh_number(bh_repair_row(packet.at + BH_HEADER + BH_ROW * k, BH_ROW, fixed, sizeof fixed)) == 0)
+        k++;
+    return k;
+}
+
+/* a refusal is no repeat, has mended nothing, and has no value but the row that 13 names */
+static void judge_refused_offer(uint64_t a)
+{
+    if (bh_is_repeat(a) || bh_mended(a) != 0)
+        fail("a refusal tells of a repeat, or that something was mended");
+    if (bh_value(a) != (bh_number(a) == BH_REPAIR ? first_beyond() : 0))
+        fail("a refusal has a value that it does not name");
+}
+
+/* the slot holds the packet's payload but for as many bytes as were mended; it did before if this is a repeat, and was empty if not */
+static void judge_taken_offer(uint64_t a)
+{
+    size_t number = (size_t)packet.at[5] << 12 | (size_t)packet.at[6] << 4 | packet.at[7] >> 4, length = packet.n - 18;
+    size_t mended = (size_t)bh_mended(a), repeat = bh_is_repeat(a) != 0;
+    const uint8_t *slot = slot_of(place_of(asked, packet.at[12] >> 6), number);
+    if (bh_value(a) != 2 * mended + repeat)
+        fail("a value that is neither of Stored nor of Repeat");
+    if (mended > 8 * rows_offered())
+        fail("more mended than there can be");
+    if (little(slot, 2) != length || apart(slot + 2, packet.at + BH_HEADER, length) != mended)
+        fail("not so many bytes were mended in the packet");
+    if (repeat)
+        same(&store, 0, "a repeat changed the store");
+    else if (little(store.copy + (slot - store.at), 2) != 0)
+        fail("stored in a slot that was not empty");
 }
 
 static void offer_one(void)
@@ -254,8 +342,10 @@ static void offer_one(void)
     SAY("offer\n");
     uint64_t a = bh_offer(record.at, record.n, store.at, store.n, packet.at, packet.n);
     judge(a, may(bh_number(a), 1, 16, ""), 0, 1, 0);
-    if (bh_number(a) == 0 && bh_value(a) == 1)
-        same(&store, 0, "a repeat changed the store");
+    if (bh_number(a) == 0)
+        judge_taken_offer(a);
+    else
+        judge_refused_offer(a);
     if (type != 1 && type != 2 && may(bh_number(a), BH_OTHER, BH_CONFLICT, ""))
         fail("a packet of a type that no place has was judged by a place");
     ask_after(type);
@@ -322,6 +412,26 @@ static void close_one(void)
         fail("what was closed is still known");
 }
 
+/* at some of the seventeen places at which another coded row differs from this one: from nine on that is the nearer of the two. The generator's
+ * coefficients, wherever they begin, are a coded row */
+static void spoil_towards(void)
+{
+    static const uint8_t generator[17] = {1, 59, 13, 104, 189, 68, 209, 30, 8, 163, 65, 41, 229, 98, 50, 36, 59};
+    unsigned from = pick(), which = wide() << 1 | pick() % 2;
+    for (unsigned i = 0; i < 17; i++)
+        if (which >> i & 1)
+            packet.at[(from + i) % BH_ROW] ^= generator[i];
+}
+
+/* the value is the number of places at which the row written differs from the one that came; a refusal has none */
+static void judge_repair(uint64_t a)
+{
+    if (bh_number(a) != 0 && bh_value(a) != 0)
+        fail("a refusal has a value that it does not name");
+    if (bh_number(a) == 0 && (bh_value(a) > 8 || bh_value(a) != apart(out.at, packet.at, BH_ROW)))
+        fail("not so many bytes were mended in the row");
+}
+
 static void row_one(void)
 {
     size_t n = pick() % 8 == 0 ? pick() : pick() % 2 ? 255 : 239;
@@ -338,14 +448,18 @@ static void row_one(void)
     }
     if (n == 255 && pick() % 2) {
         bh_encode_row(packet.at, 239, packet.at + 239, 16);
-        for (unsigned k = pick() % 11; k > 0; k--)
-            packet.at[pick() % 255] ^= (uint8_t)pick();
+        if (pick() % 4 == 0)
+            spoil_towards();
+        else
+            for (unsigned k = pick() % 11; k > 0; k--)
+                packet.at[pick() % 255] ^= (uint8_t)pick();
         keep(&packet);
         say_bytes(&packet, "bytes");
     }
     SAY("repair\n");
     uint64_t a = bh_repair_row(packet.at, n, out.at, out.n);
     judge(a, may(bh_number(a), 26, 26, "\x01\x0d"), 255, 0, 0);
+    judge_repair(a);
 }
 
 /* arbitrary bytes in the record or in the store */
@@ -370,32 +484,64 @@ static void disturb(void)
     say_record();
 }
 
+/* packet n of the file in packet; 0 where that is refused */
+static int pack_number(uint32_t n)
+{
+    keep_all();
+    SAY("pack %" PRIu32 "\n", n);
+    uint64_t a = bh_pack(file.at, file.n, now.resource, now.type, now.update, now.protection, now.rows, now.size, n, out.at, out.n);
+    judge(a, may(bh_number(a), 25, 26, "\x06\x11\x17"), (size_t)bh_value(a), 0, 0);
+    if (bh_number(a) != 0)
+        return 0;
+    size_of(&packet, (size_t)bh_value(a));
+    memcpy(packet.at, out.at, packet.n);
+    return 1;
+}
+
 static void several_offers(void)
 {
     for (uint32_t n = 0, all = packets(); n < all && n < 64; n++) {
         if (pick() % 16 == 15)
             continue;
-        keep_all();
-        SAY("pack %" PRIu32 "\n", n);
-        uint64_t a = bh_pack(file.at, file.n, now.resource, now.type, now.update, now.protection, now.rows, now.size, n, out.at, out.n);
-        judge(a, may(bh_number(a), 25, 26, "\x06\x11\x17"), (size_t)bh_value(a), 0, 0);
-        if (bh_number(a) != 0)
+        if (!pack_number(n))
             return;
-        size_of(&packet, (size_t)bh_value(a));
-        memcpy(packet.at, out.at, packet.n);
         if (pick() % 4 == 0)
             spoil();
         offer_one();
     }
 }
 
+/* a protected file in a place of its own; each packet in copies that are altered in other places. Now and then the place and the packets are without
+ * protection: then there are rows in the payloads too, and nothing may be mended */
+static void mend_round(void)
+{
+    int plain = pick() % 4 == 0;
+    new_store(), new_file(), fill_out(0, BH_LARGEST_PACKET);
+    now = (struct settings){.resource = (uint16_t)(1 + pick() % 4), .type = (uint8_t)(1 + pick() % 2), .update = (uint8_t)(pick() % 16), .protection = 1,
+                            .rows = (uint8_t)(1 + pick() % 15), .size = (uint16_t)(BH_ROW * (1 + pick() % 15))};
+    uint32_t all = packets();
+    now.protection = (uint8_t)!plain;
+    say_settings();
+    open_count(all);
+    now.protection = 1;
+    say_settings();
+    for (uint32_t n = 0; n < all && n < 4; n++)
+        for (unsigned copies = 1 + pick() % 3; copies > 0 && pack_number(n); copies--) {
+            spoil_rows();
+            if (plain)
+                packet.at[12] &= 0xCF, seal();
+            offer_one();
+        }
+}
+
 int LLVMFuzzerTestOneInput(const uint8_t *data, size_t size)
 {
-    static void (*const steps[44])(void) = {
+    static void (*const steps[47])(void) = {
         choose_settings, new_file, new_store, new_out, new_out, open_place, open_place, open_place, open_beside, open_beside, open_beside,
         open_beside, pack_one, pack_one, pack_one, spoil, spoil, offer_one, offer_one, offer_one, offer_one, read_one, read_one, status_one,
-        status_one, hand_one, hand_one, hand_one, close_one, row_one, disturb, several_offers, several_offers, several_offers, vary_settings,
-        vary_settings, describe_round, describe_round, describe_round, describe_one, compose_round, compose_round, compose_round, compose_one};
+        status_one, hand_one, hand_one, hand_one, close_one, row_one, row_one, disturb, several_offers, several_offers, several_offers, mend_round,
+        mend_round, vary_settings, vary_settings, describe_round, describe_round, describe_round, describe_one, compose_round, compose_round, compose_round,
+        compose_one};
     static const uint8_t nothing[1];
     lend_all();
     choice = size ? data : nothing;
@@ -407,7 +553,7 @@ int LLVMFuzzerTestOneInput(const uint8_t *data, size_t size)
         return 0;
     }
     while (choices > 0)
-        steps[pick() % 44]();
+        steps[pick() % 47]();
     return 0;
 }
 
