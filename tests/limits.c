@@ -1,4 +1,5 @@
-/* The cases that need more memory than the program `cases` has: the largest file, stores longer than their usable part, and long descriptions.
+/* The cases that need more memory than the program `cases` has: the largest file, stores longer than their usable part, and long descriptions; and what the
+   header's own functions tell of an answer.
    limits packets: writes every packet of the largest protected file to standard output instead, for reference/largest.py. */
 #include "brithelva.h"
 
@@ -117,6 +118,55 @@ static void nothing(void)
     expect("nothing written", 7, out[0]);
 }
 
+/* place k of a row of a packet, among the first ones, in the middle and among the checks by turns; altered once more it is as it was */
+static void alter(uint8_t *packet, int row, int k)
+{
+    packet[BH_HEADER + BH_ROW * row + 127 * k % BH_ROW] ^= (uint8_t)(0xF0 + row);
+}
+
+static void alter_all(uint8_t *packet, int k)
+{
+    for (int row = 0; row < 15; row++)
+        alter(packet, row, k);
+}
+
+static void expect_told(const char *name, uint64_t expected, int mended, int repeat, uint64_t got)
+{
+    expect(name, expected, got);
+    expect(name, (uint64_t)mended, bh_mended(got));
+    expect(name, (uint64_t)repeat, (uint64_t)(bh_is_repeat(got) != 0));
+}
+
+/* fifteen rows with eight altered bytes each are stored; their copies have fewer and fewer. Of a refusal neither function tells anything */
+static void mended(const uint8_t *file, uint8_t *store)
+{
+    uint8_t record[BH_RECORD] = {0}, packet[BH_LARGEST_PACKET], fixed[BH_ROW];
+    size_t n = BH_HEADER + 15 * BH_ROW + BH_CRC, room = 15 * BH_ROW + 2;
+    expect("fifteen rows", 256 * n, bh_pack(file, 15 * BH_ROW_INFO, 1, 1, 0, 1, 15, 15 * BH_ROW, 0, packet, sizeof packet));
+    expect("their place", 0, bh_open(record, BH_RECORD, store, room, 1, 1, 0, 1, 1, 15, 15 * BH_ROW));
+    for (int k = 0; k < 8; k++)
+        alter_all(packet, k);
+    for (int k = 8; k >= 0; k--) {
+        int repeat = k < 8;
+        expect("mended in a row", 256 * (uint64_t)k, bh_repair_row(packet + BH_HEADER, BH_ROW, fixed, BH_ROW));
+        expect_told("mended in fifteen", 256 * (uint64_t)(2 * 15 * k + repeat), 15 * k, repeat, bh_offer(record, BH_RECORD, store, room, packet, n));
+        if (k > 0)
+            alter_all(packet, k - 1);
+    }
+    for (int k = 0; k < 9; k++)
+        alter_all(packet, k);
+    expect_told("no row can be mended", BH_REPAIR, 0, 0, bh_offer(record, BH_RECORD, store, room, packet, n));
+    /* the rows told are 1, odd as the value of a repeat is, and 14 */
+    alter(packet, 0, 0);
+    expect_told("the second cannot", 256 * 1 + BH_REPAIR, 0, 0, bh_offer(record, BH_RECORD, store, room, packet, n));
+    for (int row = 1; row < 14; row++)
+        alter(packet, row, 0);
+    expect_told("the last cannot", 256 * 14 + BH_REPAIR, 0, 0, bh_offer(record, BH_RECORD, store, room, packet, n));
+    alter(packet, 14, 0);
+    packet[n - 1] ^= 1;
+    expect_told("all can, and the CRC is wrong", BH_CRC_BAD, 0, 0, bh_offer(record, BH_RECORD, store, room, packet, n));
+}
+
 /* one row a packet, in 276 tables of 255 */
 static int packets(const uint8_t *file)
 {
@@ -147,6 +197,7 @@ int main(int count, char **words)
     packing(file);
     stores(store);
     largest(file, store, out);
+    mended(file, store);
     descriptions(file, store, out);
     nothing();
     printf("limits: %d cases, %d wrong\n", told, wrong);
