@@ -141,7 +141,7 @@ static void rows(void)
         memcpy(wrong, row, 255);
         for (int k = 0; k < errors; k++)
             wrong[(k * 31 + 7) % 255] ^= (uint8_t)(k + 1);
-        must(bh_repair_row(wrong, 255, fixed, 255) == 0 && memcmp(row, fixed, 255) == 0, "a repaired row");
+        must(bh_repair_row(wrong, 255, fixed, 255) == 256 * (uint64_t)errors && memcmp(row, fixed, 255) == 0, "a repaired row");
         fec_repair(wrong);
         must(memcmp(row, fixed, 255) == 0, "a row repaired by libfec");
         snprintf(name, sizeof name, "repair %d wrong bytes", errors);
