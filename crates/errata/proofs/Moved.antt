@@ -150,6 +150,11 @@ module _ (r s : List ℕ) (lr : length r ≡ 255) (ls : length s ≡ 255) (close
 
 -- ---- any row that leaves `rest`
 
+-- a row is repaired to `fixed`, from which it differs in n bytes
+pub record Found (row fixed : List ℕ) (n : ℕ) : Type 0 where
+  pub answered : repairOf row ≡ found fixed
+  pub counted : n ≡ distance row fixed
+
 module _ (rest : List ℕ) (long : length rest ≡ 16) (bytes : Bytes rest) where
   pub errata-ordered : (e : Errata) → e ≡ errataOf rest → Ordered (e .n) (e .at)
   unfolding errataOf errataFor
@@ -165,36 +170,25 @@ module _ (rest : List ℕ) (long : length rest ≡ 16) (bytes : Bytes rest) wher
     same : remainder 239 (leaving rest) ≡ remainder 239 row
     same = sym (leaving-rest rest long) ∙ left
 
-    pub errata-found : (e : Errata) → e ≡ errataOf rest → e .fits ≡ true → repairOf row ≡ found (mendedBy row (entries (e .at)) (entries (e .values)) (e .n))
+    -- the row that is found, and as many places as it and the row differ in
+    pub errata-found : (e : Errata) → e ≡ errataOf rest → e .fits ≡ true
+        → Found row (mendedBy row (entries (e .at)) (entries (e .values)) (e .n)) (e .n)
     unfolding errataOf errataFor
     errata-found e q =
-        subst (λ (e : Errata). e .fits ≡ true → repairOf row ≡ found (mendedBy row (entries (e .at)) (entries (e .values)) (e .n))) (sym q) (by (repairOf (leaving rest)) refl)
+        subst (λ (e : Errata). e .fits ≡ true → Found row (mendedBy row (entries (e .at)) (entries (e .values)) (e .n)) (e .n)) (sym q) (by (repairOf (leaving rest)) refl)
       where
         by : (a : Repaired) → repairOf (leaving rest) ≡ a → errataFor (leaving rest) a .fits ≡ true
-            → repairOf row ≡ found (mendedBy row (entries (errataFor (leaving rest) a .at)) (entries (errataFor (leaving rest) a .values)) (errataFor (leaving rest) a .n))
+            → Found row (mendedBy row (entries (errataFor (leaving rest) a .at)) (entries (errataFor (leaving rest) a .values)) (errataFor (leaving rest) a .n)) (errataFor (leaving rest) a .n)
         by (found s) f t =
             let r : List ℕ = leaving rest in
             let lr : length r ≡ 255 = leaving-length rest long in
+            let br : Bytes r = leaving-bytes rest long bytes in
             let near : Near r s = repair-near r s f in
-            repair-found row (add s (add r row)) lrow brow (near-moved r row s lr lrow (leaving-bytes rest long bytes) brow same near)
-            ∙ ap found (sym (mended-moved r s lr (near .coded .sized) (near .close) row lrow))
-        by none f t = let z : _≡_ {A = ℕ} 0 1 = cc in absurd (omega arith)
-
-    -- as many places as the row and what it becomes differ in
-    pub errata-counted : (e : Errata) → e ≡ errataOf rest → e .fits ≡ true → e .n ≡ distance row (mendedBy row (entries (e .at)) (entries (e .values)) (e .n))
-    unfolding errataOf errataFor
-    errata-counted e q =
-        subst (λ (e : Errata). e .fits ≡ true → e .n ≡ distance row (mendedBy row (entries (e .at)) (entries (e .values)) (e .n))) (sym q) (by (repairOf (leaving rest)) refl)
-      where
-        by : (a : Repaired) → repairOf (leaving rest) ≡ a → errataFor (leaving rest) a .fits ≡ true
-            → errataFor (leaving rest) a .n ≡ distance row (mendedBy row (entries (errataFor (leaving rest) a .at)) (entries (errataFor (leaving rest) a .values)) (errataFor (leaving rest) a .n))
-        by (found s) f t =
-            let r : List ℕ = leaving rest in
-            let lr : length r ≡ 255 = leaving-length rest long in
-            let near : Near r s = repair-near r s f in
-            differing-distance r s lr (near .coded .sized)
-            ∙ sym (moved-distance r row s lr lrow (leaving-bytes rest long bytes) brow same near)
-            ∙ ap (distance row) (sym (mended-moved r s lr (near .coded .sized) (near .close) row lrow))
+            let moved = mended-moved r s lr (near .coded .sized) (near .close) row lrow in
+            record {
+              answered = repair-found row (add s (add r row)) lrow brow (near-moved r row s lr lrow br brow same near) ∙ ap found (sym moved);
+              counted = differing-distance r s lr (near .coded .sized) ∙ sym (moved-distance r row s lr lrow br brow same near) ∙ ap (distance row) (sym moved);
+            }
         by none f t = let z : _≡_ {A = ℕ} 0 1 = cc in absurd (omega arith)
 
     pub errata-none : (e : Errata) → e ≡ errataOf rest → e .fits ≡ false → repairOf row ≡ none

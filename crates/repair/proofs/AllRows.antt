@@ -27,7 +27,7 @@ use Rattle.errata.specs.declared.Errata.{Errata}
 use Rattle.errata.specs.Errata.{errataOf}
 use Rattle.errata.specs.InnerErrata.{entries, mendedBy, Ordered}
 use Rattle.errata.proofs.Mending.{mended-length}
-use Rattle.errata.proofs.Moved.{errata-ordered, errata-found, errata-counted, errata-none}
+use Rattle.errata.proofs.Moved.{Found, errata-ordered, errata-found, errata-none}
 use Rattle.encoding.specs.Encode.{remaindersOf}
 use Rattle.encoding.proofs.Feeding.{rest-there, rest-among, length-remainders}
 use Rattle.repair.specs.declared.Counted.{Counted}
@@ -84,8 +84,7 @@ module _ (b : List ℕ) (i : ℕ) (some : 255 ≤ length b) where
   pub row-broken : i < 15 → repairOf first ≡ none → Ends b (mendRows (length b / 255) i b) i b
   row-broken h e = subst (λ (m : Whole). Ends b m i b) (sym (all none e)) (h, refl, refl)
 
-  module _ (at c : List ℕ) (n : ℕ) (e : repairOf first ≡ found (mendedBy first (entries at) (entries c) n))
-      (counted : n ≡ distance first (mendedBy first (entries at) (entries c) n)) where
+  module _ (at c : List ℕ) (n : ℕ) (e : Found first (mendedBy first (entries at) (entries c) n) n) where
     abbrev fixed : List ℕ
     fixed = mendedBy first (entries at) (entries c) n
 
@@ -97,15 +96,15 @@ module _ (b : List ℕ) (i : ℕ) (some : 255 ≤ length b) where
       where
         by : (m : Whole) → mendRows (length others / 255) (i + 1) others ≡ m → Ends others m r rest → Ends b (mendRows (length b / 255) i b) x out
         by (whole s k) z p =
-            let g : mendRows (length b / 255) i b ≡ whole (fixed ++ s) (distance first fixed + k) = all (found fixed) e ∙ ap (behind first (found fixed) i) z in
+            let g : mendRows (length b / 255) i b ≡ whole (fixed ++ s) (distance first fixed + k) = all (found fixed) (e .answered) ∙ ap (behind first (found fixed) i) z in
             let d = f .added (omega (arith, p .0)) in
             subst (λ (m : Whole). Ends b m x out) (sym g) (
-              omega (arith, d .0, p .0, counted),
+              omega (arith, d .0, p .0, e .counted),
               d .1 ∙ ap (λ (l : List ℕ). mendedBy l (entries at) (entries c) n) (q ∙ ap (λ (l : List ℕ). first ++ l) (p .1))
                   ∙ mended-front first s (entries at) (entries c) n (length-take-le 255 b some),
             )
         by (broken j) z p =
-            let g : mendRows (length b / 255) i b ≡ broken j = all (found fixed) e ∙ ap (behind first (found fixed) i) z in
+            let g : mendRows (length b / 255) i b ≡ broken j = all (found fixed) (e .answered) ∙ ap (behind first (found fixed) i) z in
             let d = f .kept (omega (arith, p .0, p .1)) in
             subst (λ (m : Whole). Ends b m x out) (sym g)
             (p .0, d .0 ∙ p .1, d .1 ∙ q ∙ ap (λ (l : List ℕ). first ++ l) (p .2) ∙ take-append-drop 255 b)
@@ -197,11 +196,8 @@ module _ (b : List ℕ) (some : 255 ≤ length b) (bytes : Bytes b) (rest : List
     pub row-ordered : Ordered (e .n) (e .at)
     row-ordered = errata-ordered rest rest-long rest-bytes e told
 
-    pub row-found : e .fits ≡ true → repairOf (take 255 b) ≡ found (mendedBy (take 255 b) (entries (e .at)) (entries (e .values)) (e .n))
+    pub row-found : e .fits ≡ true → Found (take 255 b) (mendedBy (take 255 b) (entries (e .at)) (entries (e .values)) (e .n)) (e .n)
     row-found = errata-found rest rest-long rest-bytes (take 255 b) long row-bytes left e told
-
-    pub row-counted : e .fits ≡ true → e .n ≡ distance (take 255 b) (mendedBy (take 255 b) (entries (e .at)) (entries (e .values)) (e .n))
-    row-counted = errata-counted rest rest-long rest-bytes (take 255 b) long row-bytes left e told
 
     pub row-none : e .fits ≡ false → repairOf (take 255 b) ≡ none
     row-none = errata-none rest rest-long rest-bytes (take 255 b) long row-bytes left e told

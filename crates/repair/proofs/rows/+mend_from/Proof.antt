@@ -12,7 +12,7 @@ use Rattle.code.specs.Code.{Bytes}
 use Rattle.code.specs.Search.{remainder}
 use Rattle.code.proofs.Lists.{bytes-of}
 use Rattle.repair.specs.InnerRows.{Resting}
-use Rattle.repair.proofs.AllRows.{no-rows, some-rows, row-broken, row-done, row-known, rows-behind, row-ordered, row-found, row-counted, row-none, ended-few, behind-part, lent-behind, back-length}
+use Rattle.repair.proofs.AllRows.{no-rows, some-rows, row-broken, row-done, row-known, rows-behind, row-ordered, row-found, row-none, ended-few, behind-part, lent-behind, back-length}
 use Rattle.repair.proofs.rows.mend_from.Reads as mend-from
 use Rattle.repair.proofs.rows.mend_from.Kinds as mend-from-kinds
 use Rattle.repair.proofs.rows.+mend_from.Lts-mend_from as mend-from-lts
@@ -108,11 +108,9 @@ mend-from-returns-3 t c =
     let b : List ℕ = start .args .rows .now in
     let e = find .find .result in
     let h : 255 ≤ length b = some t (find .before .before) in
-    let fits = not-false (e .fits) (c .before .before .before .before .before .before .before .before .if2 .left) in
     let called = c .before .before .before .before .before .before .mend-from in
     row-done b (start .args .i) h (e .at) (e .values) (e .n)
-    (row-found b h (bytes t find) _ (left t find) e (find .find .ensures) fits)
-    (row-counted b h (bytes t find) _ (left t find) e (find .find .ensures) fits)
+    (row-found b h (bytes t find) _ (left t find) e (find .find .ensures) (not-false (e .fits) (c .before .before .before .before .before .before .before .before .if2 .left)))
     (called .result) (take (length b - 255) (drop 255 b)) (called .last .0) _ _ (behind-part b) (called .ensures)
     (lent-behind b (called .last .0) h) (c .before .before .finish .ensures)
 
