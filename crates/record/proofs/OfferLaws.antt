@@ -1,6 +1,6 @@
 -- What an offer does, in terms of what places hold: document 01, section 5. It changes at most the addressed slot of the place that it names, and that from empty
 -- to the payload; and it depends on nothing else of the store but its length. The packet may be any list. Assumes nothing.
-use mathlib.Core.Path.{_≡_, refl, sym, ap, ap₂, subst, _∙_}
+use mathlib.Core.Path.{_≡_, refl, sym, ap, subst, _∙_}
 use mathlib.Core.Logic.{_⊎_, inl, inr, ⊎-map}
 use mathlib.Core.Bool.{Bool, true, false, cond}
 use mathlib.Core.List.{List, [], _∷_}
@@ -13,7 +13,7 @@ use lib.Seq.{getD-set-same, getD-set-other}
 use Rattle.words.specs.Words.{same}
 use Rattle.words.proofs.SameLaws.{same-self}
 use Rattle.refusals.specs.declared.Refusal.{Refusal}
-use Rattle.refusals.specs.declared.Refusal.the-variants.{Unknown, Other, Wide, Crc, Conflict}
+use Rattle.refusals.specs.declared.Refusal.the-variants.{Unknown, Other, Wide, Crc}
 use Rattle.packet.specs.declared.Packet.{Packet}
 use Rattle.packet.specs.declared.Reading.{Reading}
 use Rattle.packet.specs.declared.Reading.the-variants.{Sent}
@@ -193,34 +193,6 @@ answer-after c k b m (inl e) = inl (rw e refl)
 answer-after c k [] m (inr e) = inl (rw e refl)
 answer-after c k (x ∷ b) m (inr e) = inr (rw (e, same-self (x ∷ b)) refl)
 
--- where the answer is Stored: the slot was empty, and holds the payload that was put; every other is as it was
-pub record Storing (p : Place) (f : Packet) (q : List ℕ) (m : ℕ) (c c′ : List Content) : Type 0 where
-  pub payload : List ℕ
-  pub judged : judge p f q ≡ put (f .number) payload m
-  pub empty : getD c (f .number) wrong ≡ holding []
-  pub after : c′ ≡ set c (f .number) (holding payload)
-
-storing-known : (p : Place) (f : Packet) (q : List ℕ) (m : ℕ) (c c′ : List Content) (j : Judged) → judge p f q ≡ j → Sound p f j → answered j c ≡ Stored m → c′ ≡ heldAfter j c
-    → Storing p f q m c c′
-storing-known p f q m c c′ (refuse r) e w a h = let z : _≡_ {A = ℕ} 0 1 = cc in absurd (omega arith)
-storing-known p f q m c c′ (put k b n) e w a h = by (getD c k wrong) refl a h
-  where
-    by : (x : Content) → getD c k wrong ≡ x → putInto x b n ≡ Stored m → c′ ≡ kept (putInto x b n) c k b → Storing p f q m c c′
-    by wrong z a h = let o : _≡_ {A = ℕ} 0 1 = cc in absurd (omega arith)
-    by (holding []) z a h =
-        let same : n ≡ m = cc in
-        record {
-          payload = b;
-          judged = e ∙ ap₂ (λ (x y : ℕ). put x b y) (w .number) same;
-          empty = ap (λ (x : ℕ). getD c x wrong) (sym (w .number)) ∙ z;
-          after = h ∙ ap (λ (x : ℕ). set c x (holding b)) (w .number);
-        }
-    by (holding (x ∷ d)) z a h = other (same (x ∷ d) b) a
-      where
-        other : (t : Bool) → cond t (Repeat n) (Refused Conflict) ≡ Stored m → Storing p f q m c c′
-        other true a = let o : _≡_ {A = ℕ} 0 1 = cc in absurd (omega arith)
-        other false a = let o : _≡_ {A = ℕ} 0 1 = cc in absurd (omega arith)
-
 -- ---- an offer, whatever comes
 
 -- it is refused, or it comes to what the packet's place says
@@ -263,9 +235,6 @@ module _ (h : Record) (s q : List ℕ) where
   pub offer-refused : (r : Refusal) → offerOf h s q .answer ≡ Refused r → offerOf h s q .store ≡ s
   offer-refused r e = offer-unstored (λ (m : ℕ) (z : offerOf h s q .answer ≡ Stored m). let o : _≡_ {A = ℕ} 0 1 = cc in omega arith)
 
-  pub offer-repeat : (n : ℕ) → offerOf h s q .answer ≡ Repeat n → offerOf h s q .store ≡ s
-  offer-repeat n e = offer-unstored (λ (m : ℕ) (z : offerOf h s q .answer ≡ Stored m). let o : _≡_ {A = ℕ} 0 1 = cc in omega arith)
-
   -- ---- the place that the packet names
   module _ (g : good (length s) (h .places) ≡ true) (f : Packet) (e : readOf q ≡ Sent f) (i : ℕ) (w : placeNamed (h .places) (packetName f) ≡ At i) where
     pub offer-sound : Sound (getD (h .places) i unused) f (judge (getD (h .places) i unused) f q)
@@ -281,12 +250,6 @@ module _ (h : Record) (s q : List ℕ) where
         ap (λ (o : Offering). contents (getD (h .places) i unused) (o .store)) (offer-placed h s q g f e i w)
         ∙ holds-at (getD (h .places) i unused) f s (judge (getD (h .places) i unused) f q) offer-sound
         (named-facts (length s) (h .places) g (packetName f) i w .ends-within)
-
-    pub offer-stored : (m : ℕ) → offerOf h s q .answer ≡ Stored m
-        → Storing (getD (h .places) i unused) f q m (contents (getD (h .places) i unused) s) (contents (getD (h .places) i unused) (offerOf h s q .store))
-    offer-stored m a =
-        storing-known (getD (h .places) i unused) f q m (contents (getD (h .places) i unused) s) _ (judge (getD (h .places) i unused) f q) refl offer-sound
-        (sym offer-answer ∙ a) offer-holds
 
   -- ---- a place that it does not name
   pub offer-other : (r : Name) (j : ℕ) → placeNamed (h .places) r ≡ At j → (12 < length q → nameIn q ≡ r → ⊥)
