@@ -38,7 +38,7 @@ use Rattle.record.proofs.OfferLaws.{offer-refused}
 use Rattle.handing.proofs.HandLaws.{hand-refused}
 use Rattle.code.specs.Code.{Bytes}
 use Rattle.face.specs.Layout.{recordIn, recordBytes}
-use Rattle.face.specs.Face.{Said, Kept, answerOf, badRecord, puts, putsIf, valued, encodeSays, repairSays, readSays, packSays, openSays, closeSays, offerSays, handSays}
+use Rattle.face.specs.Face.{Said, Kept, answerOf, badRecord, puts, putsIf, valued, withValue, encodeSays, repairSays, readSays, packSays, openSays, closeSays, offerSays, handSays}
 use Rattle.face.specs.Statements.{numberIn, OutputKept, RecordKept, RefusalsChangeNothing}
 use Rattle.face.proofs.LayoutLaws.{bytes-again}
 
@@ -77,7 +77,7 @@ put-if-kept t b out = by (eqb (t .number) 0)
     by false d = refl
 
 -- a value refuses nothing
-valued-kept : (v : ℕ) (p : Said) (out : List ℕ) → SaidKept p out → SaidKept (record { answer = valued v (p .answer); output = p .output }) out
+valued-kept : (v : ℕ) (p : Said) (out : List ℕ) → SaidKept p out → SaidKept (withValue v p) out
 unfolding valued
 valued-kept v p out k = by (eqb (p .answer) 0)
   where

@@ -26,7 +26,7 @@ use Rattle.packet.specs.Packet.{readOf}
 use Rattle.refusals.specs.Told.{refusedAs, verdictTold}
 use Rattle.refusals.proofs.Told.{number-not-0}
 use Rattle.packet.specs.Told.{fieldList}
-use Rattle.face.specs.Face.{Said, Says, answerOf, puts, putsIf, valued, encodeSays, repairSays, readingSays, readSays}
+use Rattle.face.specs.Face.{Said, Says, answerOf, puts, putsIf, valued, withValue, encodeSays, repairSays, readingSays, readSays}
 
 -- the same said in another way
 pub says-as : {p q : Said} {r : ℕ} {out : List ℕ} → p ≡ q → Says p r out → Says q r out
@@ -63,7 +63,7 @@ pub repair-says : (row out : List ℕ) (a r : ℕ) (x : List ℕ) (made : Mended
     → r ≡ valued (made .count) a → Says (repairSays row out) r x
 unfolding repairSays
 repair-says row out a r x made e s v =
-    says-as (ap (λ (m : Mended). record { answer = valued (m .count) (putsIf (verdictTold (m .verdict)) (m .row) out .answer); output = putsIf (verdictTold (m .verdict)) (m .row) out .output }) e)
+    says-as (ap (λ (m : Mended). withValue (m .count) (putsIf (verdictTold (m .verdict)) (m .row) out)) e)
     (record { answers = v ∙ ap (valued (made .count)) (s .answers); leaves = s .leaves })
 
 -- an answer with a value, and one that is a refusal already

@@ -60,16 +60,16 @@ putsIf t b out = cond (eqb (t .number) 0) (puts b out) (record { answer = answer
 unfoldable pub valued : ℕ → ℕ → ℕ
 valued v a = cond (eqb a 0) (answerOf (acceptedWith (v ∷ []))) a
 
+abbrev pub withValue : ℕ → Said → Said
+withValue v p = record { answer = valued v (p .answer); output = p .output }
+
 -- ---- rows: 1, 26 and 1, 13, 26; the value of a repair is the number of bytes mended
 
 unfoldable pub encodeSays : List ℕ → List ℕ → Said
 encodeSays info out = putsIf (verdictTold (encodeOf info .verdict)) (encodeOf info .checks) out
 
 unfoldable pub repairSays : List ℕ → List ℕ → Said
-repairSays row out = record {
-  answer = valued (repairRowOf row .count) (putsIf (verdictTold (repairRowOf row .verdict)) (repairRowOf row .row) out .answer);
-  output = putsIf (verdictTold (repairRowOf row .verdict)) (repairRowOf row .row) out .output;
-}
+repairSays row out = withValue (repairRowOf row .count) (putsIf (verdictTold (repairRowOf row .verdict)) (repairRowOf row .row) out)
 
 -- ---- fields: 1 to 8, 26; the values that reading tells are put, nine numbers in the table's order
 
