@@ -2,7 +2,6 @@
 use mathlib.Core.Path.{_≡_, sym, ap, _∙_}
 use native.Mathlib.Nat.{zero-add}
 use native.Mathlib.Omega.{arith}
-use borrow.Author.Needs.{needs}
 use Rattle.record.specs.declared.Offered.{Offered}
 use Rattle.record.specs.Told.{offeredTold}
 use Rattle.face.specs.Face.{answerOf}
@@ -16,28 +15,28 @@ enum-known-offered : tie.Need-enum-known-offered
 enum-known-offered c = omega arith
 
 cast-result : tie.Need-cast-result
-cast-result c = search needs
+cast-result c = omega arith
 
 mul-result : tie.Need-mul-result
-mul-result c = search needs
+mul-result c = omega arith
 
 mul-result-2 : tie.Need-mul-result-2
-mul-result-2 c = search needs
+mul-result-2 c = omega arith
 
 enum-known-offered-2 : tie.Need-enum-known-offered-2
 enum-known-offered-2 c = omega arith
 
 cast-result-2 : tie.Need-cast-result-2
-cast-result-2 c = search needs
+cast-result-2 c = omega arith
 
 mul-result-3 : tie.Need-mul-result-3
-mul-result-3 c = search needs
+mul-result-3 c = omega arith
 
 add-result : tie.Need-add-result
-add-result c = search needs
+add-result c = omega arith
 
 mul-result-4 : tie.Need-mul-result-4
-mul-result-4 c = search needs
+mul-result-4 c = omega arith
 
 enum-known-offered-3 : tie.Need-enum-known-offered-3
 enum-known-offered-3 c = omega arith

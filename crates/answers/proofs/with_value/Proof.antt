@@ -1,12 +1,12 @@
 -- An answer that is 0 is given the value; any other stays.
 use mathlib.Core.Path.{sym}
-use borrow.Author.Needs.{needs}
+use native.Mathlib.Omega.{arith}
 use Rattle.face.proofs.SayLaws.{valued-accepted, valued-refused}
 use Rattle.answers.proofs.with_value.Statement.{statement}
 use Rattle.answers.proofs.with_value.Tie as tie
 
 mul-result : tie.Need-mul-result
-mul-result c = search needs
+mul-result c = omega arith
 
 returns : tie.Need-returns
 returns c = sym (valued-accepted _ _ (c .if1 .taken))
