@@ -1,4 +1,5 @@
-// One row repaired, by value and out of a slice, and how much was mended in it: document 01, section 3, and demand 2; document 02, R-7. The rows of a payload are mended by crate repair, which this stands on.
+// One row repaired, by value and out of a slice, and how much was mended in it: document 01, section 3, and demand 2; document 02, R-7. The rows of a payload are
+// mended by crate repair, which this stands on.
 ghost use mathlib.Core.Path.{_≡_};
 ghost use Rattle.single.specs.Single.{mendOf, repairRowOf};
 use refusals::Refusal;
