@@ -1,3 +1,4 @@
 pub mod Laws
+pub mod Spares
 pub mod Cases
 pub mod Apart

@@ -5,6 +5,10 @@ ghost use lib.ListN.{length};
 ghost use Rattle.packet.specs.Packet.{fieldsIn, marked, badProtection, badNumber, badRows, judged, readOf, headerOf};
 use refusals::Refusal;
 
+mod edition;
+pub use edition::edition_of;
+pub use edition::spare_of;
+
 // A packet's fields, as sent. `kind` is document 01's type: 0 stream, 1 file, 2 description file.
 pub struct Packet {
     pub resource: u16,
@@ -16,6 +20,12 @@ pub struct Packet {
     pub protection: u8,
     pub rows: u8,
     pub reserved: u8,
+}
+
+// What an edition writes where nothing else is said: the four reserved bits, and M without protection.
+pub struct Spare {
+    pub reserved: u8,
+    pub rows: u8,
 }
 
 impl Packet {

@@ -1,10 +1,10 @@
--- Each refusal's number and values, and what a verdict tells: document 01, section 6, and document 02, R-4.
+-- Each refusal's number and values, and what a verdict tells: document 01, section 6, and document 02, R-4 and R-9.
 -- Assumes nothing.
 use mathlib.Core.List.{List, [], _∷_}
 use Prim.Native.Nat.{ℕ}
 use lib.ListN.{getD}
 use Rattle.refusals.specs.declared.Refusal.{Refusal}
-use Rattle.refusals.specs.declared.Refusal.the-variants.{Short, Mark, Length, «Type», Protection, Number, Rows, Resource, Record, Unknown, Other, Wide, Repair, Crc, Slot, Conflict, Field, Held, Full, Room, Missing, Shape, Size, Padding, Count, Output, Line, Extra}
+use Rattle.refusals.specs.declared.Refusal.the-variants.{Short, Mark, Length, «Type», Protection, Number, Rows, Resource, Record, Unknown, Other, Wide, Repair, Crc, Slot, Conflict, Field, Held, Full, Room, Missing, Shape, Size, Padding, Count, Output, Line, Extra, Edition}
 
 -- the number of a refusal
 abbrev pub numberOf : Refusal → ℕ
@@ -36,6 +36,7 @@ numberOf Count = 25
 numberOf Output = 26
 numberOf (Line v) = 29
 numberOf Extra = 30
+numberOf Edition = 33
 
 -- the values that it returns beside its number: of Repair the first row that has no coded row within eight bytes, of Missing the lowest empty slot, of Line the line that has a fault; the others have none
 abbrev pub valuesOf : Refusal → List ℕ
@@ -67,6 +68,7 @@ valuesOf Count = []
 valuesOf Output = []
 valuesOf (Line v) = v ∷ []
 valuesOf Extra = []
+valuesOf Edition = []
 
 -- its extra value, 0 where none is named
 abbrev pub valueOf : Refusal → ℕ

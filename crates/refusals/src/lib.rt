@@ -33,6 +33,7 @@ pub enum Refusal {
     Output,
     Line(u32),
     Extra,
+    Edition,
 }
 
 // What a call answers that hands nothing else over.
@@ -74,6 +75,7 @@ pub fn number(r: Refusal) -> u8
         Refusal::Output => 26,
         Refusal::Line(_) => 29,
         Refusal::Extra => 30,
+        Refusal::Edition => 33,
     }
 }
 

@@ -1,4 +1,4 @@
--- The laws of the settings: what settings that fit satisfy, and the other way round (document 01, sections 2 and 4).
+-- The laws of the settings: what settings that fit satisfy, and the other way round (document 01, sections 2 and 4; document 02, R-9).
 -- Assumes nothing.
 use mathlib.Core.Path.{_≡_, refl, sym, _∙_}
 use mathlib.Core.Bool.{Bool, true, false, cond, _&&_, _||_, true≢false, and-eq-true-iff}
@@ -15,7 +15,7 @@ pub record SizeFacts (p n : ℕ) : Type 0 where
   pub most : n ≤ 4077
   pub multiple : 0 < p → n % 255 ≡ 0
 
--- what settings that fit are: document 01, sections 2 and 4
+-- what settings that fit are: document 01, sections 2 and 4, and an edition of document 02, R-9
 pub record SettingsFacts (g : Settings) : Type 0 where
   pub resource : 0 < g .resource
   pub resource-most : g .resource < 2 ^ 16
@@ -25,6 +25,8 @@ pub record SettingsFacts (g : Settings) : Type 0 where
   pub protection : g .protection < 2
   pub rows : g .protection ≡ 1 → 0 < g .rows
   pub rows-most : g .protection ≡ 1 → g .rows < 2 ^ 8
+  pub edition : 0 < g .edition
+  pub edition-most : g .edition < 3
   pub size : SizeFacts (g .protection) (g .size)
 
 module _ (p n : ℕ) where
@@ -53,15 +55,15 @@ module _ (p n : ℕ) where
           let m = s .multiple (omega arith) in
           rw (eq-eqb (n % 255) 0 m, le-leb 255 n (omega arith), le-leb n 3825 (omega arith))
 
-kinds : (k : ℕ) → eqb k 1 || eqb k 2 ≡ true → (0 < k) × (k < 3)
-kinds k e = by (eqb k 1) refl e
+one-or-two : (k : ℕ) → eqb k 1 || eqb k 2 ≡ true → (0 < k) × (k < 3)
+one-or-two k e = by (eqb k 1) refl e
   where
     by : (t : Bool) → eqb k 1 ≡ t → t || eqb k 2 ≡ true → (0 < k) × (k < 3)
     by true h e = let z = eqb-true k 1 h in omega arith
     by false h e = let z = eqb-true k 2 e in omega arith
 
-kinds-fit : (k : ℕ) → 0 < k → k < 3 → eqb k 1 || eqb k 2 ≡ true
-kinds-fit k a b = by (eqb k 1) refl
+is-one-or-two : (k : ℕ) → 0 < k → k < 3 → eqb k 1 || eqb k 2 ≡ true
+is-one-or-two k a b = by (eqb k 1) refl
   where
     by : (t : Bool) → eqb k 1 ≡ t → t || eqb k 2 ≡ true
     by true h = refl
@@ -94,19 +96,22 @@ module _ (g : Settings) where
       let d = and-eq-true-iff (leb (g .update) 15) _ .0 (c .1) in
       let h = and-eq-true-iff (leb (g .protection) 1) _ .0 (d .1) in
       let i = and-eq-true-iff (eqb (g .protection) 0 || (leb 1 (g .rows) && leb (g .rows) 255)) _ .0 (h .1) in
+      let j = and-eq-true-iff (eqb (g .edition) 1 || eqb (g .edition) 2) _ .0 (i .1) in
       let l = leb-true (g .resource) 65535 (b .0) in
       let u = leb-true (g .update) 15 (d .0) in
       let p = leb-true (g .protection) 1 (h .0) in
       record {
         resource = leb-true _ _ (a .0);
         resource-most = omega arith;
-        kind = kinds (g .kind) (c .0) .0;
-        kind-most = kinds (g .kind) (c .0) .1;
+        kind = one-or-two (g .kind) (c .0) .0;
+        kind-most = one-or-two (g .kind) (c .0) .1;
         update = omega arith;
         protection = omega arith;
         rows = λ (o : g .protection ≡ 1). rows-told (g .protection) (g .rows) (i .0) o .0;
         rows-most = λ (o : g .protection ≡ 1). rows-told (g .protection) (g .rows) (i .0) o .1;
-        size = size-facts (g .protection) (g .size) (i .1);
+        edition = one-or-two (g .edition) (j .0) .0;
+        edition-most = one-or-two (g .edition) (j .0) .1;
+        size = size-facts (g .protection) (g .size) (j .1);
       }
 
   pub settings-fit : SettingsFacts g → settingsFit g ≡ true
@@ -115,10 +120,11 @@ module _ (g : Settings) where
       rw (
         le-leb 1 (g .resource) (s .resource),
         le-leb (g .resource) 65535 (omega arith),
-        kinds-fit (g .kind) (s .kind) (s .kind-most),
+        is-one-or-two (g .kind) (s .kind) (s .kind-most),
         le-leb (g .update) 15 (omega arith),
         le-leb (g .protection) 1 (omega arith),
         rows-fit (g .protection) (g .rows) (s .protection) (λ o. (s .rows o, s .rows-most o)),
+        is-one-or-two (g .edition) (s .edition) (s .edition-most),
         size-fit (g .protection) (g .size) (s .size),
       )
 

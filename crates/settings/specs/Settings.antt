@@ -1,8 +1,9 @@
--- The settings of a file: document 01, sections 2 and 4, and the house setting, which stands here alone.
+-- The settings of a file: document 01, sections 2 and 4; with the edition, document 02, R-9; and the house setting, which stands here alone.
 -- Assumes nothing.
 use mathlib.Core.Bool.{Bool, cond, _&&_, _||_}
 use Prim.Native.Nat.{ℕ, _%_}
 use lib.Dec.{eqb, leb}
+use Rattle.packet.specs.Edition.{spareOf}
 use Rattle.settings.specs.declared.Settings.{Settings}
 
 -- a payload or slot size: 1 to 4077 without protection; a multiple of 255, from 255 to 3825, with it
@@ -10,16 +11,21 @@ abbrev pub sizeFits : ℕ → ℕ → Bool
 sizeFits protection size =
     cond (eqb protection 0) (leb 1 size && leb size 4077) (eqb (size % 255) 0 && (leb 255 size && leb size 3825))
 
--- resource 1 to 65535, type 1 or 2, update 0 to 15, protection 0 or 1, M 1 to 255 with protection (any without), the size in its range
+-- resource 1 to 65535, type 1 or 2, update 0 to 15, protection 0 or 1, M 1 to 255 with protection (any without), edition 1 or 2, the size in its range
 unfoldable pub settingsFit : Settings → Bool
 settingsFit g =
     leb 1 (g .resource) && (leb (g .resource) 65535 && ((eqb (g .kind) 1 || eqb (g .kind) 2) && (leb (g .update) 15
-    && (leb (g .protection) 1 && ((eqb (g .protection) 0 || (leb 1 (g .rows) && leb (g .rows) 255)) && sizeFits (g .protection) (g .size))))))
+    && (leb (g .protection) 1 && ((eqb (g .protection) 0 || (leb 1 (g .rows) && leb (g .rows) 255))
+    && ((eqb (g .edition) 1 || eqb (g .edition) 2) && sizeFits (g .protection) (g .size)))))))
 
--- M as it is written and held: 0 without protection
+-- M as it is held: 0 without protection
 abbrev pub rowsHeld : Settings → ℕ
 rowsHeld g = cond (eqb (g .protection) 0) 0 (g .rows)
 
--- the house setting: protection 1, M = 32, P and S = 255
+-- M as it is written: without protection as the edition has it
+abbrev pub rowsSent : Settings → ℕ
+rowsSent g = cond (eqb (g .protection) 0) (spareOf (g .edition) .rows) (g .rows)
+
+-- the house setting: protection 1, M = 32, P and S = 255, edition 2
 abbrev pub house : ℕ → ℕ → ℕ → Settings
-house resource kind update = record { resource = resource; kind = kind; update = update; protection = 1; rows = 32; size = 255 }
+house resource kind update = record { resource = resource; kind = kind; update = update; protection = 1; rows = 32; size = 255; edition = 2 }

@@ -1,9 +1,10 @@
 // The settings under which a file is packed and collected: document 01, sections 2 and 4, and the house setting.
 ghost use mathlib.Core.Path.{_≡_};
-ghost use Rattle.settings.specs.Settings.{sizeFits, settingsFit, rowsHeld, house as houseOf};
+ghost use Rattle.settings.specs.Settings.{sizeFits, settingsFit, rowsHeld, rowsSent, house as houseOf};
 use packet::Packet;
 
-// What a file is packed and collected under, besides its packets' count. `size` is the payload size P of packing and the slot size S of a place.
+// What a file is packed and collected under, besides its packets' count. `size` is the payload size P of packing and the slot size S of a
+// place, `edition` that of the packets' spare bits.
 pub struct Settings {
     pub resource: u16,
     pub kind: u8,
@@ -11,6 +12,7 @@ pub struct Settings {
     pub protection: u8,
     pub rows: u8,
     pub size: u16,
+    pub edition: u16,
 }
 
 // Whether payloads and slots may have this size. A protection other than 0 asks for whole rows.
@@ -42,10 +44,13 @@ pub fn settings_fit(settings: Settings) -> bool
     if settings.protection == 1 && settings.rows == 0 {
         return false;
     }
+    if settings.edition == 0 || 2 < settings.edition {
+        return false;
+    }
     size_fits(settings.protection, settings.size)
 }
 
-// M as it is written and held: 0 without protection.
+// M as it is held: 0 without protection.
 pub fn rows_held(settings: Settings) -> u8
     ensures { λ r. ⌜ r ≡ rowsHeld settings ⌝ }
 {
@@ -54,6 +59,16 @@ pub fn rows_held(settings: Settings) -> u8
     } else {
         settings.rows
     }
+}
+
+// M as it is written: without protection as the edition has it.
+pub fn rows_sent(settings: Settings) -> u8
+    ensures { λ r. ⌜ r ≡ rowsSent settings ⌝ }
+{
+    if settings.protection == 0 {
+        return packet::spare_of(settings.edition).rows;
+    }
+    settings.rows
 }
 
 // The house setting, for a packing or an opening call that names none.
@@ -67,5 +82,6 @@ pub fn house(resource: u16, kind: u8, update: u8) -> Settings
         protection: 1,
         rows: 32,
         size: 255,
+        edition: 2,
     }
 }

@@ -1,4 +1,4 @@
--- `refusals::value` meets its contract: the two refusals that carry a value give it, and the rest, told by their tags, give 0.
+-- `refusals::value` meets its contract: the three refusals that carry a value give it, and the rest, told by their tags, give 0.
 -- Assumes nothing.
 use native.Mathlib.Omega.{arith}
 use mathlib.Core.Path.{_≡_, refl, sym, ap}
@@ -8,13 +8,13 @@ use types.Run.{OneOf, miss}
 use denote.Enum.Declared.{tagOf}
 use Rattle.refusals.specs.declared.Refusal.{Refusal}
 use Rattle.refusals.proofs.Refusal.{the-type}
-use Rattle.refusals.specs.declared.Refusal.the-variants.{Short, Mark, Length, «Type», Protection, Number, Rows, Resource, Record, Unknown, Other, Wide, Repair, Crc, Slot, Conflict, Field, Held, Full, Room, Missing, Shape, Size, Padding, Count, Output, Line, Extra}
+use Rattle.refusals.specs.declared.Refusal.the-variants.{Short, Mark, Length, «Type», Protection, Number, Rows, Resource, Record, Unknown, Other, Wide, Repair, Crc, Slot, Conflict, Field, Held, Full, Room, Missing, Shape, Size, Padding, Count, Output, Line, Extra, Edition}
 use Rattle.refusals.specs.Refusals.{valueOf}
 use Rattle.refusals.proofs.value.Statement.{statement}
 use Rattle.refusals.proofs.value.Tie as tie
 
 abbrev bare : List ℕ
-bare = 0 ∷ 1 ∷ 2 ∷ 3 ∷ 4 ∷ 5 ∷ 6 ∷ 7 ∷ 8 ∷ 9 ∷ 10 ∷ 11 ∷ 13 ∷ 14 ∷ 15 ∷ 16 ∷ 17 ∷ 18 ∷ 19 ∷ 21 ∷ 22 ∷ 23 ∷ 24 ∷ 25 ∷ 27 ∷ []
+bare = 0 ∷ 1 ∷ 2 ∷ 3 ∷ 4 ∷ 5 ∷ 6 ∷ 7 ∷ 8 ∷ 9 ∷ 10 ∷ 11 ∷ 13 ∷ 14 ∷ 15 ∷ 16 ∷ 17 ∷ 18 ∷ 19 ∷ 21 ∷ 22 ∷ 23 ∷ 24 ∷ 25 ∷ 27 ∷ 28 ∷ []
 
 of-bare : (r : Refusal) → OneOf bare (tagOf the-type r) → 0 ≡ valueOf r
 of-bare Short k = refl
@@ -45,6 +45,7 @@ of-bare Count k = refl
 of-bare Output k = refl
 of-bare (Line v) k = absurd (miss bare 26 tt k)
 of-bare Extra k = refl
+of-bare Edition k = refl
 
 enum-known-r : tie.Need-enum-known-r
 enum-known-r c = omega arith

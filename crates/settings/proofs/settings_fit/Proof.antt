@@ -23,14 +23,17 @@ returns-3 c = sym (settings-unfit _ (λ s. ⊎-elim (λ w. omega arith) (λ w. o
 returns-4 : tie.Need-returns-4
 returns-4 c = sym (settings-unfit _ (λ s. let m = s .rows (search needs) in omega (arith, eqb-true)))
 
+returns-5 : tie.Need-returns-5
+returns-5 c = sym (settings-unfit _ (λ s. ⊎-elim (λ w. omega arith) (λ w. omega (arith, ltb-true)) (c .if8 .came)))
+
 size-fits-requires : tie.Need-size-fits-requires
 size-fits-requires c κs = tt
 
-returns-5 : tie.Need-returns-5
-returns-5 c =
-    let g = c .before .before .before .before .before .before .before .before .before .before .before .before .before .args .settings in
+returns-6 : tie.Need-returns-6
+returns-6 c =
+    let g = c .before .before .before .before .before .before .before .before .before .before .before .before .before .before .before .before .before .args .settings in
     let rows : g .protection ≡ 1 → 0 < g .rows =
-    λ o. ⊎-elim (λ w. omega (arith, eqb-false (g .rows) 0 (w .2 .left))) (λ w. absurd (w .left o)) (c .before .if6 .came) in
+    λ o. ⊎-elim (λ w. omega (arith, eqb-false (g .rows) 0 (w .2 .left))) (λ w. absurd (w .left o)) (c .before .before .before .before .before .if6 .came) in
     c .size-fits .ensures
     ∙ sym (settings-by-size g (λ s. record {
       resource = search needs;
@@ -41,9 +44,11 @@ returns-5 c =
       protection = search needs;
       rows = rows;
       rows-most = λ o. search needs;
+      edition = search needs;
+      edition-most = search needs;
       size = s;
     }))
 
 pub settings-fit-spec : {M : Type 1} → statement M
 settings-fit-spec =
-    tie.close (tie.spec returns returns-2 returns-3 returns-4 size-fits-requires returns-5)
+    tie.close (tie.spec returns returns-2 returns-3 returns-4 returns-5 size-fits-requires returns-6)
