@@ -1,5 +1,5 @@
 -- The laws of packing for the layers above (document 01, section 4): the counts, the payloads and what they join to, the parts of a packet, that reading it gives
--- the fields it was packed with, and that its CRC agrees. Assumes nothing.
+-- the fields it was packed with, in their edition, and that its CRC agrees. Assumes nothing.
 use mathlib.Core.Path.{_≡_, refl, sym, ap, ap₂, subst, _∙_}
 use mathlib.Core.Bool.{Bool, true, false, cond}
 use mathlib.Core.List.{List, _++_, append-assoc, flatten}
@@ -20,9 +20,11 @@ use Rattle.packet.specs.declared.Packet.{Packet}
 use Rattle.settings.specs.declared.Settings.{Settings}
 use Rattle.packet.specs.declared.Reading.the-variants.{Sent}
 use Rattle.packet.specs.Packet.{fieldsIn, marked, headerOf, readOf}
+use Rattle.packet.specs.Edition.{spareOf, editionOf}
 use Rattle.packet.specs.Range.{InRange}
-use Rattle.settings.specs.Settings.{settingsFit, rowsHeld}
+use Rattle.settings.specs.Settings.{settingsFit, rowsSent}
 use Rattle.packet.proofs.Laws.{header-length, header-bytes, marked-header, fields-header, SentFacts, read-accepts}
+use Rattle.packet.proofs.Spares.{spare-range, edition-shown}
 use Rattle.settings.proofs.Laws.{SettingsFacts, settings-facts}
 use Rattle.layout.specs.Layout.{tablesOf, rowOf, codedFile, undone}
 use Rattle.layout.proofs.Coded.{length-coded, coded-bytes, coded-row, row-coded, undone-file}
@@ -292,14 +294,14 @@ module _ (g : Settings) (file : List ℕ) (n : ℕ) where
       ∙ ap crc32Of (sym (sealed-front front (payloadOf g file n) length-front))
 
   module _ (fit : settingsFit g ≡ true) (few : countOf g (length file) ≤ 1048575) (below : n < countOf g (length file)) where
-    rows-below : rowsHeld g < 2 ^ 8
+    rows-below : rowsSent g < 2 ^ 8
     rows-below = go (eqb (g .protection) 0) refl
       where
-        go : (b : Bool) → eqb (g .protection) 0 ≡ b → cond b 0 (g .rows) < 2 ^ 8
-        go true e = omega arith
+        go : (b : Bool) → eqb (g .protection) 0 ≡ b → cond b (spareOf (g .edition) .rows) (g .rows) < 2 ^ 8
+        go true e = spare-range (g .edition) .1
         go false e = settings-facts g fit .rows-most (protection-one g fit (eqb-false _ _ e))
 
-    rows-some : g .protection ≡ 1 → 0 < rowsHeld g
+    rows-some : g .protection ≡ 1 → 0 < rowsSent g
     rows-some o =
         let e : eqb (g .protection) 0 ≡ false = ne-eqb (g .protection) 0 (λ (z : g .protection ≡ 0). omega arith) in
         rw e (settings-facts g fit .rows o)
@@ -314,7 +316,7 @@ module _ (g : Settings) (file : List ℕ) (n : ℕ) where
       kind = omega (arith, settings-facts g fit .kind-most);
       protection = omega (arith, settings-facts g fit .protection);
       rows = rows-below;
-      reserved = omega arith;
+      reserved = spare-range (g .edition) .0;
     }
 
     pub packet-sent : SentFacts (packetOf g file n) fieldsOf
@@ -343,6 +345,12 @@ module _ (g : Settings) (file : List ℕ) (n : ℕ) where
     -- reading it gives the fields it was packed with
     pub packet-reads : readOf (packetOf g file n) ≡ Sent fieldsOf
     packet-reads = read-accepts (packetOf g file n) fieldsOf packet-sent
+
+    -- and these show the edition under which it was packed
+    pub packet-edition : editionOf fieldsOf ≡ g .edition
+    packet-edition =
+        edition-shown fieldsOf (g .edition) (settings-facts g fit .edition) (settings-facts g fit .edition-most)
+        (record { reserved = refl; rows = λ (z : g .protection ≡ 0). rw (eq-eqb (g .protection) 0 z) })
 
     pub packet-bytes : Bytes file → Bytes (packetOf g file n)
     packet-bytes b =

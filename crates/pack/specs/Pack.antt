@@ -1,4 +1,4 @@
--- Packing: document 01, section 4, and the refusals 17, 23, 25, 6, 26 in that order (section 6).
+-- Packing: document 01, section 4, with the spare bits of the edition (document 02, R-9), and the refusals 17, 23, 25, 6, 26 in that order (section 6).
 -- Assumes nothing.
 use mathlib.Core.Path.{_≡_}
 use mathlib.Core.Bool.{cond, not, _||_}
@@ -12,8 +12,9 @@ use Rattle.refusals.specs.declared.Refusal.the-variants.{Number, Field, Size, C
 use Rattle.packet.specs.declared.Packet.{Packet}
 use Rattle.settings.specs.declared.Settings.{Settings}
 use Rattle.packet.specs.Packet.{headerOf}
+use Rattle.packet.specs.Edition.{spareOf}
 use Rattle.sealing.specs.Sealing.{sealed}
-use Rattle.settings.specs.Settings.{settingsFit, rowsHeld}
+use Rattle.settings.specs.Settings.{settingsFit, rowsSent}
 use Rattle.layout.specs.Layout.{tablesOf, codedFile}
 use Rattle.pack.specs.declared.Packed.{Packed}
 use Rattle.pack.specs.declared.Packed.the-variants.{Written, Refused}
@@ -48,8 +49,8 @@ fieldsFor g count n k = record {
   count = count;
   kind = g .kind;
   protection = g .protection;
-  rows = rowsHeld g;
-  reserved = 0;
+  rows = rowsSent g;
+  reserved = spareOf (g .edition) .reserved;
 }
 
 -- its header

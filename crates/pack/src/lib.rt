@@ -91,7 +91,7 @@ fn put_part(src: &[u8], from: usize, n: usize, out: &mut [u8])
     }
 }
 
-// The header of a packet with a payload of `size` bytes, at the start of `out`.
+// The header of a packet with a payload of `size` bytes, with the spare bits of the edition, at the start of `out`.
 fn put_header(settings: Settings, number: u32, count: u32, size: usize, out: &mut [u8])
     requires { ⌜ (size ≤ 4077) × (14 ≤ length (now out)) ⌝ }
     ensures { λ r. ⌜ now (out .exit) ≡ sets (now (out .entry)) 0 (headerFor settings count number size) ⌝ }
@@ -104,8 +104,8 @@ fn put_header(settings: Settings, number: u32, count: u32, size: usize, out: &mu
         count: count,
         kind: settings.kind,
         protection: settings.protection,
-        rows: settings::rows_held(settings),
-        reserved: 0,
+        rows: settings::rows_sent(settings),
+        reserved: packet::spare_of(settings.edition).reserved,
     });
     put_part(&head, 0, Packet::HEADER, out);
 }

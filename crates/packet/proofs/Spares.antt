@@ -1,18 +1,28 @@
--- The law of the editions: fields with the spare bits that an edition writes show that edition (document 02, R-9).
+-- The laws of the editions: the spare bits that an edition writes have room in the header, and fields that have them show that edition (document 02, R-9).
 -- Assumes nothing.
 use mathlib.Core.Path.{_≡_, refl, sym, subst, _∙_}
-use mathlib.Core.Bool.{Bool, true, false, not, _||_}
-use Prim.Native.Nat.{ℕ, _<_}
+use mathlib.Core.Bool.{Bool, true, false, cond, not, _||_}
+use Prim.Native.Nat.{ℕ, _<_, _^_}
 use native.Mathlib.Omega.{arith}
 use borrow.Author.Tests.{eqb-true, eqb-false, eq-eqb, ne-eqb}
 use lib.Dec.{eqb}
 use Rattle.packet.specs.declared.Packet.{Packet}
+use Rattle.packet.specs.declared.Spare.{Spare}
 use Rattle.packet.specs.Edition.{spareOf, isOf, editionOf}
 
 -- the spare bits that an edition writes
 pub record Spares (e : ℕ) (f : Packet) : Type 0 where
   pub reserved : f .reserved ≡ spareOf e .reserved
   pub rows : f .protection ≡ 0 → f .rows ≡ spareOf e .rows
+
+-- they have room in the header
+pub spare-range : (e : ℕ) → (spareOf e .reserved < 2 ^ 4) × (spareOf e .rows < 2 ^ 8)
+unfolding spareOf
+spare-range e = by (eqb e 1)
+  where
+    by : (t : Bool) → let s : Spare = cond t (record { reserved = 15; rows = 255 }) (record { reserved = 0; rows = 0 }) in (s .reserved < 2 ^ 4) × (s .rows < 2 ^ 8)
+    by true = omega arith
+    by false = omega arith
 
 module _ (f : Packet) where
   is-own : (e : ℕ) → Spares e f → isOf e f ≡ true

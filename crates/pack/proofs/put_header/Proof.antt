@@ -1,11 +1,12 @@
 -- `pack::put_header` meets its contract: it stores, from the front, the fourteen bytes that `header` gives for the packet's fields.
 -- Assumes nothing.
-use mathlib.Core.Path.{ap, _∙_}
+use mathlib.Core.Path.{ap, ap₂, _∙_}
 use mathlib.Core.List.{List}
 use Prim.Native.Nat.{ℕ, _+_}
 use native.Mathlib.Omega.{arith}
 use lib.ListN.{take}
 use lib.Seq.{sets, take-all}
+use Rattle.packet.specs.declared.Spare.{Spare}
 use Rattle.packet.specs.Packet.{headerOf}
 use Rattle.packet.proofs.Laws.{header-length}
 use Rattle.pack.specs.Pack.{fieldsFor, headerFor}
@@ -21,8 +22,11 @@ add-t9 c = omega arith
 cast-t10 : tie.Need-cast-t10
 cast-t10 c = omega arith
 
-rows-held-requires : tie.Need-rows-held-requires
-rows-held-requires c κs = tt
+rows-sent-requires : tie.Need-rows-sent-requires
+rows-sent-requires c κs = tt
+
+spare-of-requires : tie.Need-spare-of-requires
+spare-of-requires c κs = tt
 
 header-requires : tie.Need-header-requires
 header-requires c κs = tt
@@ -39,13 +43,13 @@ same-length c = omega arith
 returns : tie.Need-returns
 unfolding headerFor
 returns c =
-    let a = c .before .before .before .before .before .before .before .before .args in
+    let a = c .before .before .before .before .before .before .before .before .before .args in
     let g = a .settings in
     let f = fieldsFor g (a .count) (a .number) (a .size) in
     c .before .before .put-part .ensures
     ∙ ap (λ (x : List ℕ). sets (a .out .now) 0 (take 14 x))
     (c .before .before .before .before .before .header .ensures
-    ∙ ap (λ (r : ℕ). headerOf (record {
+    ∙ ap₂ (λ (m : ℕ) (r : ℕ). headerOf (record {
       resource = g .resource;
       number = a .number;
       update = g .update;
@@ -53,9 +57,11 @@ returns c =
       count = a .count;
       kind = g .kind;
       protection = g .protection;
-      rows = r;
-      reserved = 0;
-    })) (c .before .before .before .before .before .before .rows-held .ensures))
+      rows = m;
+      reserved = r;
+    }))
+    (c .before .before .before .before .before .before .before .rows-sent .ensures)
+    (ap (λ (s : Spare). s .reserved) (c .before .before .before .before .before .before .spare-of .ensures)))
     ∙ ap (sets (a .out .now) 0) (take-all 14 (headerOf f) (omega (arith, header-length f)))
 
 pub put-header-spec : {M : Type 1} → statement M
@@ -65,7 +71,8 @@ put-header-spec =
     add-t8
     add-t9
     cast-t10
-    rows-held-requires
+    rows-sent-requires
+    spare-of-requires
     header-requires
     slice-aggregate-put-part
     put-part-requires
