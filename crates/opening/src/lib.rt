@@ -137,6 +137,7 @@ pub fn close(held: Record, store: &[u8], resource: u16, kind: u8) -> Kept
         rows: 0,
         slot: 0,
         start: 0,
+        edition: 0,
     };
     Kept {
         record: next,

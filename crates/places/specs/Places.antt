@@ -1,4 +1,4 @@
--- The record of eight places: document 01, section 5, and when refusal 9 is given (section 6). A place is found by resource and type: document 02, R-1.
+-- The record of eight places: document 01, section 5, and when refusal 9 is given (section 6). A place is found by resource and type: document 02, R-1; it holds an edition: R-9.
 -- Assumes nothing.
 use mathlib.Core.Bool.{Bool, true, cond, not, _&&_, _||_}
 use mathlib.Core.List.{List, [], _∷_}
@@ -14,7 +14,7 @@ use Rattle.places.specs.declared.Found.the-variants.{At, Nothing}
 
 -- an unused place, as in a fresh record
 abbrev pub unused : Place
-unused = record { resource = 0; kind = 0; update = 0; count = 0; protection = 0; rows = 0; slot = 0; start = 0 }
+unused = record { resource = 0; kind = 0; update = 0; count = 0; protection = 0; rows = 0; slot = 0; start = 0; edition = 0 }
 
 abbrev pub freshRecord : Record
 freshRecord = record { places = replicate 8 unused }
@@ -59,7 +59,7 @@ meets p q = not (leb (endOf p) (q .start) || leb (endOf q) (p .start))
 -- the settings that a place holds, and the place that settings, a count and a start ask for
 abbrev pub settingsIn : Place → Settings
 settingsIn p =
-    record { resource = p .resource; kind = p .kind; update = p .update; protection = p .protection; rows = p .rows; size = p .slot }
+    record { resource = p .resource; kind = p .kind; update = p .update; protection = p .protection; rows = p .rows; size = p .slot; edition = p .edition }
 
 abbrev pub placeOf : Settings → ℕ → ℕ → Place
 placeOf g count start = record {
@@ -71,12 +71,13 @@ placeOf g count start = record {
   rows = rowsHeld g;
   slot = g .size;
   start = start;
+  edition = g .edition;
 }
 
 abbrev pub countFits : ℕ → Bool
 countFits count = leb 1 count && leb count 1048575
 
--- every range of sections 2, 4 and 5; M is held as 0 without protection
+-- every range of sections 2, 4 and 5, and of the edition; M is held as 0 without protection
 unfoldable pub rangesFit : Place → Bool
 rangesFit p = settingsFit (settingsIn p) && (eqb (p .rows) (rowsHeld (settingsIn p)) && countFits (p .count))
 

@@ -14,6 +14,7 @@ pub struct Place {
     pub rows: u8,
     pub slot: u16,
     pub start: u32,
+    pub edition: u16,
 }
 
 pub struct Record {
@@ -39,6 +40,7 @@ pub fn fresh() -> Record
         rows: 0,
         slot: 0,
         start: 0,
+        edition: 0,
     };
     Record {
         places: [unused; 8],
@@ -100,7 +102,7 @@ pub fn count_fits(count: u32) -> bool
     1 <= count && count <= 1048575
 }
 
-// The place that settings, a count and a start ask for. Without protection M is held as 0.
+// The place that settings, a count and a start ask for. Without protection M is held as 0, in either edition.
 pub fn place_of(settings: Settings, count: u32, start: u32) -> Place
     ensures { λ r. ⌜ r ≡ placeOf settings count start ⌝ }
 {
@@ -113,5 +115,6 @@ pub fn place_of(settings: Settings, count: u32, start: u32) -> Place
         rows: settings::rows_held(settings),
         slot: settings.size,
         start: start,
+        edition: settings.edition,
     }
 }

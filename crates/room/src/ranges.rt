@@ -31,6 +31,7 @@ fn settings_in(p: Place) -> Settings
         protection: p.protection,
         rows: p.rows,
         size: p.slot,
+        edition: p.edition,
     }
 }
 
