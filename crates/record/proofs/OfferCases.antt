@@ -11,7 +11,7 @@ use lib.Seq.{sets, take-at, length-take-le}
 use Rattle.ground.proofs.Writing.{sets-front}
 use Rattle.words.specs.Words.{same}
 use Rattle.refusals.specs.declared.Refusal.{Refusal}
-use Rattle.refusals.specs.declared.Refusal.the-variants.{Unknown, Other, Wide, Crc, Slot, Conflict}
+use Rattle.refusals.specs.declared.Refusal.the-variants.{Unknown, Other, Edition, Wide, Crc, Slot, Conflict}
 use Rattle.refusals.specs.declared.Verdict.the-variants as verdicts
 use Rattle.repair.specs.declared.Counted.{Counted}
 use Rattle.repair.specs.Repair.{mendingOf, Mends}
@@ -20,6 +20,7 @@ use Rattle.packet.specs.declared.Packet.{Packet}
 use Rattle.packet.specs.declared.Reading.{Reading}
 use Rattle.packet.specs.declared.Reading.the-variants.{Sent}
 use Rattle.packet.specs.Packet.{readOf}
+use Rattle.packet.specs.Edition.{editionOf}
 use Rattle.places.specs.declared.Place.{Place}
 use Rattle.places.specs.declared.Record.{Record}
 use Rattle.places.specs.declared.Found.the-variants.{At, Nothing}
@@ -141,13 +142,19 @@ module _ (p : Place) (f : Packet) (q : List ℕ) where
   judge-other h = rw h refl
 
   module _ (d : differs p f ≡ false) where
+    pub judge-edition : (editionOf f ≡ p .edition → ⊥) → judge p f q ≡ refuse Edition
+    unfolding judgeBy
+    judge-edition z = rw (d, ne-eqb _ _ z) refl
+
+  -- a packet of the place's file, in its edition
+  module _ (d : differs p f ≡ false) (o : editionOf f ≡ p .edition) where
     pub judge-wide : p .slot < length (payloadIn q) → judge p f q ≡ refuse Wide
     unfolding judgeBy
-    judge-wide h = rw (d, lt-ltb (p .slot) (length (payloadIn q)) h) refl
+    judge-wide h = rw (d, eq-eqb _ _ o, lt-ltb (p .slot) (length (payloadIn q)) h) refl
 
     pub judge-mended : length (payloadIn q) ≤ p .slot → judge p f q ≡ judgeMended (f .number) q (mendedIn (f .protection) q)
     unfolding judgeBy
-    judge-mended h = rw (d, le-ltb (p .slot) (length (payloadIn q)) h) refl
+    judge-mended h = rw (d, eq-eqb _ _ o, le-ltb (p .slot) (length (payloadIn q)) h) refl
 
     -- what is put is the repaired payload, where its CRC agrees
     pub judge-puts : (b : List ℕ) (n : ℕ) → length (payloadIn q) ≤ p .slot → mendedIn (f .protection) q ≡ whole b n → agrees q b ≡ true → judge p f q ≡ put (f .number) b n

@@ -2,7 +2,7 @@
 -- to the payload; and it depends on nothing else of the store but its length. The packet may be any list. Assumes nothing.
 use mathlib.Core.Path.{_≡_, refl, sym, ap, subst, _∙_}
 use mathlib.Core.Logic.{_⊎_, inl, inr, ⊎-map}
-use mathlib.Core.Bool.{Bool, true, false, cond}
+use mathlib.Core.Bool.{Bool, true, false, cond, not}
 use mathlib.Core.List.{List, [], _∷_}
 use Prim.Native.Nat.{ℕ, _-_, _/_, _%_, _<_, _≤_}
 use native.Mathlib.Omega.{arith}
@@ -13,11 +13,12 @@ use lib.Seq.{getD-set-same, getD-set-other}
 use Rattle.words.specs.Words.{same}
 use Rattle.words.proofs.SameLaws.{same-self}
 use Rattle.refusals.specs.declared.Refusal.{Refusal}
-use Rattle.refusals.specs.declared.Refusal.the-variants.{Unknown, Other, Wide, Crc}
+use Rattle.refusals.specs.declared.Refusal.the-variants.{Unknown, Other, Edition, Wide, Crc}
 use Rattle.packet.specs.declared.Packet.{Packet}
 use Rattle.packet.specs.declared.Reading.{Reading}
 use Rattle.packet.specs.declared.Reading.the-variants.{Sent}
 use Rattle.packet.specs.Packet.{readOf}
+use Rattle.packet.specs.Edition.{editionOf}
 use Rattle.places.specs.declared.Place.{Place}
 use Rattle.places.specs.declared.Record.{Record}
 use Rattle.places.specs.declared.Found.{Found}
@@ -90,18 +91,23 @@ module _ (n : ℕ) (p : Place) (f : Packet) (q : List ℕ) (w : PlaceFacts n p) 
       wide d true t = tt
       wide d false t = mended-sound d (ltb-false _ _ t) (mendedIn (f .protection) q) refl
 
-      other : (t : Bool) → differs p f ≡ t
-          → Sound p f (cond t (refuse Other) (cond (ltb (p .slot) (length (payloadIn q))) (refuse Wide) (judgeMended (f .number) q (mendedIn (f .protection) q))))
-      other true t = tt
-      other false t = wide t (ltb (p .slot) (length (payloadIn q))) refl
+      edition : differs p f ≡ false → (t : Bool)
+          → Sound p f (cond t (refuse Edition) (cond (ltb (p .slot) (length (payloadIn q))) (refuse Wide) (judgeMended (f .number) q (mendedIn (f .protection) q))))
+      edition d true = tt
+      edition d false = wide d (ltb (p .slot) (length (payloadIn q))) refl
 
--- what an altered copy of a packet of the place's file puts is that packet's own payload, mended where the copy was altered
-pub judge-copy : (o : Place) (f : Packet) (q p : List ℕ) → Altered q p → Intact p → SameFile o f → (f .protection ≡ 0 → ⊥) → length (payloadIn p) ≤ o .slot
+      other : (t : Bool) → differs p f ≡ t
+          → Sound p f (cond t (refuse Other) (cond (not (eqb (editionOf f) (p .edition))) (refuse Edition) (cond (ltb (p .slot) (length (payloadIn q))) (refuse Wide) (judgeMended (f .number) q (mendedIn (f .protection) q)))))
+      other true t = tt
+      other false t = edition t (not (eqb (editionOf f) (p .edition)))
+
+-- what an altered copy of a packet of the place's file and edition puts is that packet's own payload, mended where the copy was altered
+pub judge-copy : (o : Place) (f : Packet) (q p : List ℕ) → Altered q p → Intact p → SameFile o f → editionOf f ≡ o .edition → (f .protection ≡ 0 → ⊥) → length (payloadIn p) ≤ o .slot
     → judge o f q ≡ put (f .number) (payloadIn p) (alteredIn (length (payloadIn q) / 255) (payloadIn q) (payloadIn p))
-judge-copy o f q p a w s z l =
+judge-copy o f q p a w s e z l =
     let n : length q ≡ length p = a .sized in
     let g : 19 ≤ length p = w .least in
-    judge-puts o f q (same-serves o f s) (payloadIn p) _ (omega (arith, payload-length q (omega arith), payload-length p (omega arith)))
+    judge-puts o f q (same-serves o f s) e (payloadIn p) _ (omega (arith, payload-length q (omega arith), payload-length p (omega arith)))
     (mended-copy q p a w (f .protection) z) (agrees-copy q p a w)
 
 -- ---- at one place: the answer and what the place holds afterwards, by what it held

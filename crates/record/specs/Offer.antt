@@ -1,4 +1,5 @@
--- Offer: document 01, section 5; by resource and type, document 02, R-1; with the bytes mended, R-7. Refusals in the order 9, then 1 to 8 as the field reader gives them, then 10 to 16.
+-- Offer: document 01, section 5; by resource and type, document 02, R-1; with the bytes mended, R-7; in the place's own edition, R-9. Refusals in the order 9, then 1 to 8 as the field
+-- reader gives them, then 10, 11, 33, and 12 to 16.
 -- Assumes nothing.
 use mathlib.Core.Bool.{Bool, cond, not, _&&_, _||_}
 use mathlib.Core.List.{List, [], _∷_}
@@ -7,11 +8,12 @@ use lib.Dec.{eqb, ltb}
 use lib.ListN.{length, getD}
 use Rattle.words.specs.Words.{same}
 use Rattle.refusals.specs.declared.Refusal.{Refusal}
-use Rattle.refusals.specs.declared.Refusal.the-variants.{Unknown, Other, Wide, Repair, Crc, Slot, Conflict}
+use Rattle.refusals.specs.declared.Refusal.the-variants.{Unknown, Other, Edition, Wide, Repair, Crc, Slot, Conflict}
 use Rattle.packet.specs.declared.Packet.{Packet}
 use Rattle.packet.specs.declared.Reading.{Reading}
 use Rattle.packet.specs.declared.Reading.the-variants.{Sent, Refused}
 use Rattle.packet.specs.Packet.{resourceIn, kindIn, readOf}
+use Rattle.packet.specs.Edition.{editionOf}
 use Rattle.places.specs.declared.Place.{Place}
 use Rattle.places.specs.declared.Record.{Record}
 use Rattle.places.specs.declared.Found.{Found}
@@ -51,7 +53,8 @@ judgeMended number q (whole b m) = cond (agrees q b) (put number b m) (refuse Cr
 unfoldable pub judgeBy : (ℕ → List ℕ → Mended) → Place → Packet → List ℕ → Judged
 judgeBy mend p f q =
     cond (differs p f) (refuse Other)
-    (cond (ltb (p .slot) (length (payloadIn q))) (refuse Wide) (judgeMended (f .number) q (mend (f .protection) q)))
+    (cond (not (eqb (editionOf f) (p .edition))) (refuse Edition)
+    (cond (ltb (p .slot) (length (payloadIn q))) (refuse Wide) (judgeMended (f .number) q (mend (f .protection) q))))
 
 abbrev pub judge : Place → Packet → List ℕ → Judged
 judge = judgeBy mendedIn

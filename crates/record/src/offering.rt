@@ -1,5 +1,5 @@
 // Offer: document 01, section 5. A packet is judged first, which does not look at the store; then its payload meets what the slot of its number holds.
-// Refusals in the order 9, then 1 to 8 as the field reader gives them, then 10 to 16.
+// Refusals in the order 9, then 1 to 8 as the field reader gives them, then 10, 11, 33 (document 02, R-9), and 12 to 16.
 ghost use mathlib.Core.Path.{_≡_};
 ghost use mathlib.Core.Bool.{true};
 ghost use Prim.Native.Nat.{_+_, _/_, _%_, _≤_};
@@ -109,6 +109,9 @@ fn offer_at(p: Place, store: &mut [u8], fields: Packet, packet: &[u8]) -> Offere
 {
     if differs(p, fields) {
         return Offered::Refused(Refusal::Other);
+    }
+    if packet::edition_of(fields) != p.edition {
+        return Offered::Refused(Refusal::Edition);
     }
     let end = packet.len() - Packet::CRC;
     let payload = &packet[Packet::HEADER..end];

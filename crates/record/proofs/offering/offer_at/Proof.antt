@@ -1,10 +1,11 @@
--- The packet is judged in the definition's order: Other, Wide, and then its payload as its protection asks. Since the packet was read and the place is sound, the slot of
+-- The packet is judged in the definition's order: Other, Edition, Wide, and then its payload as its protection asks. Since the packet was read and the place is sound, the slot of
 -- its number lies in the store.
 use mathlib.Core.Path.{_≡_, sym, ap, _∙_}
 use mathlib.Core.Bool.{false}
 use Prim.Native.Nat.{_+_, _≤_}
 use native.Mathlib.Omega.{arith}
 use lib.ListN.{length}
+use Rattle.packet.specs.Edition.{editionOf}
 use Rattle.packet.proofs.Laws.{SentFacts, read-sent}
 use Rattle.places.proofs.Named.{names-in-use}
 use Rattle.places.proofs.Facts.{PlaceFacts, place-facts}
@@ -12,7 +13,7 @@ use Rattle.contents.specs.Contents.{slotAt}
 use Rattle.record.specs.Mend.{payloadIn}
 use Rattle.record.specs.Offer.{packetName, differs, offerJudged}
 use Rattle.sealing.proofs.Laws.{agrees-long}
-use Rattle.record.proofs.OfferCases.{told, come, payload-cut, rows-cut, judge-other, judge-wide, offer-as-it-came, offer-repaired}
+use Rattle.record.proofs.OfferCases.{told, come, payload-cut, rows-cut, judge-other, judge-edition, judge-wide, offer-as-it-came, offer-repaired}
 use Rattle.record.proofs.OfferFacts.{no-stream, slot-room}
 use Rattle.record.proofs.offering.offer_at.Statement.{statement}
 use Rattle.record.proofs.offering.offer_at.Tie as tie
@@ -30,13 +31,16 @@ place c = place-facts _ _ (c .pre .1) (names-in-use (c .args .p) (packetName (c 
 alike : (c : tie.Else1) → differs (c .before .before .before .before .args .p) (c .before .before .before .before .args .fields) ≡ false
 alike c = sym (c .before .differs .ensures) ∙ c .if1 .left
 
+own : (c : tie.Else2) → editionOf (c .before .before .before .before .before .before .before .args .fields) ≡ c .before .before .before .before .before .before .before .args .p .edition
+own c = sym (c .before .before .edition-of .ensures) ∙ c .if2 .left
+
 room : (c : tie.Else1) → slotAt (c .before .before .before .before .args .p) (c .before .before .before .before .args .fields .number) + (c .before .before .before .before .args .p .slot + 2) ≤ length (c .before .before .before .before .args .store .now)
 room c =
     let s = c .before .before .before .before in
     slot-room _ _ _ (place s) (sent (c .before .before) .below (no-stream _ (s .args .p) (s .args .fields) (place s) (s .pre .2))) (alike c)
 
-narrow : (c : tie.Else2) → length (payloadIn (c .before .before .before .before .before .before .before .args .packet .now)) ≤ c .before .before .before .before .before .before .before .args .p .slot
-narrow c = omega (arith, ap length (payload-cut (c .before .before .before .before .before .before .before .args .packet .now)))
+narrow : (c : tie.Else3) → length (payloadIn (c .before .before .before .before .before .before .before .before .before .before .args .packet .now)) ≤ c .before .before .before .before .before .before .before .before .before .before .args .p .slot
+narrow c = omega (arith, ap length (payload-cut (c .before .before .before .before .before .before .before .before .before .before .args .packet .now)))
 
 differs-requires : tie.Need-differs-requires
 differs-requires c κs = tt
@@ -44,53 +48,59 @@ differs-requires c κs = tt
 returns : tie.Need-returns
 returns c = told (ap (offerJudged _ _) (judge-other _ _ _ (sym (c .before .differs .ensures) ∙ c .if1 .taken)))
 
+edition-of-requires : tie.Need-edition-of-requires
+edition-of-requires c κs = tt
+
+returns-2 : tie.Need-returns-2
+returns-2 c = told (ap (offerJudged _ _) (judge-edition _ _ _ (alike (c .before .before .before)) (λ z. c .if2 .taken (c .before .before .edition-of .ensures ∙ z))))
+
 sub-end : tie.Need-sub-end
-sub-end c = let s = sent (c .before .before) in omega arith
+sub-end c = let s = sent (c .before .before .before .before .before) in omega arith
 
 sub-payload : tie.Need-sub-payload
-sub-payload c = let s = sent (c .before .before) in omega arith
+sub-payload c = let s = sent (c .before .before .before .before .before) in omega arith
 
 part-payload-start : tie.Need-part-payload-start
-part-payload-start c = let s = sent (c .before .before) in omega arith
+part-payload-start c = let s = sent (c .before .before .before .before .before) in omega arith
 
 part-payload-end : tie.Need-part-payload-end
 part-payload-end c = omega arith
 
-cast-if2 : tie.Need-cast-if2
-cast-if2 c = omega arith
+cast-if3 : tie.Need-cast-if3
+cast-if3 c = omega arith
 
-returns-2 : tie.Need-returns-2
-returns-2 c =
-    let q = c .before .before .before .before .before .before .before .args .packet .now in
-    told (ap (offerJudged _ _) (judge-wide _ _ q (alike (c .before .before .before)) (omega (arith, ap length (payload-cut q)))))
+returns-3 : tie.Need-returns-3
+returns-3 c =
+    let q = c .before .before .before .before .before .before .before .before .before .before .args .packet .now in
+    told (ap (offerJudged _ _) (judge-wide _ _ q (alike (c .before .before .before .before .before .before)) (own (c .before .before .before)) (omega (arith, ap length (payload-cut q)))))
 
 agrees-requires : tie.Need-agrees-requires
 agrees-requires c κs = tt
 
 put-in-requires : tie.Need-put-in-requires
-put-in-requires c κs = (room (c .before .before .before .before .before .before .before), omega arith)
+put-in-requires c κs = (room (c .before .before .before .before .before .before .before .before .before .before), omega arith)
 
 same-length : tie.Need-same-length
 same-length c = omega arith
 
-returns-3 : tie.Need-returns-3
-returns-3 c =
-    let q = c .before .before .before .before .before .before .before .before .before .before .before .before .before .before .args .packet .now in
-    come (offer-as-it-came _ _ q (alike (c .before .before .before .before .before .before .before .before .before .before)) _ (narrow (c .before .before .before .before .before .before .before)) (c .before .before .before .before .before .if3 .taken) _ (c .before .before .before .agrees .ensures ∙ agrees-long q _ (headed (c .before .before .before .before .before .before .before .before .before .before .before .before)))) (c .before .before .put-in .ensures)
+returns-4 : tie.Need-returns-4
+returns-4 c =
+    let q = c .before .before .before .before .before .before .before .before .before .before .before .before .before .before .before .before .before .args .packet .now in
+    come (offer-as-it-came _ _ q (alike (c .before .before .before .before .before .before .before .before .before .before .before .before .before)) (own (c .before .before .before .before .before .before .before .before .before .before)) _ (narrow (c .before .before .before .before .before .before .before)) (c .before .before .before .before .before .if4 .taken) _ (c .before .before .before .agrees .ensures ∙ agrees-long q _ (headed (c .before .before .before .before .before .before .before .before .before .before .before .before .before .before .before)))) (c .before .before .put-in .ensures)
 
 offer-rows-requires : tie.Need-offer-rows-requires
 offer-rows-requires c κs =
-    let s = sent (c .before .before .before .before .before .before .before .before) in
-    let r = rows-cut (c .before .before .before .before .before .before .before .before .before .before .args .packet .now) (omega arith) (omega arith) (s .multiple (omega arith)) in
-    (room (c .before .before .before .before .before .before), omega arith, omega arith, r .0, r .1)
+    let s = sent (c .before .before .before .before .before .before .before .before .before .before .before) in
+    let r = rows-cut (c .before .before .before .before .before .before .before .before .before .before .before .before .before .args .packet .now) (omega arith) (omega arith) (s .multiple (omega arith)) in
+    (room (c .before .before .before .before .before .before .before .before .before), omega arith, omega arith, r .0, r .1)
 
 same-length-2 : tie.Need-same-length-2
 same-length-2 c = omega arith
 
-returns-4 : tie.Need-returns-4
-returns-4 c =
-    let q = c .before .before .before .before .before .before .before .before .before .before .before .before .before .args .packet .now in
-    come (offer-repaired _ _ q (alike (c .before .before .before .before .before .before .before .before .before)) _ (narrow (c .before .before .before .before .before .before)) (c .before .before .before .before .if3 .left)) (c .before .before .offer-rows .ensures)
+returns-5 : tie.Need-returns-5
+returns-5 c =
+    let q = c .before .before .before .before .before .before .before .before .before .before .before .before .before .before .before .before .args .packet .now in
+    come (offer-repaired _ _ q (alike (c .before .before .before .before .before .before .before .before .before .before .before .before)) (own (c .before .before .before .before .before .before .before .before .before)) _ (narrow (c .before .before .before .before .before .before)) (c .before .before .before .before .if4 .left)) (c .before .before .offer-rows .ensures)
 
 pub offer-at-spec : {M : Type 1} → statement M
 offer-at-spec =
@@ -98,16 +108,18 @@ offer-at-spec =
     (tie.spec
     differs-requires
     returns
+    edition-of-requires
+    returns-2
     sub-end
     sub-payload
     part-payload-start
     part-payload-end
-    cast-if2
-    returns-2
+    cast-if3
+    returns-3
     agrees-requires
     put-in-requires
     same-length
-    returns-3
+    returns-4
     offer-rows-requires
     same-length-2
-    returns-4)
+    returns-5)
