@@ -6,7 +6,7 @@ use mathlib.Core.Bool.{Bool, true, false, cond}
 use mathlib.Core.List.{List, [], _∷_, _++_, flatten}
 use Prim.Native.Nat.{ℕ, zero, suc, _+_, _-_, _*_, _/_, _%_, _≤_, _<_}
 use native.Mathlib.Omega.{arith}
-use borrow.Author.Tests.{eqb-false}
+use borrow.Author.Tests.{eqb-false, eq-eqb}
 use lib.ListN.{length, getD, take, drop, replicate, set, length-append, take-append-drop, length-take, length-drop, drop-of-length-le}
 use lib.Seq.{take-at, drop-at, drop-drop}
 use Rattle.ground.proofs.Listed.{listed-ext, joined-all}
@@ -43,7 +43,7 @@ use Rattle.promises.specs.Calls.Call.{opening, offering}
 use Rattle.promises.specs.Statements.{Protected, Copy, rowIn, bytesAltered, Fair, AllFair, Offers, Carries, HandsOut, Demand3, FromFresh, GradedFromFresh}
 use Rattle.refusals.specs.declared.Refusal.the-variants.{Crc, Missing}
 use lib.Dec.{eqb, ltb}
-use Rattle.pack.proofs.Laws.{fieldsOf}
+use Rattle.pack.proofs.Laws.{fieldsOf, packet-edition}
 use Rattle.sealing.specs.Sealing.{agrees}
 use Rattle.record.specs.Offer.{Offering, storing, putInto, put, refuse, judgeMended, judgeBy, offerJudged, offerBy}
 use Rattle.promises.specs.Wrong.{firstRowOnly, mendingFirst, hushed, silent}
@@ -53,7 +53,7 @@ use Rattle.promises.proofs.Fresh.{takes, opens}
 use Rattle.promises.proofs.Turned.{zero-row, wrong-row, wrong-bytes, zero-coded}
 
 abbrev two : Settings
-two = record { resource = 5; kind = 1; update = 0; protection = 1; rows = 1; size = 510 }
+two = record { resource = 5; kind = 1; update = 0; protection = 1; rows = 1; size = 510; edition = 2 }
 
 abbrev zeros : List ℕ
 zeros = replicate 478 0
@@ -208,7 +208,7 @@ judged-first : judgeBy firstRowOnly (placeOf two 1 0) (fieldsOf two zeros 0) alt
 unfolding judgeBy
 judged-first =
     let narrow : ltb 510 (length (payloadIn altered)) ≡ false = ap (λ (l : List ℕ). ltb 510 (length l)) altered-payload in
-    rw (not-different two zeros 0 0, narrow) (ap (judgeMended 0 altered) first-mended)
+    rw (not-different two zeros 0 0, eq-eqb _ _ (packet-edition two zeros 0 fit (protected .count) (omega arith)), narrow) (ap (judgeMended 0 altered) first-mended)
 
 offered-first : offerBy firstRowOnly held store altered ≡ offerJudged (placeOf two 1 0) store (cond (agrees altered body) (put 0 body 0) (refuse Crc))
 unfolding offerBy

@@ -5,7 +5,7 @@ use mathlib.Core.Bool.{true, false}
 use mathlib.Core.List.{List, _++_}
 use Prim.Native.Nat.{ℕ, _≤_, _<_}
 use native.Mathlib.Omega.{arith}
-use borrow.Author.Tests.{eq-eqb, lt-ltb}
+use borrow.Author.Tests.{eq-eqb, ne-eqb, lt-ltb}
 use lib.ListN.{length, take}
 use Rattle.crc.specs.Crc.{crc32Of}
 use Rattle.packet.specs.declared.Packet.{Packet}
@@ -14,7 +14,7 @@ use Rattle.settings.specs.declared.Settings.{Settings}
 use Rattle.packet.specs.Packet.{readOf}
 use Rattle.packet.proofs.Laws.{SentFacts}
 use Rattle.pack.specs.Pack.{countOf, payloadOf, packetOf}
-use Rattle.pack.proofs.Laws.{fieldsOf, packet-payload, packet-front, packet-crc, packet-sent, packet-reads, payload-most, payload-coded}
+use Rattle.pack.proofs.Laws.{fieldsOf, packet-payload, packet-front, packet-crc, packet-sent, packet-reads, packet-edition, payload-most, payload-coded}
 use Rattle.places.specs.Places.{settingsName, placeOf}
 use Rattle.places.proofs.Named.{same-name}
 use Rattle.ground.proofs.Truth.{and-join}
@@ -30,7 +30,7 @@ use Rattle.promises.specs.Statements.{bytesAltered, Protected, Copy}
 -- a packet's fields are those of the file's own place
 module _ (g : Settings) (file : List ℕ) (n start : ℕ) where
   own-fields : SameFile (placeOf g (countOf g (length file)) start) (fieldsOf g file n)
-  own-fields = record { update = refl; count = refl; protection = refl; rows = λ o. refl }
+  own-fields = record { update = refl; count = refl; protection = refl; rows = λ (o : g .protection ≡ 1). rw (ne-eqb (g .protection) 0 (λ (z : g .protection ≡ 0). omega arith)) }
 
   pub not-different : differs (placeOf g (countOf g (length file)) start) (fieldsOf g file n) ≡ false
   not-different = same-serves (placeOf g (countOf g (length file)) start) (fieldsOf g file n) own-fields
@@ -62,7 +62,7 @@ module _ (g : Settings) (file : List ℕ) (p : Protected g file) (n : ℕ) (belo
     pub copy-judged : (start : ℕ) → judge (placeOf g (countOf g (length file)) start) (fieldsOf g file n) q ≡ put n (payloadOf g file n) (bytesAltered q (payloadOf g file n))
     copy-judged start =
         let body : payloadIn (packetOf g file n) ≡ payloadOf g file n = packet-payload g file n in
-        judge-copy (placeOf g (countOf g (length file)) start) (fieldsOf g file n) q (packetOf g file n) altered packet-intact (own-fields g file n start)
+        judge-copy (placeOf g (countOf g (length file)) start) (fieldsOf g file n) q (packetOf g file n) altered packet-intact (own-fields g file n start) (packet-edition g file n (p .fit) (p .count) below)
         (λ z. omega (arith, p .protection)) (omega (arith, ap length body, payload-most g file (p .fit) n))
         ∙ ap (λ (b : List ℕ). put n b (bytesAltered q b)) body
 

@@ -14,6 +14,7 @@ pub mod Slots
 pub mod Cases
 pub mod Turned
 pub mod Counts
+pub mod Editions
 pub mod Beside
 pub mod Misread
 pub mod Replaced

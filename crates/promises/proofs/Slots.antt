@@ -2,13 +2,14 @@
 -- found the payload there; no other slot changes. Assumes nothing.
 use mathlib.Core.Path.{_≡_, refl, sym, ap, ap₂, _∙_}
 use mathlib.Core.Logic.{⊎-elim}
-use mathlib.Core.Bool.{Bool, true, false, cond}
+use mathlib.Core.Bool.{Bool, true, false, cond, not}
 use mathlib.Core.List.{List, [], _∷_}
 use Prim.Native.Nat.{ℕ, zero, suc, _+_, _%_, _<_, _≤_}
 use native.Mathlib.Omega.{arith}
-use lib.Dec.{ltb}
+use borrow.Author.Tests.{eqb-true}
+use lib.Dec.{eqb, ltb}
 use lib.ListN.{length, getD, List·getD-eq-default}
-use Rattle.refusals.specs.declared.Refusal.the-variants.{Other, Wide, Crc, Slot, Conflict}
+use Rattle.refusals.specs.declared.Refusal.the-variants.{Other, Edition, Wide, Crc, Slot, Conflict}
 use Rattle.refusals.specs.Told.{refusedAs}
 use Rattle.refusals.proofs.Told.{number-not-0}
 use Rattle.ground.proofs.Numbers.{lt-or-ge, same-or-not}
@@ -17,6 +18,7 @@ use Rattle.words.proofs.SameLaws.{same-equal}
 use Rattle.packet.specs.declared.Packet.{Packet}
 use Rattle.packet.specs.declared.Reading.the-variants.{Sent}
 use Rattle.packet.specs.Packet.{readOf}
+use Rattle.packet.specs.Edition.{editionOf}
 use Rattle.places.specs.declared.Place.{Place}
 use Rattle.places.specs.declared.Found.{Found}
 use Rattle.places.specs.declared.Found.the-variants.{At, Nothing}
@@ -90,33 +92,41 @@ status-by-slots x r i h =
 
 record Puts (p : Place) (f : Packet) (q b : List ℕ) (m : ℕ) : Type 0 where
   serves : differs p f ≡ false
+  edition : editionOf f ≡ p .edition
   mended : mendedIn (f .protection) q ≡ whole b m
   crc : agrees q b ≡ true
 
 module _ (p : Place) (f : Packet) (q : List ℕ) (k : ℕ) (b : List ℕ) (m : ℕ) where
-  puts-agreed : differs p f ≡ false → (c : List ℕ) (n : ℕ) → mendedIn (f .protection) q ≡ whole c n → (t : Bool) → agrees q c ≡ t → cond t (put (f .number) c n) (refuse Crc) ≡ put k b m → Puts p f q b m
-  puts-agreed d c n e true a z =
-      let w : c ≡ b = cc in
-      let v : n ≡ m = cc in
-      record { serves = d; mended = e ∙ ap₂ whole w v; crc = ap (agrees q) (sym w) ∙ a }
-  puts-agreed d c n e false a z = let o : _≡_ {A = ℕ} 0 1 = cc in absurd (omega arith)
+  module _ (d : differs p f ≡ false) (v : editionOf f ≡ p .edition) where
+    puts-agreed : (c : List ℕ) (n : ℕ) → mendedIn (f .protection) q ≡ whole c n → (t : Bool) → agrees q c ≡ t → cond t (put (f .number) c n) (refuse Crc) ≡ put k b m → Puts p f q b m
+    puts-agreed c n e true a z =
+        let w : c ≡ b = cc in
+        let u : n ≡ m = cc in
+        record { serves = d; edition = v; mended = e ∙ ap₂ whole w u; crc = ap (agrees q) (sym w) ∙ a }
+    puts-agreed c n e false a z = let o : _≡_ {A = ℕ} 0 1 = cc in absurd (omega arith)
 
-  puts-mended : differs p f ≡ false → (x : Mended) → mendedIn (f .protection) q ≡ x → judgeMended (f .number) q x ≡ put k b m → Puts p f q b m
-  puts-mended d (broken i) e z = let o : _≡_ {A = ℕ} 0 1 = cc in absurd (omega arith)
-  puts-mended d (whole c n) e z = puts-agreed d c n e (agrees q c) refl z
+    puts-mended : (x : Mended) → mendedIn (f .protection) q ≡ x → judgeMended (f .number) q x ≡ put k b m → Puts p f q b m
+    puts-mended (broken i) e z = let o : _≡_ {A = ℕ} 0 1 = cc in absurd (omega arith)
+    puts-mended (whole c n) e z = puts-agreed c n e (agrees q c) refl z
+
+    puts-narrow : (t : Bool) → cond t (refuse Wide) (judgeMended (f .number) q (mendedIn (f .protection) q)) ≡ put k b m → Puts p f q b m
+    puts-narrow true z = let o : _≡_ {A = ℕ} 0 1 = cc in absurd (omega arith)
+    puts-narrow false z = puts-mended (mendedIn (f .protection) q) refl z
 
   puts-known : judge p f q ≡ put k b m → Puts p f q b m
   unfolding judgeBy
   puts-known = other (differs p f) refl
     where
-      wide : differs p f ≡ false → (t : Bool) → cond t (refuse Wide) (judgeMended (f .number) q (mendedIn (f .protection) q)) ≡ put k b m → Puts p f q b m
-      wide d true z = let o : _≡_ {A = ℕ} 0 1 = cc in absurd (omega arith)
-      wide d false z = puts-mended d (mendedIn (f .protection) q) refl z
+      edition : differs p f ≡ false → (t : Bool) → eqb (editionOf f) (p .edition) ≡ t
+          → cond (not t) (refuse Edition) (cond (ltb (p .slot) (length (payloadIn q))) (refuse Wide) (judgeMended (f .number) q (mendedIn (f .protection) q))) ≡ put k b m → Puts p f q b m
+      edition d true e z = puts-narrow d (eqb-true _ _ e) (ltb (p .slot) (length (payloadIn q))) z
+      edition d false e z = let o : _≡_ {A = ℕ} 0 1 = cc in absurd (omega arith)
 
       other : (t : Bool) → differs p f ≡ t
-          → cond t (refuse Other) (cond (ltb (p .slot) (length (payloadIn q))) (refuse Wide) (judgeMended (f .number) q (mendedIn (f .protection) q))) ≡ put k b m → Puts p f q b m
+          → cond t (refuse Other) (cond (not (eqb (editionOf f) (p .edition))) (refuse Edition) (cond (ltb (p .slot) (length (payloadIn q))) (refuse Wide) (judgeMended (f .number) q (mendedIn (f .protection) q)))) ≡ put k b m
+          → Puts p f q b m
       other true e z = let o : _≡_ {A = ℕ} 0 1 = cc in absurd (omega arith)
-      other false e z = wide e (ltb (p .slot) (length (payloadIn q))) z
+      other false e z = edition e (eqb (editionOf f) (p .edition)) refl z
 
 -- rows that were repaired are near, and what was mended is counted
 mended-near : (q b : List ℕ) (m : ℕ) (f : Packet) → Read q f → (f .protection ≡ 0 → ⊥) → mendedIn (f .protection) q ≡ whole b m → RowsNear q b × (m ≡ bytesAltered q b)
@@ -172,6 +182,7 @@ module _ (x : State) (q : List ℕ) where
           read = read;
           held = found-held x (packetName f) i g found;
           serves = k .serves;
+          edition = k .edition;
           number = w .number;
           below = w .below;
           plain = λ z. plain z (k .mended) .0;

@@ -47,7 +47,7 @@ use Rattle.promises.proofs.Slots.{held-found, found-held, status-by-slo
 -- ---- the example
 
 abbrev pub one : Settings
-one = record { resource = 5; kind = 1; update = 0; protection = 1; rows = 1; size = 255 }
+one = record { resource = 5; kind = 1; update = 0; protection = 1; rows = 1; size = 255; edition = 2 }
 
 abbrev pub byte : List ℕ
 byte = 7 ∷ []

@@ -1,4 +1,4 @@
--- What an institute may rely on: document 01, section 5, section 7, the order's demands 2 and 3, and document 02, R-1 and R-7. Each statement is about any program; proofs/ shows them of `step`.
+-- What an institute may rely on: document 01, section 5, section 7, the order's demands 2 and 3, and document 02, R-1, R-7 and R-9. Each statement is about any program; proofs/ shows them of `step`.
 -- docs/PROMISES.md says each in plain words. Assumes nothing.
 use mathlib.Core.Path.{_≡_}
 use mathlib.Core.Logic.{_⊎_}
@@ -7,7 +7,7 @@ use mathlib.Core.List.{List, [], _∷_, _++_, map}
 use Prim.Native.Nat.{ℕ, _+_, _-_, _*_, _/_, _%_, _≤_, _<_}
 use lib.ListN.{length, getD, take, drop, replicate}
 use Rattle.ground.specs.Lists.{listed}
-use Rattle.refusals.specs.declared.Refusal.the-variants.{Unknown, Other, Slot, Size}
+use Rattle.refusals.specs.declared.Refusal.the-variants.{Unknown, Other, Edition, Slot, Size}
 use Rattle.refusals.specs.Told.{Told, acceptedWith, refusedAs}
 use Rattle.code.specs.Code.{Bytes, distance}
 use Rattle.code.specs.Repair.{Near}
@@ -16,6 +16,7 @@ use Rattle.packet.specs.declared.Packet.{Packet}
 use Rattle.packet.specs.declared.Reading.the-variants.{Sent}
 use Rattle.settings.specs.declared.Settings.{Settings}
 use Rattle.packet.specs.Packet.{readOf}
+use Rattle.packet.specs.Edition.{editionOf}
 use Rattle.settings.specs.Settings.{settingsFit}
 use Rattle.layout.specs.Layout.{tablesOf}
 use Rattle.pack.specs.Pack.{largestFile, countOf, payloadOf, packetOf}
@@ -245,13 +246,14 @@ StatusBySlots f =
     (x : State) (r : Name) (i : ℕ) → Held x r i
     → f (asking r) x ≡ record { answer = telling (slotsTold (contents (placeAt x i) (x .store))); state = x }
 
--- q carries b for slot n of place i: it is a packet of the place's file with that number, b is its payload, as it came without protection and near in each row with it, and
+-- q carries b for slot n of place i: it is a packet of the place's file, in its edition, with that number, b is its payload, as it came without protection and near in each row with it, and
 -- the CRC agrees with b; m bytes of it were mended: none without protection, the sum over the rows with it
 pub record Carried (x : State) (q : List ℕ) (i n : ℕ) (b : List ℕ) (m : ℕ) : Type 0 where
   pub fields : Packet
   pub read : readOf q ≡ Sent fields
   pub held : Held x (packetName fields) i
   pub serves : differs (placeAt x i) fields ≡ false
+  pub edition : editionOf fields ≡ placeAt x i .edition
   pub number : n ≡ fields .number
   pub below : n < placeAt x i .count
   pub plain : fields .protection ≡ 0 → b ≡ payloadIn q
@@ -388,3 +390,23 @@ GradedFromFresh f =
     (g : Settings) (file : List ℕ) → Protected g file
     → (s : List ℕ) → HasRoom g file s
     → (cs : List Call) → AllFair g file cs → Graded f g file (run f cs (opened f g file (fresh s)) .state)
+
+-- ---- two editions of the spare bits: document 02, R-9
+
+-- what is packed shows its edition: the field reader reports that of the settings, with protection and without
+abbrev pub ShowsEdition : Type 0
+ShowsEdition =
+    (g : Settings) (file : List ℕ) (n : ℕ) → settingsFit g ≡ true → countOf g (length file) ≤ 1048575 → n < countOf g (length file)
+    → (fields : Packet) × (readOf (packetOf g file n) ≡ Sent fields) × (editionOf fields ≡ g .edition)
+
+-- a place accepts its own edition only: there a packet of its file in another, or in neither, is refused (33), whatever its payload and the slots hold
+abbrev pub OwnEdition : Program → Type 0
+OwnEdition f =
+    (x : State) (q : List ℕ) (fields : Packet) (i : ℕ) → readOf q ≡ Sent fields → Held x (packetName fields) i
+    → differs (placeAt x i) fields ≡ false → (editionOf fields ≡ placeAt x i .edition → ⊥) → f (offering q) x .answer .told ≡ refusedAs Edition
+
+-- so a station may send both: of two files under settings of different editions, in all else alike or not, the same calls may carry both, each to a place of its own edition
+abbrev pub DifferentEditions : Type 0
+DifferentEditions =
+    (g d : Settings) (a b : List ℕ) → Protected g a → Protected d b → (g .edition ≡ d .edition → ⊥)
+    → (cs : List Call) × Carries g a cs × Carries d b cs
