@@ -24,7 +24,7 @@ use Rattle.places.proofs.Keeping.{at-set}
 use Rattle.opening.specs.Open.{Plan, refuse, take, planOf, openOf, closedAt, closeOf}
 use Rattle.opening.proofs.PlanLaws.{taking, open-by}
 use Rattle.opening.proofs.OpenLaws.{open-good, open-named, open-own, refused-record}
-use Rattle.face.specs.Layout.{two, four, placeIn, recordIn}
+use Rattle.face.specs.Layout.{placeLength, recordLength, two, four, placeIn, recordIn}
 use Rattle.face.specs.Face.{openSays, closeSays}
 use Rattle.face.specs.Statements.{RecordsFollow}
 use Rattle.face.proofs.LayoutLaws.{Typed, record-again}
@@ -41,6 +41,7 @@ facts-typed n p f = record {
   rows = omega (arith, f .rows-most);
   slot = omega (arith, f .slot-most);
   start = omega (arith, f .ends-limit, end-sum p);
+  edition = ⊎-elim (λ e. omega arith) (λ e. omega arith) (f .edition-either);
 }
 
 unused-typed : Typed unused
@@ -53,6 +54,7 @@ unused-typed = record {
   rows = omega arith;
   slot = omega arith;
   start = omega arith;
+  edition = omega arith;
 }
 
 -- eight places whose fields fit
@@ -78,13 +80,14 @@ module _ (b : List ℕ) (bytes : Bytes b) where
     rows = bytes-at b bytes (at + 9);
     slot = two-short (at + 10);
     start = four-short (at + 12);
+    edition = two-short (at + 16);
   }
 
   eight-in : Eight (recordIn b .places)
   unfolding recordIn
   eight-in = record {
-    long = length-listed (λ i. placeIn b (i * 16)) 8 0;
-    each = λ k h. subst Typed (sym (getD-listed-0 (λ i. placeIn b (i * 16)) 8 k unused h)) (place-typed (k * 16));
+    long = length-listed (λ i. placeIn b (i * placeLength)) 8 0;
+    each = λ k h. subst Typed (sym (getD-listed-0 (λ i. placeIn b (i * placeLength)) 8 k unused h)) (place-typed (k * placeLength));
   }
 
 eight-set : (ps : List Place) (i : ℕ) (p : Place) → Eight ps → Typed p → Eight (set ps i p)
@@ -117,18 +120,18 @@ close-eight h s x e = by (not (good (length s) (h .places))) (placeNamed (h .pla
 
 -- ---- through the bytes
 
-module _ (h s : List ℕ) (bytes : Bytes h) (n : length h ≡ 128) where
+module _ (h s : List ℕ) (bytes : Bytes h) (n : length h ≡ recordLength) where
   open-follows : (g : Settings) (count : ℕ) → recordIn (openSays h s g count .held) ≡ openOf (recordIn h) s g count .kept .«record»
   unfolding openSays
   open-follows g count =
       let e = open-eight (recordIn h) s g count (eight-in h bytes) in
-      rw (eq-eqb (length h) 128 n) (record-again (openOf (recordIn h) s g count .kept .«record») (e .long) (e .each))
+      rw (eq-eqb (length h) recordLength n) (record-again (openOf (recordIn h) s g count .kept .«record») (e .long) (e .each))
 
   close-follows : (x : Name) → recordIn (closeSays h s x .held) ≡ closeOf (recordIn h) s x .«record»
   unfolding closeSays
   close-follows x =
       let e = close-eight (recordIn h) s x (eight-in h bytes) in
-      rw (eq-eqb (length h) 128 n) (record-again (closeOf (recordIn h) s x .«record») (e .long) (e .each))
+      rw (eq-eqb (length h) recordLength n) (record-again (closeOf (recordIn h) s x .«record») (e .long) (e .each))
 
 pub records-follow : RecordsFollow
 records-follow = record {

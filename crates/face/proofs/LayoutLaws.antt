@@ -1,4 +1,4 @@
--- The record's bytes, there and back: the bytes of the record that 128 bytes hold are those bytes, and the record in a record's bytes is that record. Fewer bytes
+-- The record's bytes, there and back: the bytes of the record that 144 bytes hold are those bytes, and the record in a record's bytes is that record. Fewer bytes
 -- hold the record that they hold with zeros behind them.
 -- Assumes nothing.
 use mathlib.Core.Path.{_≡_, refl, sym, ap, ap₂, _∙_}
@@ -19,7 +19,7 @@ use Rattle.places.specs.declared.Place.{Place}
 use Rattle.places.specs.declared.Record.{Record}
 use Rattle.places.specs.Places.{unused}
 use Rattle.face.proofs.RecordLaws.{length-place}
-use Rattle.face.specs.Layout.{two, four, placeIn, recordIn, asTwo, asFour, placeBytes, allBytes, recordBytes}
+use Rattle.face.specs.Layout.{placeLength, recordLength, two, four, placeIn, recordIn, asTwo, asFour, placeBytes, allBytes, recordBytes}
 
 -- ---- bytes to numbers and back
 
@@ -56,22 +56,22 @@ module _ (b : List ℕ) (bytes : Bytes b) where
       four-back (getD b at 0) (getD b (at + 1) 0) (getD b (at + 2) 0) (getD b (at + 2 + 1) 0) (bytes-at b bytes at) (bytes-at b bytes (at + 1)) (bytes-at b bytes (at + 2))
       (bytes-at b bytes (at + 2 + 1))
 
-  place-back : (at : ℕ) → at + 16 ≤ length b → placeBytes (placeIn b at) ≡ take 16 (drop at b)
+  place-back : (at : ℕ) → at + placeLength ≤ length b → placeBytes (placeIn b at) ≡ take placeLength (drop at b)
   unfolding placeIn placeBytes
   place-back at h =
       (λ i. two-at at i ++ ((getD b (at + 2) 0 ∷ getD b (at + 3) 0 ∷ []) ++ (four-at (at + 4) i
-      ++ ((getD b (at + 8) 0 ∷ getD b (at + 9) 0 ∷ []) ++ (two-at (at + 10) i ++ four-at (at + 12) i)))))
-      ∙ (simp (add-assoc, add-zero)) ∙ listed-from b 0 16 at h
+      ++ ((getD b (at + 8) 0 ∷ getD b (at + 9) 0 ∷ []) ++ (two-at (at + 10) i ++ (four-at (at + 12) i ++ two-at (at + 16) i))))))
+      ∙ (simp (add-assoc, add-zero)) ∙ listed-from b 0 placeLength at h
 
-  pieces : (n i : ℕ) → (i + n) * 16 ≤ length b → allBytes (listed (λ k. placeIn b (k * 16)) n i) ≡ flatten (listed (λ k. take 16 (drop (k * 16) b)) n i)
+  pieces : (n i : ℕ) → (i + n) * placeLength ≤ length b → allBytes (listed (λ k. placeIn b (k * placeLength)) n i) ≡ flatten (listed (λ k. take placeLength (drop (k * placeLength) b)) n i)
   unfolding flatten
   pieces zero i h = refl
-  pieces (suc n) i h = ap₂ _++_ (place-back (i * 16) (omega arith)) (pieces n (suc i) (omega arith))
+  pieces (suc n) i h = ap₂ _++_ (place-back (i * placeLength) (omega arith)) (pieces n (suc i) (omega arith))
 
   -- the bytes of the record that bytes hold
-  pub bytes-again : length b ≡ 128 → recordBytes (recordIn b) ≡ b
+  pub bytes-again : length b ≡ recordLength → recordBytes (recordIn b) ≡ b
   unfolding recordBytes recordIn
-  bytes-again n = pieces 8 0 (omega arith) ∙ joined-all b 16 8 (omega arith)
+  bytes-again n = pieces 8 0 (omega arith) ∙ joined-all b placeLength 8 (omega arith)
 
 -- ---- numbers to bytes and back
 
@@ -85,6 +85,7 @@ pub record Typed (p : Place) : Type 0 where
   pub rows : p .rows < 256
   pub slot : p .slot < 65536
   pub start : p .start < 4294967296
+  pub edition : p .edition < 65536
 
 two-again : (v : ℕ) → v < 65536 → v % 256 + v / 256 % 256 * 256 ≡ v
 two-again v h = omega arith
@@ -103,27 +104,28 @@ place-again p t = λ i. record {
   rows = p .rows;
   slot = two-again (p .slot) (t .slot) i;
   start = four-again (p .start) (t .start) i;
+  edition = two-again (p .edition) (t .edition) i;
 }
 
 -- byte j of place k
-byte-of : (ps : List Place) (k j : ℕ) → k < length ps → j < 16 → getD (allBytes ps) (k * 16 + j) 0 ≡ getD (placeBytes (getD ps k unused)) j 0
+byte-of : (ps : List Place) (k j : ℕ) → k < length ps → j < placeLength → getD (allBytes ps) (k * placeLength + j) 0 ≡ getD (placeBytes (getD ps k unused)) j 0
 byte-of [] k j h d = absurd (omega arith)
 byte-of (p ∷ ps) zero j h d =
-    let e : 0 * 16 + j ≡ j = omega arith in
+    let e : 0 * placeLength + j ≡ j = omega arith in
     ap (λ (x : ℕ). getD (placeBytes p ++ allBytes ps) x 0) e ∙ List·getD-append (placeBytes p) (allBytes ps) 0 j (omega (arith, length-place p))
 byte-of (p ∷ ps) (suc k) j h d =
-    let e : suc k * 16 + j ≡ length (placeBytes p) + (k * 16 + j) = omega (arith, length-place p) in
-    ap (λ (x : ℕ). getD (placeBytes p ++ allBytes ps) x 0) e ∙ getD-append-add (placeBytes p) (allBytes ps) (k * 16 + j) 0 ∙ byte-of ps k j (omega arith) d
+    let e : suc k * placeLength + j ≡ length (placeBytes p) + (k * placeLength + j) = omega (arith, length-place p) in
+    ap (λ (x : ℕ). getD (placeBytes p ++ allBytes ps) x 0) e ∙ getD-append-add (placeBytes p) (allBytes ps) (k * placeLength + j) 0 ∙ byte-of ps k j (omega arith) d
 
--- a place is read from its sixteen bytes alone
-module _ (l m : List ℕ) (at : ℕ) (same : (j : ℕ) → j < 16 → getD l (at + j) 0 ≡ getD m j 0) where
-  read : (i j : ℕ) → i ≡ at + j → j < 16 → getD l i 0 ≡ getD m j 0
+-- a place is read from its own bytes alone
+module _ (l m : List ℕ) (at : ℕ) (same : (j : ℕ) → j < placeLength → getD l (at + j) 0 ≡ getD m j 0) where
+  read : (i j : ℕ) → i ≡ at + j → j < placeLength → getD l i 0 ≡ getD m j 0
   read i j e h = ap (λ (x : ℕ). getD l x 0) e ∙ same j h
 
-  two-same : (i j : ℕ) → i ≡ at + j → j + 1 < 16 → two l i ≡ two m j
+  two-same : (i j : ℕ) → i ≡ at + j → j + 1 < placeLength → two l i ≡ two m j
   two-same i j e h = ap₂ (λ (x y : ℕ). x + y * 256) (read i j e (omega arith)) (read (i + 1) (j + 1) (omega arith) h)
 
-  four-same : (i j : ℕ) → i ≡ at + j → j + 3 < 16 → four l i ≡ four m j
+  four-same : (i j : ℕ) → i ≡ at + j → j + 3 < placeLength → four l i ≡ four m j
   four-same i j e h = ap₂ (λ (x y : ℕ). x + y * 65536) (two-same i j e (omega arith)) (two-same (i + 2) (j + 2) (omega arith) (omega arith))
 
   place-same : placeIn l at ≡ placeIn m 0
@@ -137,14 +139,15 @@ module _ (l m : List ℕ) (at : ℕ) (same : (j : ℕ) → j < 16 → getD l (at
     rows = read (at + 9) 9 refl (omega arith) i;
     slot = two-same (at + 10) 10 refl (omega arith) i;
     start = four-same (at + 12) 12 refl (omega arith) i;
+    edition = two-same (at + 16) 16 refl (omega arith) i;
   }
 
-places-again : (ps : List Place) → ((k : ℕ) → k < length ps → Typed (getD ps k unused)) → listed (λ k. placeIn (allBytes ps) (k * 16)) (length ps) 0 ≡ ps
+places-again : (ps : List Place) → ((k : ℕ) → k < length ps → Typed (getD ps k unused)) → listed (λ k. placeIn (allBytes ps) (k * placeLength)) (length ps) 0 ≡ ps
 places-again ps t =
-    listed-ext (λ k. placeIn (allBytes ps) (k * 16)) (λ k. getD ps k unused) (length ps) 0
+    listed-ext (λ k. placeIn (allBytes ps) (k * placeLength)) (λ k. getD ps k unused) (length ps) 0
     (λ k l u.
     let h : k < length ps = omega arith in
-    place-same (allBytes ps) (placeBytes (getD ps k unused)) (k * 16) (λ j d. byte-of ps k j h d) ∙ place-again (getD ps k unused) (t k h))
+    place-same (allBytes ps) (placeBytes (getD ps k unused)) (k * placeLength) (λ j d. byte-of ps k j h d) ∙ place-again (getD ps k unused) (t k h))
     ∙ listed-whole ps unused
 
 -- the record that a record's bytes hold
@@ -152,9 +155,9 @@ pub record-again : (h : Record) → length (h .places) ≡ 8 → ((k : ℕ) → 
 unfolding recordIn recordBytes
 record-again h n t = λ i. record { places = places i }
   where
-    places : listed (λ k. placeIn (allBytes (h .places)) (k * 16)) 8 0 ≡ h .places
+    places : listed (λ k. placeIn (allBytes (h .places)) (k * placeLength)) 8 0 ≡ h .places
     places =
-        ap (λ (x : ℕ). listed (λ k. placeIn (allBytes (h .places)) (k * 16)) x 0) (sym n)
+        ap (λ (x : ℕ). listed (λ k. placeIn (allBytes (h .places)) (k * placeLength)) x 0) (sym n)
         ∙ places-again (h .places) (λ k l. t k (omega arith))
 
 -- ---- fewer bytes
@@ -168,14 +171,15 @@ record-alike l m e =
     λ i. record {
       places = listed
           (λ k. record {
-            resource = t (k * 16) i;
-            kind = e (k * 16 + 2) i;
-            update = e (k * 16 + 3) i;
-            count = f (k * 16 + 4) i;
-            protection = e (k * 16 + 8) i;
-            rows = e (k * 16 + 9) i;
-            slot = t (k * 16 + 10) i;
-            start = f (k * 16 + 12) i;
+            resource = t (k * placeLength) i;
+            kind = e (k * placeLength + 2) i;
+            update = e (k * placeLength + 3) i;
+            count = f (k * placeLength + 4) i;
+            protection = e (k * placeLength + 8) i;
+            rows = e (k * placeLength + 9) i;
+            slot = t (k * placeLength + 10) i;
+            start = f (k * placeLength + 12) i;
+            edition = t (k * placeLength + 16) i;
           })
           8 0;
     }
@@ -194,5 +198,5 @@ over-zeros n b h j = by (le-or-lt (length b) j)
         ap (λ (x : List ℕ). getD x j 0) (sets-front (zeros n) b (omega (arith, length-zeros n)))
         ∙ List·getD-append b (drop (length b) (zeros n)) 0 j p
 
-pub record-padded : (b : List ℕ) → length b ≤ 128 → recordIn (sets (zeros 128) 0 b) ≡ recordIn b
-record-padded b h = record-alike (sets (zeros 128) 0 b) b (over-zeros 128 b h)
+pub record-padded : (b : List ℕ) → length b ≤ recordLength → recordIn (sets (zeros recordLength) 0 b) ≡ recordIn b
+record-padded b h = record-alike (sets (zeros recordLength) 0 b) b (over-zeros recordLength b h)

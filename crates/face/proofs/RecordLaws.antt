@@ -10,41 +10,41 @@ use lib.Seq.{sets, length-sets, drop-cons}
 use Rattle.ground.proofs.Writing.{sets-append, sets-all}
 use Rattle.places.specs.declared.Place.{Place}
 use Rattle.places.specs.Places.{unused}
-use Rattle.face.specs.Layout.{placeBytes, allBytes}
+use Rattle.face.specs.Layout.{placeLength, recordLength, placeBytes, allBytes}
 
-pub length-place : (p : Place) → length (placeBytes p) ≡ 16
+pub length-place : (p : Place) → length (placeBytes p) ≡ placeLength
 unfolding placeBytes
 length-place p = refl
 
-length-all : (ps : List Place) → length (allBytes ps) ≡ length ps * 16
+length-all : (ps : List Place) → length (allBytes ps) ≡ length ps * placeLength
 length-all [] = refl
 length-all (p ∷ ps) = omega (arith, length-append (placeBytes p) (allBytes ps), length-place p, length-all ps)
 
 pub record Putting (ps : List Place) (out : List ℕ) (i : ℕ) : Type 0 where
   pub within : i ≤ 8
-  pub long : length out ≡ 128
-  pub rest : sets out (i * 16) (allBytes (drop i ps)) ≡ allBytes ps
+  pub long : length out ≡ recordLength
+  pub rest : sets out (i * placeLength) (allBytes (drop i ps)) ≡ allBytes ps
 
 module _ (ps : List Place) (n : length ps ≡ 8) (out : List ℕ) where
-  pub put-begin : length out ≡ 128 → Putting ps out 0
+  pub put-begin : length out ≡ recordLength → Putting ps out 0
   put-begin h = record { within = omega arith; long = h; rest = sets-all out (allBytes ps) (omega (arith, length-all ps)) }
 
   module _ (i : ℕ) (run : Putting ps out i) where
-    pub put-step : (b next : List ℕ) → i < 8 → b ≡ placeBytes (getD ps i unused) → next ≡ sets out (i * 16) b → Putting ps next (i + 1)
+    pub put-step : (b next : List ℕ) → i < 8 → b ≡ placeBytes (getD ps i unused) → next ≡ sets out (i * placeLength) b → Putting ps next (i + 1)
     put-step b next h e d =
         let c : drop i ps ≡ getD ps i unused ∷ drop (suc i) ps = drop-cons ps i unused (omega arith) in
-        let z : (i + 1) * 16 ≡ i * 16 + length b = omega (arith, ap length e, length-place (getD ps i unused)) in
+        let z : (i + 1) * placeLength ≡ i * placeLength + length b = omega (arith, ap length e, length-place (getD ps i unused)) in
         let one : drop (i + 1) ps ≡ drop (suc i) ps = ap (λ (k : ℕ). drop k ps) (add-one i) in
         record {
           within = omega arith;
-          long = ap length d ∙ length-sets out (i * 16) b ∙ run .long;
+          long = ap length d ∙ length-sets out (i * placeLength) b ∙ run .long;
           rest = ap₂ (λ (x : List ℕ) (y : ℕ). sets x y (allBytes (drop (i + 1) ps))) d z
-              ∙ ap (λ (x : List Place). sets (sets out (i * 16) b) (i * 16 + length b) (allBytes x)) one
-              ∙ sym (sets-append out (i * 16) b (allBytes (drop (suc i) ps)))
-              ∙ ap (λ (x : List ℕ). sets out (i * 16) (x ++ allBytes (drop (suc i) ps))) e
-              ∙ ap (λ (x : List Place). sets out (i * 16) (allBytes x)) (sym c)
+              ∙ ap (λ (x : List Place). sets (sets out (i * placeLength) b) (i * placeLength + length b) (allBytes x)) one
+              ∙ sym (sets-append out (i * placeLength) b (allBytes (drop (suc i) ps)))
+              ∙ ap (λ (x : List ℕ). sets out (i * placeLength) (x ++ allBytes (drop (suc i) ps))) e
+              ∙ ap (λ (x : List Place). sets out (i * placeLength) (allBytes x)) (sym c)
               ∙ run .rest;
         }
 
     pub put-end : 8 ≤ i → out ≡ allBytes ps
-    put-end h = ap (λ (x : List Place). sets out (i * 16) (allBytes x)) (sym (drop-of-length-le ps {i = i} (omega arith))) ∙ run .rest
+    put-end h = ap (λ (x : List Place). sets out (i * placeLength) (allBytes x)) (sym (drop-of-length-le ps {i = i} (omega arith))) ∙ run .rest

@@ -37,7 +37,7 @@ use Rattle.opening.proofs.OpenLaws.{refused-record, refused-store, refused-plan
 use Rattle.record.proofs.OfferLaws.{offer-refused}
 use Rattle.handing.proofs.HandLaws.{hand-refused}
 use Rattle.code.specs.Code.{Bytes}
-use Rattle.face.specs.Layout.{recordIn, recordBytes}
+use Rattle.face.specs.Layout.{recordLength, recordIn, recordBytes}
 use Rattle.face.specs.Face.{Said, Kept, answerOf, badRecord, puts, putsIf, valued, withValue, encodeSays, repairSays, readSays, packSays, openSays, closeSays, offerSays, handSays}
 use Rattle.face.specs.Statements.{numberIn, OutputKept, RecordKept, RefusalsChangeNothing}
 use Rattle.face.proofs.LayoutLaws.{bytes-again}
@@ -113,14 +113,14 @@ pack-refused-keeps file g n out = by (packOf file g n out .answer) refl
 -- bytes that are no record stay; else a refused verdict stands beside the record in them, and beside the store as lent
 module _ (h s : List ℕ) (v : Verdict) (k : Record) (left : List ℕ) where
   put-back-kept : Bytes h → ((r : Refusal) → v ≡ Refused r → (k ≡ recordIn h) × (left ≡ s))
-      → AllKept (cond (eqb (length h) 128) (record { answer = answerOf (verdictTold v); held = recordBytes k; store = left }) (record { answer = badRecord; held = h; store = s })) h s
-  put-back-kept bytes same = by (eqb (length h) 128) refl v refl
+      → AllKept (cond (eqb (length h) recordLength) (record { answer = answerOf (verdictTold v); held = recordBytes k; store = left }) (record { answer = badRecord; held = h; store = s })) h s
+  put-back-kept bytes same = by (eqb (length h) recordLength) refl v refl
     where
-      by : (t : Bool) → eqb (length h) 128 ≡ t → (w : Verdict) → v ≡ w
+      by : (t : Bool) → eqb (length h) recordLength ≡ t → (w : Verdict) → v ≡ w
           → AllKept (cond t (record { answer = answerOf (verdictTold w); held = recordBytes k; store = left }) (record { answer = badRecord; held = h; store = s })) h s
       by false t w e d = (refl, refl)
       by true t Accepted e d = absurd (d refl)
-      by true t (Refused r) e d = (ap recordBytes (same r e .0) ∙ bytes-again h bytes (eqb-true (length h) 128 t), same r e .1)
+      by true t (Refused r) e d = (ap recordBytes (same r e .0) ∙ bytes-again h bytes (eqb-true (length h) recordLength t), same r e .1)
 
 pub open-refused-keeps : (h s : List ℕ) (g : Settings) (count : ℕ) → Bytes h → AllKept (openSays h s g count) h s
 unfolding openSays
@@ -147,7 +147,7 @@ close-refused-keeps h s x bytes =
 
 pub offer-refused-keeps : (h s q : List ℕ) → AllKept (offerSays h s q) h s
 unfolding offerSays
-offer-refused-keeps h s q = by (eqb (length h) 128) (offerOf (recordIn h) s q .answer) refl
+offer-refused-keeps h s q = by (eqb (length h) recordLength) (offerOf (recordIn h) s q .answer) refl
   where
     by : (t : Bool) (a : Offered) → offerOf (recordIn h) s q .answer ≡ a
         → AllKept (cond t (record { answer = answerOf (offeredTold a); held = h; store = offerOf (recordIn h) s q .store }) (record { answer = badRecord; held = h; store = s })) h s
@@ -158,7 +158,7 @@ offer-refused-keeps h s q = by (eqb (length h) 128) (offerOf (recordIn h) s q .a
 
 pub hand-refused-keeps : (h s : List ℕ) (x : Name) (n : ℕ) (out : List ℕ) → SaidKept (handSays h s x n out) out
 unfolding handSays
-hand-refused-keeps h s x n out = by (eqb (length h) 128) (handOutOf (recordIn h) s x n out .answer) refl
+hand-refused-keeps h s x n out = by (eqb (length h) recordLength) (handOutOf (recordIn h) s x n out .answer) refl
   where
     by : (t : Bool) (v : Verdict) → handOutOf (recordIn h) s x n out .answer ≡ v
         → SaidKept (cond t (record { answer = answerOf (verdictTold v); output = handOutOf (recordIn h) s x n out .output }) (record { answer = badRecord; output = out })) out

@@ -22,7 +22,7 @@ use Rattle.standing.specs.declared.Standing.{Standing}
 use Rattle.standing.specs.declared.Standing.the-variants.{Filled}
 use Rattle.standing.specs.Told.{standingTold}
 use Rattle.standing.specs.Status.{standingIn, statusFound, statusOf}
-use Rattle.face.specs.Layout.{recordIn}
+use Rattle.face.specs.Layout.{recordLength, recordIn}
 use Rattle.face.specs.Face.{answerOf, badRecord, statusSays}
 
 standing-short : (c : List Content) → length c ≤ 1048575 → answerOf (standingTold (standingIn c)) < 18446744073709551616
@@ -48,14 +48,14 @@ status-short h s x = by (good (length s) (h .places)) refl (placeNamed (h .place
         standing-short (contents p s) (omega (arith, length-contents p s))
 
 module _ (h s : List ℕ) (x : Name) (r : ℕ) where
-  pub status-bad : (length h ≡ 128 → ⊥) → r ≡ badRecord → r ≡ statusSays h s x
+  pub status-bad : (length h ≡ recordLength → ⊥) → r ≡ badRecord → r ≡ statusSays h s x
   unfolding statusSays
-  status-bad d e = let t : eqb (length h) 128 ≡ false = ne-eqb (length h) 128 d in rw t e
+  status-bad d e = let t : eqb (length h) recordLength ≡ false = ne-eqb (length h) recordLength d in rw t e
 
-  pub status-says : (held : Record) (o : Standing) → length h ≡ 128 → held ≡ recordIn h → o ≡ statusOf held s x → r ≡ answerOf (standingTold o) → r ≡ statusSays h s x
+  pub status-says : (held : Record) (o : Standing) → length h ≡ recordLength → held ≡ recordIn h → o ≡ statusOf held s x → r ≡ answerOf (standingTold o) → r ≡ statusSays h s x
   unfolding statusSays
   status-says held o n e a d =
-      let t : eqb (length h) 128 ≡ true = eq-eqb (length h) 128 n in
+      let t : eqb (length h) recordLength ≡ true = eq-eqb (length h) recordLength n in
       rw t (d ∙ ap (λ (y : Standing). answerOf (standingTold y)) (a ∙ ap (λ (y : Record). statusOf y s x) e))
 
 pub standing-fits : (held : Record) (s : List ℕ) (x : Name) (o : Standing) → o ≡ statusOf held s x → answerOf (standingTold o) < 18446744073709551616

@@ -1,5 +1,5 @@
--- What each function of the C face answers and leaves: the call it stands for, and what that call tells (document 01, sections 5 and 6; document 02, R-7) as one number.
--- A record of another length than 128 bytes is refused 9. Assumes nothing.
+-- What each function of the C face answers and leaves: the call it stands for, and what that call tells (document 01, sections 5 and 6; document 02, R-7 and R-9) as one number.
+-- A record of another length than 144 bytes is refused 9. Assumes nothing.
 use mathlib.Core.Path.{_≡_}
 use mathlib.Core.Bool.{cond}
 use mathlib.Core.List.{List, [], _∷_, _++_}
@@ -24,7 +24,7 @@ use Rattle.record.specs.Told.{offeredTold}
 use Rattle.standing.specs.Status.{statusOf}
 use Rattle.standing.specs.Told.{standingTold}
 use Rattle.handing.specs.Hand.{handOutOf}
-use Rattle.face.specs.Layout.{recordIn, recordBytes}
+use Rattle.face.specs.Layout.{recordLength, recordIn, recordBytes}
 
 -- values as one: 0 for none, v for one; for two, as of a Status with an empty slot, n + 2^24 · (i + 1)
 abbrev pub valueIn : List ℕ → ℕ
@@ -71,7 +71,7 @@ encodeSays info out = putsIf (verdictTold (encodeOf info .verdict)) (encodeOf in
 unfoldable pub repairSays : List ℕ → List ℕ → Said
 repairSays row out = withValue (repairRowOf row .count) (putsIf (verdictTold (repairRowOf row .verdict)) (repairRowOf row .row) out)
 
--- ---- fields: 1 to 8, 26; the values that reading tells are put, nine numbers in the table's order
+-- ---- fields: 1 to 8, 26; the values that reading tells are put, nine numbers in the table's order and the edition
 
 abbrev pub readingSays : Reading → List ℕ → Said
 readingSays x out = putsIf (readingTold x) (readingTold x .values) out
@@ -102,7 +102,7 @@ badRecord = answerOf (refusedAs Refusal.Record)
 
 unfoldable pub openSays : List ℕ → List ℕ → Settings → ℕ → Kept
 openSays h s g count =
-    cond (eqb (length h) 128)
+    cond (eqb (length h) recordLength)
     (record {
       answer = answerOf (verdictTold (openOf (recordIn h) s g count .kept .verdict));
       held = recordBytes (openOf (recordIn h) s g count .kept .«record»);
@@ -112,7 +112,7 @@ openSays h s g count =
 
 unfoldable pub closeSays : List ℕ → List ℕ → Name → Kept
 closeSays h s x =
-    cond (eqb (length h) 128)
+    cond (eqb (length h) recordLength)
     (record {
       answer = answerOf (verdictTold (closeOf (recordIn h) s x .verdict));
       held = recordBytes (closeOf (recordIn h) s x .«record»);
@@ -123,17 +123,17 @@ closeSays h s x =
 -- the value is twice the bytes mended, and 1 more for Repeat
 unfoldable pub offerSays : List ℕ → List ℕ → List ℕ → Kept
 offerSays h s q =
-    cond (eqb (length h) 128)
+    cond (eqb (length h) recordLength)
     (record { answer = answerOf (offeredTold (offerOf (recordIn h) s q .answer)); held = h; store = offerOf (recordIn h) s q .store })
     (record { answer = badRecord; held = h; store = s })
 
 -- the value is filled + 2^24 · (lowest empty + 1), or filled alone where none is empty
 unfoldable pub statusSays : List ℕ → List ℕ → Name → ℕ
-statusSays h s x = cond (eqb (length h) 128) (answerOf (standingTold (statusOf (recordIn h) s x))) badRecord
+statusSays h s x = cond (eqb (length h) recordLength) (answerOf (standingTold (statusOf (recordIn h) s x))) badRecord
 
 unfoldable pub handSays : List ℕ → List ℕ → Name → ℕ → List ℕ → Said
 handSays h s x n out =
-    cond (eqb (length h) 128)
+    cond (eqb (length h) recordLength)
     (record {
       answer = answerOf (verdictTold (handOutOf (recordIn h) s x n out .answer));
       output = handOutOf (recordIn h) s x n out .output;

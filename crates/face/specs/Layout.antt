@@ -1,4 +1,4 @@
--- The record as 128 bytes: eight places of sixteen, each number little-endian, in the order resource, type, update, count, protection, rows, slot, start.
+-- The record as 144 bytes: eight places of eighteen, each number little-endian, in the order resource, type, update, count, protection, rows, slot, start, edition.
 -- Assumes nothing.
 use mathlib.Core.List.{List, [], _∷_, _++_}
 use Prim.Native.Nat.{ℕ, _+_, _*_, _/_, _%_}
@@ -6,6 +6,13 @@ use lib.ListN.{getD}
 use Rattle.ground.specs.Lists.{listed}
 use Rattle.places.specs.declared.Place.{Place}
 use Rattle.places.specs.declared.Record.{Record}
+
+-- the bytes of a place, and of the eight
+abbrev pub placeLength : ℕ
+placeLength = 18
+
+abbrev pub recordLength : ℕ
+recordLength = 8 * placeLength
 
 -- two and four bytes as a number, the least significant first
 abbrev pub two : List ℕ → ℕ → ℕ
@@ -24,11 +31,12 @@ placeIn b at = record {
   rows = getD b (at + 9) 0;
   slot = two b (at + 10);
   start = four b (at + 12);
+  edition = two b (at + 16);
 }
 
--- the record that 128 bytes hold
+-- the record that bytes hold
 unfoldable pub recordIn : List ℕ → Record
-recordIn b = record { places = listed (λ i. placeIn b (i * 16)) 8 0 }
+recordIn b = record { places = listed (λ i. placeIn b (i * placeLength)) 8 0 }
 
 -- a number as two and as four bytes
 abbrev pub asTwo : ℕ → List ℕ
@@ -40,7 +48,7 @@ asFour v = asTwo v ++ asTwo (v / 65536)
 unfoldable pub placeBytes : Place → List ℕ
 placeBytes p =
     asTwo (p .resource) ++ ((p .kind) ∷ (p .update) ∷ []) ++ asFour (p .count)
-    ++ ((p .protection) ∷ (p .rows) ∷ []) ++ asTwo (p .slot) ++ asFour (p .start)
+    ++ ((p .protection) ∷ (p .rows) ∷ []) ++ asTwo (p .slot) ++ asFour (p .start) ++ asTwo (p .edition)
 
 abbrev pub allBytes : List Place → List ℕ
 allBytes [] = []

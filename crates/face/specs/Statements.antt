@@ -9,7 +9,7 @@ use Rattle.code.specs.Code.{Bytes}
 use Rattle.settings.specs.declared.Settings.{Settings}
 use Rattle.places.specs.Places.{Name}
 use Rattle.opening.specs.Open.{openOf, closeOf}
-use Rattle.face.specs.Layout.{recordIn}
+use Rattle.face.specs.Layout.{recordLength, recordIn}
 use Rattle.face.specs.Face.{Said, Says, Kept, Keeps, encodeSays, repairSays, readSays, packSays, openSays, offerSays, handSays, closeSays}
 
 -- the number in an answer: 0 is accepted
@@ -37,5 +37,5 @@ pub record RefusalsChangeNothing : Type 0 where
 
 -- after open and close the bytes hold the record that the call on records answers: calls through the face follow one another as those do
 pub record RecordsFollow : Type 0 where
-  pub «open» : (h s : List ℕ) (g : Settings) (count : ℕ) → Bytes h → length h ≡ 128 → recordIn (openSays h s g count .held) ≡ openOf (recordIn h) s g count .kept .«record»
-  pub close : (h s : List ℕ) (x : Name) → Bytes h → length h ≡ 128 → recordIn (closeSays h s x .held) ≡ closeOf (recordIn h) s x .«record»
+  pub «open» : (h s : List ℕ) (g : Settings) (count : ℕ) → Bytes h → length h ≡ recordLength → recordIn (openSays h s g count .held) ≡ openOf (recordIn h) s g count .kept .«record»
+  pub close : (h s : List ℕ) (x : Name) → Bytes h → length h ≡ recordLength → recordIn (closeSays h s x .held) ≡ closeOf (recordIn h) s x .«record»

@@ -1,14 +1,18 @@
-// What the C face reads and writes of lent memory: the record as 128 bytes (specs/Layout.antt), bytes and fields put at the start of an output. Beside this code the
+// What the C face reads and writes of lent memory: the record as 144 bytes (specs/Layout.antt), bytes and fields put at the start of an output. Beside this code the
 // crate has what each function of the C face answers and leaves (specs/Face.antt), and the laws of it (proofs/).
 ghost use mathlib.Core.Path.{_≡_};
 ghost use Prim.Native.Nat.{_+_, _*_, _≤_};
 ghost use lib.ListN.{length};
 ghost use Rattle.packet.specs.Told.{fieldList};
 ghost use Rattle.face.specs.Face.{Says, puts};
-ghost use Rattle.face.specs.Layout.{two, four, placeIn, recordIn, placeBytes, recordBytes};
+ghost use Rattle.face.specs.Layout.{placeLength, recordLength, two, four, placeIn, recordIn, placeBytes, recordBytes};
 use packet::Packet;
 use places::Place;
 use places::Record;
+
+// The bytes of a place, and of a record's eight.
+const PLACE: usize = 18;
+pub const RECORD: usize = 144;
 
 // The number of a low and a high byte.
 fn joined(low: u8, high: u8) -> u16
@@ -33,9 +37,9 @@ fn four_in(bytes: &[u8], at: usize) -> u32
     two_in(bytes, at) as u32 + two_in(bytes, at + 2) as u32 * 65536
 }
 
-// The place in the sixteen bytes from `at` on.
+// The place in the bytes from `at` on.
 fn place_in(bytes: &[u8], at: usize) -> Place
-    requires { ⌜ at + 16 ≤ length (now bytes) ⌝ }
+    requires { ⌜ at + placeLength ≤ length (now bytes) ⌝ }
     ensures { λ r. ⌜ r ≡ placeIn (now (bytes .entry)) at ⌝ }
 {
     Place {
@@ -47,42 +51,43 @@ fn place_in(bytes: &[u8], at: usize) -> Place
         rows: bytes[at + 9],
         slot: two_in(bytes, at + 10),
         start: four_in(bytes, at + 12),
+        edition: two_in(bytes, at + 16),
     }
 }
 
-// The record in 128 bytes or more.
+// The record in its bytes, and others behind them.
 fn places_in(bytes: &[u8]) -> Record
-    requires { ⌜ 128 ≤ length (now bytes) ⌝ }
+    requires { ⌜ recordLength ≤ length (now bytes) ⌝ }
     ensures { λ r. ⌜ r ≡ recordIn (now (bytes .entry)) ⌝ }
 {
     Record {
         places: [
             place_in(bytes, 0),
-            place_in(bytes, 16),
-            place_in(bytes, 32),
-            place_in(bytes, 48),
-            place_in(bytes, 64),
-            place_in(bytes, 80),
-            place_in(bytes, 96),
-            place_in(bytes, 112),
+            place_in(bytes, 1 * PLACE),
+            place_in(bytes, 2 * PLACE),
+            place_in(bytes, 3 * PLACE),
+            place_in(bytes, 4 * PLACE),
+            place_in(bytes, 5 * PLACE),
+            place_in(bytes, 6 * PLACE),
+            place_in(bytes, 7 * PLACE),
         ],
     }
 }
 
-// The record in the first 128 bytes. Where there are fewer, zeros stand for those behind them.
+// The record in the first 144 bytes. Where there are fewer, zeros stand for those behind them.
 pub fn record_in(bytes: &[u8]) -> Record
     ensures { λ r. ⌜ r ≡ recordIn (now (bytes .entry)) ⌝ }
 {
-    if 128 <= bytes.len() {
+    if RECORD <= bytes.len() {
         return places_in(bytes);
     }
-    let mut whole = [0u8; 128];
+    let mut whole = [0u8; RECORD];
     words::copy_in(&mut whole, 0, bytes);
     places_in(&whole)
 }
 
-// The sixteen bytes of a place.
-fn place_bytes(p: Place) -> [u8; 16]
+// The bytes of a place.
+fn place_bytes(p: Place) -> [u8; PLACE]
     ensures { λ r. ⌜ r ≡ placeBytes p ⌝ }
 {
     [
@@ -102,19 +107,21 @@ fn place_bytes(p: Place) -> [u8; 16]
         (p.start / 256 % 256) as u8,
         (p.start / 65536 % 256) as u8,
         (p.start / 65536 / 256 % 256) as u8,
+        (p.edition % 256) as u8,
+        (p.edition / 256 % 256) as u8,
     ]
 }
 
-// The record's 128 bytes, place by place.
-pub fn record_bytes(held: Record) -> [u8; 128]
+// The record's bytes, place by place.
+pub fn record_bytes(held: Record) -> [u8; RECORD]
     ensures { λ r. ⌜ r ≡ recordBytes held ⌝ }
 {
-    let mut out = [0u8; 128];
+    let mut out = [0u8; RECORD];
     let mut i: usize = 0;
     while i < 8 {
         let p = held.places[i];
         let bytes = place_bytes(p);
-        words::copy_in(&mut out, i * 16, &bytes);
+        words::copy_in(&mut out, i * PLACE, &bytes);
         i += 1;
     }
     out
@@ -134,11 +141,11 @@ pub fn put(bytes: &[u8], out: &mut [u8]) -> u64
     0
 }
 
-// The nine fields in the header's order, at the start of `out`.
+// The nine fields in the header's order and the edition that they show, at the start of `out`.
 pub fn put_fields(f: Packet, out: &mut [u32]) -> u64
     ensures { λ r. ⌜ Says (puts (fieldList f) (now (out .entry))) r (now (out .exit)) ⌝ }
 {
-    if out.len() < 9 {
+    if out.len() < 10 {
         return NO_ROOM;
     }
     out[0] = f.resource as u32;
@@ -150,5 +157,6 @@ pub fn put_fields(f: Packet, out: &mut [u32]) -> u64
     out[6] = f.protection as u32;
     out[7] = f.rows as u32;
     out[8] = f.reserved as u32;
+    out[9] = packet::edition_of(f) as u32;
     0
 }

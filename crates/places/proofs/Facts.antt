@@ -57,6 +57,7 @@ pub record PlaceFacts (n : ℕ) (p : Place) : Type 0 where
   pub slot-most : p .slot ≤ 4077
   pub slot-rows : p .protection ≡ 1 → p .slot % 255 ≡ 0
   pub slot-row : p .protection ≡ 1 → 255 ≤ p .slot
+  pub edition-either : (p .edition ≡ 1) ⊎ (p .edition ≡ 2)
   pub ends : endOf p ≤ usable n
   pub ends-within : endOf p ≤ n
   pub ends-limit : endOf p ≤ 16777216
@@ -96,6 +97,7 @@ place-facts n p f u =
       slot-most = s .size .most;
       slot-rows = λ o. s .size .multiple (omega arith);
       slot-row = λ o. omega (arith, s .size .least, s .size .multiple (omega arith));
+      edition-either = one-or-two (p .edition) (s .edition) (s .edition-most);
       ends = z;
       ends-within = omega (arith, usable-within n);
       ends-limit = omega (arith, usable-limit n);

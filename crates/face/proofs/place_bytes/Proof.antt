@@ -1,4 +1,4 @@
--- The sixteen entries are those of the definition, and none is too large for a byte.
+-- The entries are those of the definition, and none is too large for a byte.
 use mathlib.Core.Path.{refl}
 use Rattle.face.specs.Layout.{placeBytes}
 use native.Mathlib.Omega.{arith}
@@ -41,6 +41,12 @@ cast-t31 c = omega arith
 cast-t35 : tie.Need-cast-t35
 cast-t35 c = omega arith
 
+cast-t37 : tie.Need-cast-t37
+cast-t37 c = omega arith
+
+cast-t40 : tie.Need-cast-t40
+cast-t40 c = omega arith
+
 returns : tie.Need-returns
 unfolding placeBytes
 returns c = refl
@@ -61,4 +67,6 @@ place-bytes-spec =
     cast-t28
     cast-t31
     cast-t35
+    cast-t37
+    cast-t40
     returns)

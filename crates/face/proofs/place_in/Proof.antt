@@ -49,9 +49,15 @@ add-four-in-2 c = omega arith
 four-in-requires-2 : tie.Need-four-in-requires-2
 four-in-requires-2 c κs = omega arith
 
+add-two-in-2 : tie.Need-add-two-in-2
+add-two-in-2 c = omega arith
+
+two-in-requires-3 : tie.Need-two-in-requires-3
+two-in-requires-3 c κs = omega arith
+
 returns : tie.Need-returns
 unfolding placeIn
-returns c = rw (c .before .before .before .before .before .before .before .two-in .ensures, c .before .before .before .before .four-in .ensures, c .before .two-in2 .ensures, c .four-in2 .ensures)
+returns c = rw (c .before .before .before .before .before .before .before .before .two-in .ensures, c .before .before .before .before .before .four-in .ensures, c .before .before .two-in2 .ensures, c .before .four-in2 .ensures, c .two-in3 .ensures)
 
 pub place-in-spec : {M : Type 1} → statement M
 place-in-spec =
@@ -72,4 +78,6 @@ place-in-spec =
     two-in-requires-2
     add-four-in-2
     four-in-requires-2
+    add-two-in-2
+    two-in-requires-3
     returns)

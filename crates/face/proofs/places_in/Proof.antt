@@ -1,4 +1,4 @@
--- The eight places stand sixteen bytes apart.
+-- The eight places stand one behind the other.
 use Rattle.face.specs.Layout.{recordIn}
 use native.Mathlib.Omega.{arith}
 use Rattle.face.proofs.places_in.Statement.{statement}
@@ -7,23 +7,44 @@ use Rattle.face.proofs.places_in.Tie as tie
 place-in-requires : tie.Need-place-in-requires
 place-in-requires c κs = omega arith
 
+mul-place-in : tie.Need-mul-place-in
+mul-place-in c = omega arith
+
 place-in-requires-2 : tie.Need-place-in-requires-2
 place-in-requires-2 c κs = omega arith
+
+mul-place-in-2 : tie.Need-mul-place-in-2
+mul-place-in-2 c = omega arith
 
 place-in-requires-3 : tie.Need-place-in-requires-3
 place-in-requires-3 c κs = omega arith
 
+mul-place-in-3 : tie.Need-mul-place-in-3
+mul-place-in-3 c = omega arith
+
 place-in-requires-4 : tie.Need-place-in-requires-4
 place-in-requires-4 c κs = omega arith
+
+mul-place-in-4 : tie.Need-mul-place-in-4
+mul-place-in-4 c = omega arith
 
 place-in-requires-5 : tie.Need-place-in-requires-5
 place-in-requires-5 c κs = omega arith
 
+mul-place-in-5 : tie.Need-mul-place-in-5
+mul-place-in-5 c = omega arith
+
 place-in-requires-6 : tie.Need-place-in-requires-6
 place-in-requires-6 c κs = omega arith
 
+mul-place-in-6 : tie.Need-mul-place-in-6
+mul-place-in-6 c = omega arith
+
 place-in-requires-7 : tie.Need-place-in-requires-7
 place-in-requires-7 c κs = omega arith
+
+mul-place-in-7 : tie.Need-mul-place-in-7
+mul-place-in-7 c = omega arith
 
 place-in-requires-8 : tie.Need-place-in-requires-8
 place-in-requires-8 c κs = omega arith
@@ -37,11 +58,18 @@ places-in-spec =
     tie.close
     (tie.spec
     place-in-requires
+    mul-place-in
     place-in-requires-2
+    mul-place-in-2
     place-in-requires-3
+    mul-place-in-3
     place-in-requires-4
+    mul-place-in-4
     place-in-requires-5
+    mul-place-in-5
     place-in-requires-6
+    mul-place-in-6
     place-in-requires-7
+    mul-place-in-7
     place-in-requires-8
     returns)

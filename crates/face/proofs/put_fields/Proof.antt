@@ -1,4 +1,4 @@
--- Where there is no room nothing is written and 26 is answered; else the nine numbers are written one behind the other.
+-- Where there is no room nothing is written and 26 is answered; else the ten numbers are written one behind the other.
 use mathlib.Core.Path.{refl}
 use native.Mathlib.Omega.{arith}
 use lib.ListN.{length-set}
@@ -57,11 +57,20 @@ cast-out-7 c = omega arith
 slice-write-out-9 : tie.Need-slice-write-out-9
 slice-write-out-9 c = simp length-set (omega arith)
 
+edition-of-requires : tie.Need-edition-of-requires
+edition-of-requires c κs = tt
+
+cast-out-8 : tie.Need-cast-out-8
+cast-out-8 c = omega arith
+
+slice-write-out-10 : tie.Need-slice-write-out-10
+slice-write-out-10 c = simp length-set (omega arith)
+
 same-length : tie.Need-same-length
 same-length c = simp length-set
 
 returns-2 : tie.Need-returns-2
-returns-2 c = puts-fits _ _ _ (c .before .before .before .before .before .before .before .if1 .left) refl
+returns-2 c = rw (c .edition-of .ensures) (puts-fits _ _ _ (c .before .before .before .before .before .before .before .before .if1 .left) refl)
 
 pub put-fields-spec : {M : Type 1} → statement M
 put-fields-spec =
@@ -84,5 +93,8 @@ put-fields-spec =
     slice-write-out-8
     cast-out-7
     slice-write-out-9
+    edition-of-requires
+    cast-out-8
+    slice-write-out-10
     same-length
     returns-2)

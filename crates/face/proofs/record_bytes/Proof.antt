@@ -6,7 +6,7 @@ use borrow.Author.Needs.{needs}
 use lib.ListN.{length}
 use Rattle.places.proofs.Steps.{mapped-length}
 use Rattle.code.proofs.Lists.{length-zeros}
-use Rattle.face.specs.Layout.{recordBytes}
+use Rattle.face.specs.Layout.{recordLength, recordBytes}
 use Rattle.face.proofs.RecordLaws.{Putting, put-begin, put-step, put-end}
 use Rattle.face.proofs.record_bytes.Statement.{statement}
 use Rattle.face.proofs.record_bytes.Tie as tie
@@ -21,7 +21,7 @@ eight : (c : tie.Start Inv-loop μ-loop) → length (c .args .t1 .places) ≡ 8
 eight c = search (needs, mapped-length)
 
 loop-holds : tie.Need-loop-holds Inv-loop μ-loop
-loop-holds c = put-begin _ (eight c) _ (length-zeros 128)
+loop-holds c = put-begin _ (eight c) _ (length-zeros recordLength)
 
 mul-p : tie.Need-mul-p Inv-loop μ-loop
 mul-p c = omega arith

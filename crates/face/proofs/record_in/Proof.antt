@@ -1,4 +1,4 @@
--- Bytes enough are read as they stand, fewer over 128 zeros.
+-- Bytes enough are read as they stand, fewer over zeros.
 use mathlib.Core.Path.{_∙_, ap}
 use native.Mathlib.Omega.{arith}
 use Rattle.face.specs.Layout.{recordIn}
