@@ -4,7 +4,7 @@ ghost use lib.ListN.{length};
 ghost use Rattle.refusals.specs.Told.{verdictTold};
 ghost use Rattle.crc.specs.Crc.{crc32Of};
 ghost use Rattle.settings.specs.Settings.{house};
-ghost use Rattle.face.specs.Layout.{recordBytes};
+ghost use Rattle.face.specs.Layout.{recordLength, recordBytes};
 ghost use Rattle.face.specs.Face.{answerOf, Says, Keeps, encodeSays, repairSays, readSays, packSays, openSays, offerSays, statusSays, handSays, closeSays};
 ghost use Rattle.listing.specs.Listing.{describeSays, composeSays};
 use attributes::Described;
@@ -12,7 +12,7 @@ use opening::Kept;
 use packet::Reading;
 use settings::Settings;
 
-// Record's number, for bytes lent as a record that are not 128.
+// Record's number, for bytes lent as a record that are not as many as it has.
 const NO_RECORD: u64 = 9;
 
 // Field's number, for a description that is not thirty numbers.
@@ -47,7 +47,7 @@ pub extern "C" fn bh_repair_row(row: &[u8], fixed: &mut [u8]) -> u64
     answers::with_value(answer, mended.count)
 }
 
-// The fields of a packet as nine numbers, at the start of `fields`.
+// The fields of a packet as nine numbers and its edition, at the start of `fields`.
 #[no_mangle]
 pub extern "C" fn bh_read_fields(packet: &[u8], fields: &mut [u32]) -> u64
     ensures { λ r. ⌜ Says (readSays (now (packet .entry)) (now (fields .entry))) r (now (fields .exit)) ⌝ }
@@ -58,7 +58,36 @@ pub extern "C" fn bh_read_fields(packet: &[u8], fields: &mut [u32]) -> u64
     }
 }
 
-// Packet `number` of a file, at the start of `out`. The value is its length.
+// Packet `number` of a file in an edition, at the start of `out`. The value is its length.
+#[no_mangle]
+pub extern "C" fn bh_pack_as(
+    file: &[u8],
+    resource: u16,
+    kind: u8,
+    update: u8,
+    protection: u8,
+    rows: u8,
+    size: u16,
+    edition: u16,
+    number: u32,
+    out: &mut [u8],
+) -> u64
+    ensures { λ r. ⌜ Says (packSays (now (file .entry)) (record { resource = resource; kind = kind; update = update; protection = protection; rows = rows; size = size; edition = edition }) number (now (out .entry))) r (now (out .exit)) ⌝ }
+{
+    let settings = Settings {
+        resource,
+        kind,
+        update,
+        protection,
+        rows,
+        size,
+        edition,
+    };
+    let packed = pack::pack(file, settings, number, out);
+    answers::packed_as(packed)
+}
+
+// The same in edition 2, which is meant where none is named.
 #[no_mangle]
 pub extern "C" fn bh_pack(
     file: &[u8],
@@ -71,18 +100,11 @@ pub extern "C" fn bh_pack(
     number: u32,
     out: &mut [u8],
 ) -> u64
-    ensures { λ r. ⌜ Says (packSays (now (file .entry)) (record { resource = resource; kind = kind; update = update; protection = protection; rows = rows; size = size }) number (now (out .entry))) r (now (out .exit)) ⌝ }
+    ensures { λ r. ⌜ Says (packSays (now (file .entry)) (record { resource = resource; kind = kind; update = update; protection = protection; rows = rows; size = size; edition = 2 }) number (now (out .entry))) r (now (out .exit)) ⌝ }
 {
-    let settings = Settings {
-        resource,
-        kind,
-        update,
-        protection,
-        rows,
-        size,
-    };
-    let packed = pack::pack(file, settings, number, out);
-    answers::packed_as(packed)
+    bh_pack_as(
+        file, resource, kind, update, protection, rows, size, 2, number, out,
+    )
 }
 
 // The same under the house setting.
@@ -103,7 +125,7 @@ pub extern "C" fn bh_pack_house(
 
 // Puts the record that a call answers back into its bytes. Its verdict is the answer.
 fn put_kept(held: &mut [u8], kept: Kept) -> u64
-    requires { ⌜ length (now held) ≡ 128 ⌝ }
+    requires { ⌜ length (now held) ≡ recordLength ⌝ }
     ensures { λ r. ⌜ (r ≡ answerOf (verdictTold (kept .verdict))) × (now (held .exit) ≡ recordBytes (kept .«record»)) ⌝ }
 {
     let next = kept.record;
@@ -112,7 +134,39 @@ fn put_kept(held: &mut [u8], kept: Kept) -> u64
     answers::verdict_of(verdict)
 }
 
-// Opens a place of the record: its 128 bytes and the slots' lengths in the store change, or nothing does.
+// Opens a place of the record in an edition: the record's bytes and the slots' lengths in the store change, or nothing does.
+#[no_mangle]
+pub extern "C" fn bh_open_as(
+    held: &mut [u8],
+    store: &mut [u8],
+    resource: u16,
+    kind: u8,
+    update: u8,
+    count: u32,
+    protection: u8,
+    rows: u8,
+    slot: u16,
+    edition: u16,
+) -> u64
+    ensures { λ r. ⌜ Keeps (openSays (now (held .entry)) (now (store .entry)) (record { resource = resource; kind = kind; update = update; protection = protection; rows = rows; size = slot; edition = edition }) count) r (now (held .exit)) (now (store .exit)) ⌝ }
+{
+    if held.len() != face::RECORD {
+        return NO_RECORD;
+    }
+    let settings = Settings {
+        resource,
+        kind,
+        update,
+        protection,
+        rows,
+        size: slot,
+        edition,
+    };
+    let kept = opening::open(face::record_in(held), store, settings, count);
+    put_kept(held, kept)
+}
+
+// The same in edition 2, which is meant where none is named.
 #[no_mangle]
 pub extern "C" fn bh_open(
     held: &mut [u8],
@@ -125,21 +179,11 @@ pub extern "C" fn bh_open(
     rows: u8,
     slot: u16,
 ) -> u64
-    ensures { λ r. ⌜ Keeps (openSays (now (held .entry)) (now (store .entry)) (record { resource = resource; kind = kind; update = update; protection = protection; rows = rows; size = slot }) count) r (now (held .exit)) (now (store .exit)) ⌝ }
+    ensures { λ r. ⌜ Keeps (openSays (now (held .entry)) (now (store .entry)) (record { resource = resource; kind = kind; update = update; protection = protection; rows = rows; size = slot; edition = 2 }) count) r (now (held .exit)) (now (store .exit)) ⌝ }
 {
-    if held.len() != 128 {
-        return NO_RECORD;
-    }
-    let settings = Settings {
-        resource,
-        kind,
-        update,
-        protection,
-        rows,
-        size: slot,
-    };
-    let kept = opening::open(face::record_in(held), store, settings, count);
-    put_kept(held, kept)
+    bh_open_as(
+        held, store, resource, kind, update, count, protection, rows, slot, 2,
+    )
 }
 
 // The same under the house setting.
@@ -154,7 +198,7 @@ pub extern "C" fn bh_open_house(
 ) -> u64
     ensures { λ r. ⌜ Keeps (openSays (now (held .entry)) (now (store .entry)) (house resource kind update) count) r (now (held .exit)) (now (store .exit)) ⌝ }
 {
-    if held.len() != 128 {
+    if held.len() != face::RECORD {
         return NO_RECORD;
     }
     let before = face::record_in(held);
@@ -162,12 +206,12 @@ pub extern "C" fn bh_open_house(
     put_kept(held, kept)
 }
 
-// Offers a packet to the record, which is only read. The value is 0 for stored, 1 for a repeat.
+// Offers a packet to the record, which is only read. The value is twice the bytes mended, and 1 more for a repeat.
 #[no_mangle]
 pub extern "C" fn bh_offer(held: &[u8], store: &mut [u8], packet: &[u8]) -> u64
     ensures { λ r. ⌜ Keeps (offerSays (now (held .entry)) (now (store .entry)) (now (packet .entry))) r (now (held .entry)) (now (store .exit)) ⌝ }
 {
-    if held.len() != 128 {
+    if held.len() != face::RECORD {
         return NO_RECORD;
     }
     let offered = record::offer(face::record_in(held), store, packet);
@@ -179,7 +223,7 @@ pub extern "C" fn bh_offer(held: &[u8], store: &mut [u8], packet: &[u8]) -> u64
 pub extern "C" fn bh_status(held: &[u8], store: &[u8], resource: u16, kind: u8) -> u64
     ensures { λ r. ⌜ r ≡ statusSays (now (held .entry)) (now (store .entry)) (record { resource = resource; kind = kind }) ⌝ }
 {
-    if held.len() != 128 {
+    if held.len() != face::RECORD {
         return NO_RECORD;
     }
     let standing = standing::status(face::record_in(held), store, resource, kind);
@@ -198,7 +242,7 @@ pub extern "C" fn bh_hand_out(
 ) -> u64
     ensures { λ r. ⌜ Says (handSays (now (held .entry)) (now (store .entry)) (record { resource = resource; kind = kind }) length (now (out .entry))) r (now (out .exit)) ⌝ }
 {
-    if held.len() != 128 {
+    if held.len() != face::RECORD {
         return NO_RECORD;
     }
     let before = face::record_in(held);
@@ -211,7 +255,7 @@ pub extern "C" fn bh_hand_out(
 pub extern "C" fn bh_close(held: &mut [u8], store: &[u8], resource: u16, kind: u8) -> u64
     ensures { λ r. ⌜ Keeps (closeSays (now (held .entry)) (now (store .entry)) (record { resource = resource; kind = kind })) r (now (held .exit)) (now (store .entry)) ⌝ }
 {
-    if held.len() != 128 {
+    if held.len() != face::RECORD {
         return NO_RECORD;
     }
     let kept = opening::close(face::record_in(held), store, resource, kind);

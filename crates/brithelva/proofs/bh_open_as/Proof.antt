@@ -2,8 +2,8 @@
 use mathlib.Core.Path.{refl}
 use native.Mathlib.Omega.{arith}
 use Rattle.face.proofs.HoldLaws.{open-bad, open-says}
-use Rattle.brithelva.proofs.bh_open.Statement.{statement}
-use Rattle.brithelva.proofs.bh_open.Tie as tie
+use Rattle.brithelva.proofs.bh_open_as.Statement.{statement}
+use Rattle.brithelva.proofs.bh_open_as.Tie as tie
 
 returns : tie.Need-returns
 returns c = open-bad _ _ _ _ _ (c .if1 .taken) refl
@@ -28,8 +28,8 @@ returns-2 c =
     open-says _ _ _ _ _ _ _ _ _ (c .before .before .before .before .before .before .before .before .before .before .if1 .left) (c .before .before .before .before .before .before .before .before .record-in .ensures) (c .before .before .before .before .before .before .«open» .ensures)
     (c .before .before .put-kept .ensures .1) (c .before .before .put-kept .ensures .0)
 
-pub bh-open-spec : {M : Type 1} → statement M
-bh-open-spec =
+pub bh-open-as-spec : {M : Type 1} → statement M
+bh-open-as-spec =
     tie.close
     (tie.spec
     returns

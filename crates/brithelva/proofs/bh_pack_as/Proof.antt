@@ -3,8 +3,8 @@ use Rattle.face.proofs.PackLaws.{packed-fits, pack-says}
 use Rattle.answers.proofs.Words.{fits-word}
 use mathlib.Core.Path.{sym, _∙_}
 use native.Mathlib.Omega.{arith}
-use Rattle.brithelva.proofs.bh_pack.Statement.{statement}
-use Rattle.brithelva.proofs.bh_pack.Tie as tie
+use Rattle.brithelva.proofs.bh_pack_as.Statement.{statement}
+use Rattle.brithelva.proofs.bh_pack_as.Tie as tie
 
 pack-requires : tie.Need-pack-requires
 pack-requires c κs = tt
@@ -18,5 +18,5 @@ same-length c = omega arith
 returns : tie.Need-returns
 returns c = pack-says _ _ _ _ _ _ (c .before .before .before .pack .ensures) _ (c .packed-as .ensures ∙ sym (fits-word (packed-fits _ _ _ _ _ _ (c .before .before .before .pack .ensures))))
 
-pub bh-pack-spec : {M : Type 1} → statement M
-bh-pack-spec = tie.close (tie.spec pack-requires packed-as-requires same-length returns)
+pub bh-pack-as-spec : {M : Type 1} → statement M
+bh-pack-as-spec = tie.close (tie.spec pack-requires packed-as-requires same-length returns)
