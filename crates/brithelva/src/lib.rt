@@ -103,7 +103,16 @@ pub extern "C" fn bh_pack(
     ensures { λ r. ⌜ Says (packSays (now (file .entry)) (record { resource = resource; kind = kind; update = update; protection = protection; rows = rows; size = size; edition = 2 }) number (now (out .entry))) r (now (out .exit)) ⌝ }
 {
     bh_pack_as(
-        file, resource, kind, update, protection, rows, size, 2, number, out,
+        file,
+        resource,
+        kind,
+        update,
+        protection,
+        rows,
+        size,
+        2,
+        number,
+        out,
     )
 }
 
@@ -182,7 +191,16 @@ pub extern "C" fn bh_open(
     ensures { λ r. ⌜ Keeps (openSays (now (held .entry)) (now (store .entry)) (record { resource = resource; kind = kind; update = update; protection = protection; rows = rows; size = slot; edition = 2 }) count) r (now (held .exit)) (now (store .exit)) ⌝ }
 {
     bh_open_as(
-        held, store, resource, kind, update, count, protection, rows, slot, 2,
+        held,
+        store,
+        resource,
+        kind,
+        update,
+        count,
+        protection,
+        rows,
+        slot,
+        2,
     )
 }
 

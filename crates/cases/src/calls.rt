@@ -82,7 +82,23 @@ fn compose(line: &[u8], file: &[u8], bytes: &[u8], out: &mut [u8]) -> u64 {
     brithelva::bh_write_description(&values[0..count], bytes, out)
 }
 
-// Packet number word 1 of the file.
+// Packet number word 1 of the file, in the edition at hand.
+fn pack_as(line: &[u8], file: &[u8], s: Settings, out: &mut [u8]) -> u64 {
+    brithelva::bh_pack_as(
+        file,
+        s.resource,
+        s.kind,
+        s.update,
+        s.protection,
+        s.rows,
+        s.size,
+        s.edition,
+        words::number32(line, 1),
+        out,
+    )
+}
+
+// The same by the call that names no edition.
 fn pack(line: &[u8], file: &[u8], s: Settings, out: &mut [u8]) -> u64 {
     brithelva::bh_pack(
         file,
@@ -116,7 +132,7 @@ fn call_plain(
         return brithelva::bh_repair_row(bytes, out);
     }
     if command == commands::READ {
-        let mut fields = [0u32; 9];
+        let mut fields = [0u32; 10];
         return read(line, bytes, &mut fields, out);
     }
     if command == commands::DESCRIBE {
@@ -128,11 +144,30 @@ fn call_plain(
     if command == commands::PACK {
         return pack(line, file, s, out);
     }
+    if command == commands::PACK_AS {
+        return pack_as(line, file, s, out);
+    }
     let n = words::number32(line, 1);
     brithelva::bh_pack_house(file, s.resource, s.kind, s.update, n, out)
 }
 
-// Opens with the count in word 1.
+// Opens with the count in word 1, in the edition at hand.
+fn open_as(line: &[u8], held: &mut [u8], store: &mut [u8], s: Settings) -> u64 {
+    brithelva::bh_open_as(
+        held,
+        store,
+        s.resource,
+        s.kind,
+        s.update,
+        words::number32(line, 1),
+        s.protection,
+        s.rows,
+        s.size,
+        s.edition,
+    )
+}
+
+// The same by the call that names no edition.
 fn open(line: &[u8], held: &mut [u8], store: &mut [u8], s: Settings) -> u64 {
     brithelva::bh_open(
         held,
@@ -159,6 +194,9 @@ fn call_record(
 ) -> u64 {
     if command == commands::OPEN {
         return open(line, held, store, s);
+    }
+    if command == commands::OPEN_AS {
+        return open_as(line, held, store, s);
     }
     if command == commands::OPEN_HOUSE {
         let count = words::number32(line, 1);

@@ -24,7 +24,7 @@ struct State {
     tally: Tally,
 }
 
-// What is at hand at the start: nothing.
+// What is at hand at the start: nothing, and edition 2.
 fn start() -> State {
     State {
         lengths: Lengths {
@@ -41,6 +41,7 @@ fn start() -> State {
             protection: 0,
             rows: 0,
             size: 0,
+            edition: 2,
         },
         answer: Answer {
             number: 0,

@@ -75,12 +75,13 @@ pub(crate) fn set_store(command: u8, line: &[u8], store: &mut [u8], length: usiz
     length
 }
 
-// The sixteen bytes of a place.
-fn place(line: &[u8]) -> [u8; 16] {
+// The eighteen bytes of a place.
+fn place(line: &[u8]) -> [u8; 18] {
     let count = memory::four(words::number32(line, 5));
     let start = memory::four(words::number32(line, 9));
     let resource = words::number16(line, 2);
     let slot = words::number16(line, 8);
+    let edition = words::number16(line, 10);
     [
         (resource % 256) as u8,
         (resource / 256) as u8,
@@ -98,6 +99,8 @@ fn place(line: &[u8]) -> [u8; 16] {
         start[2],
         start[1],
         start[0],
+        (edition % 256) as u8,
+        (edition / 256) as u8,
     ]
 }
 
@@ -111,7 +114,7 @@ pub(crate) fn set_held(command: u8, line: &[u8], held: &mut [u8], length: usize)
         let end = memory::fit(length, held);
         let i = words::number(line, 1);
         if i < 8 {
-            let at = i as usize * 16;
+            let at = i as usize * 18;
             if at < end {
                 memory::copy(&place(line), &mut held[at..end]);
             }
@@ -241,7 +244,13 @@ pub(crate) fn set_settings(command: u8, line: &[u8], settings: Settings) -> Sett
             protection: words::number8(line, 4),
             rows: words::number8(line, 5),
             size: words::number16(line, 6),
+            edition: settings.edition,
         };
+    }
+    if command == commands::EDITION {
+        let mut next = settings;
+        next.edition = words::number16(line, 1);
+        return next;
     }
     settings
 }

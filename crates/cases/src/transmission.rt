@@ -47,7 +47,7 @@ fn take_turn(
     seed: u32,
 ) -> u64 {
     let mut room = [0u8; 4095];
-    let packed = brithelva::bh_pack(
+    let packed = brithelva::bh_pack_as(
         file,
         s.resource,
         s.kind,
@@ -55,6 +55,7 @@ fn take_turn(
         s.protection,
         s.rows,
         s.size,
+        s.edition,
         number,
         &mut room,
     );

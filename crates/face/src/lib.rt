@@ -12,6 +12,7 @@ use places::Record;
 
 // The bytes of a place, and of a record's eight.
 const PLACE: usize = 18;
+
 pub const RECORD: usize = 144;
 
 // The number of a low and a high byte.

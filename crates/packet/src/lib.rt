@@ -6,6 +6,7 @@ ghost use Rattle.packet.specs.Packet.{fieldsIn, marked, badProtection, b
 use refusals::Refusal;
 
 mod edition;
+
 pub use edition::edition_of;
 pub use edition::spare_of;
 

@@ -31,11 +31,17 @@ bh-repair-row-one κs a r s d e p q = (equation (p .answers) (q .answers), after
 pub bh-read-fields-one : OneResult brithelva.bh_read_fields.ended brithelva.bh_read_fields.Reads.Learnt
 bh-read-fields-one κs a r s d e p q = (equation (p .answers) (q .answers), after 1 (lent (equation (p .leaves) (q .leaves)) refl))
 
+pub bh-pack-as-one : OneResult brithelva.bh_pack_as.ended brithelva.bh_pack_as.Reads.Learnt
+bh-pack-as-one κs a r s d e p q = (equation (p .answers) (q .answers), after 9 (lent (equation (p .leaves) (q .leaves)) refl))
+
 pub bh-pack-one : OneResult brithelva.bh_pack.ended brithelva.bh_pack.Reads.Learnt
 bh-pack-one κs a r s d e p q = (equation (p .answers) (q .answers), after 8 (lent (equation (p .leaves) (q .leaves)) refl))
 
 pub bh-pack-house-one : OneResult brithelva.bh_pack_house.ended brithelva.bh_pack_house.Reads.Learnt
 bh-pack-house-one κs a r s d e p q = (equation (p .answers) (q .answers), after 5 (lent (equation (p .leaves) (q .leaves)) refl))
+
+pub bh-open-as-one : OneResult brithelva.bh_open_as.ended brithelva.bh_open_as.Reads.Learnt
+bh-open-as-one κs a r s d e p q = (equation (p .answers) (q .answers), lent (equation (p .holds) (q .holds)) (lent (equation (p .leaves) (q .leaves)) refl))
 
 pub bh-open-one : OneResult brithelva.bh_open.ended brithelva.bh_open.Reads.Learnt
 bh-open-one κs a r s d e p q = (equation (p .answers) (q .answers), lent (equation (p .holds) (q .holds)) (lent (equation (p .leaves) (q .leaves)) refl))

@@ -10,3 +10,9 @@ read-fields-one κs a r s d e p q = (equation p q, refl)
 
 pub header-one : OneResult packet.header.ended packet.header.Reads.Learnt
 header-one κs a r s d e p q = (equation p q, refl)
+
+pub spare-of-one : OneResult packet.spare_of.ended packet.spare_of.Reads.Learnt
+spare-of-one κs a r s d e p q = (equation p q, refl)
+
+pub edition-of-one : OneResult packet.edition_of.ended packet.edition_of.Reads.Learnt
+edition-of-one κs a r s d e p q = (equation p q, refl)

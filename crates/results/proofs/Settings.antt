@@ -14,5 +14,8 @@ settings-fit-one κs a r s d e p q = (equation p q, refl)
 pub rows-held-one : OneResult settings.rows_held.ended settings.rows_held.Reads.Learnt
 rows-held-one κs a r s d e p q = (equation p q, refl)
 
+pub rows-sent-one : OneResult settings.rows_sent.ended settings.rows_sent.Reads.Learnt
+rows-sent-one κs a r s d e p q = (equation p q, refl)
+
 pub house-one : OneResult settings.house.ended settings.house.Reads.Learnt
 house-one κs a r s d e p q = (equation p q, refl)
