@@ -3,7 +3,7 @@ ghost use mathlib.Core.Path.{_≡_};
 ghost use lib.ListN.{length};
 ghost use Rattle.refusals.specs.Told.{verdictTold};
 ghost use Rattle.crc.specs.Crc.{crc32Of};
-ghost use Rattle.settings.specs.Settings.{house};
+ghost use Rattle.settings.specs.Settings.{meantEdition, house};
 ghost use Rattle.face.specs.Layout.{recordLength, recordBytes};
 ghost use Rattle.face.specs.Face.{answerOf, Says, Keeps, encodeSays, repairSays, readSays, packSays, openSays, offerSays, statusSays, handSays, closeSays};
 ghost use Rattle.listing.specs.Listing.{describeSays, composeSays};
@@ -87,7 +87,7 @@ pub extern "C" fn bh_pack_as(
     answers::packed_as(packed)
 }
 
-// The same in edition 2, which is meant where none is named.
+// The same in the edition that is meant where none is named.
 #[no_mangle]
 pub extern "C" fn bh_pack(
     file: &[u8],
@@ -100,7 +100,7 @@ pub extern "C" fn bh_pack(
     number: u32,
     out: &mut [u8],
 ) -> u64
-    ensures { λ r. ⌜ Says (packSays (now (file .entry)) (record { resource = resource; kind = kind; update = update; protection = protection; rows = rows; size = size; edition = 2 }) number (now (out .entry))) r (now (out .exit)) ⌝ }
+    ensures { λ r. ⌜ Says (packSays (now (file .entry)) (record { resource = resource; kind = kind; update = update; protection = protection; rows = rows; size = size; edition = meantEdition }) number (now (out .entry))) r (now (out .exit)) ⌝ }
 {
     bh_pack_as(
         file,
@@ -110,7 +110,7 @@ pub extern "C" fn bh_pack(
         protection,
         rows,
         size,
-        2,
+        Settings::EDITION,
         number,
         out,
     )
@@ -175,7 +175,7 @@ pub extern "C" fn bh_open_as(
     put_kept(held, kept)
 }
 
-// The same in edition 2, which is meant where none is named.
+// The same in the edition that is meant where none is named.
 #[no_mangle]
 pub extern "C" fn bh_open(
     held: &mut [u8],
@@ -188,7 +188,7 @@ pub extern "C" fn bh_open(
     rows: u8,
     slot: u16,
 ) -> u64
-    ensures { λ r. ⌜ Keeps (openSays (now (held .entry)) (now (store .entry)) (record { resource = resource; kind = kind; update = update; protection = protection; rows = rows; size = slot; edition = 2 }) count) r (now (held .exit)) (now (store .exit)) ⌝ }
+    ensures { λ r. ⌜ Keeps (openSays (now (held .entry)) (now (store .entry)) (record { resource = resource; kind = kind; update = update; protection = protection; rows = rows; size = slot; edition = meantEdition }) count) r (now (held .exit)) (now (store .exit)) ⌝ }
 {
     bh_open_as(
         held,
@@ -200,7 +200,7 @@ pub extern "C" fn bh_open(
         protection,
         rows,
         slot,
-        2,
+        Settings::EDITION,
     )
 }
 

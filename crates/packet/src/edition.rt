@@ -4,6 +4,9 @@ ghost use Rattle.packet.specs.Edition.{spareOf, isOf, editionOf};
 use super::Packet;
 use super::Spare;
 
+// What is told of a packet that is of neither edition.
+const NEITHER: u16 = 0;
+
 // What an edition writes: all ones in edition 1, all zeros in edition 2. Of a number that is no edition, zeros.
 pub fn spare_of(edition: u16) -> Spare
     ensures { λ r. ⌜ r ≡ spareOf edition ⌝ }
@@ -41,5 +44,5 @@ pub fn edition_of(fields: Packet) -> u16
     if is_of(2, fields) {
         return 2;
     }
-    0
+    NEITHER
 }

@@ -26,6 +26,10 @@ rowsHeld g = cond (eqb (g .protection) 0) 0 (g .rows)
 abbrev pub rowsSent : Settings → ℕ
 rowsSent g = cond (eqb (g .protection) 0) (spareOf (g .edition) .rows) (g .rows)
 
--- the house setting: protection 1, M = 32, P and S = 255, edition 2
+-- the edition that is meant where none is named
+abbrev pub meantEdition : ℕ
+meantEdition = 2
+
+-- the house setting: protection 1, M = 32, P and S = 255, and that edition
 abbrev pub house : ℕ → ℕ → ℕ → Settings
-house resource kind update = record { resource = resource; kind = kind; update = update; protection = 1; rows = 32; size = 255; edition = 2 }
+house resource kind update = record { resource = resource; kind = kind; update = update; protection = 1; rows = 32; size = 255; edition = meantEdition }

@@ -15,6 +15,11 @@ pub struct Settings {
     pub edition: u16,
 }
 
+impl Settings {
+    // The edition that is meant where none is named.
+    pub const EDITION: u16 = 2;
+}
+
 // Whether payloads and slots may have this size. A protection other than 0 asks for whole rows.
 pub fn size_fits(protection: u8, size: u16) -> bool
     ensures { λ r. ⌜ r ≡ sizeFits protection size ⌝ }
@@ -65,10 +70,10 @@ pub fn rows_held(settings: Settings) -> u8
 pub fn rows_sent(settings: Settings) -> u8
     ensures { λ r. ⌜ r ≡ rowsSent settings ⌝ }
 {
-    if settings.protection == 0 {
-        return packet::spare_of(settings.edition).rows;
+    if settings.protection != 0 {
+        return settings.rows;
     }
-    settings.rows
+    packet::spare_of(settings.edition).rows
 }
 
 // The house setting, for a packing or an opening call that names none.
@@ -82,6 +87,6 @@ pub fn house(resource: u16, kind: u8, update: u8) -> Settings
         protection: 1,
         rows: 32,
         size: 255,
-        edition: 2,
+        edition: Settings::EDITION,
     }
 }
