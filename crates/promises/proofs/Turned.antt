@@ -65,7 +65,7 @@ carried = some-carry one byte protected
 abbrev pub room : List ℕ
 room = replicate 257 0
 
-taking-one : Taking freshRecord (length room) one 1 0 0
+pub taking-one : Taking freshRecord (length room) one 1 0 0
 taking-one = takes one byte protected room (omega arith) (omega arith)
 
 -- its place, just opened
@@ -75,7 +75,7 @@ opened = step (opening one 1) (fresh room) .state
 pub begun : Collecting one byte protected 0 0 opened
 begun = opened-collecting one byte protected (fresh room) 0 0 taking-one
 
-held : Held opened (settingsName one) 0
+pub held : Held opened (settingsName one) 0
 held = found-held opened (settingsName one) 0 (begun .sound) (begun .named)
 
 empty : contents (placeAt opened 0) (opened .store) ≡ holding [] ∷ []

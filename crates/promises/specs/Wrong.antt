@@ -1,7 +1,7 @@
--- Programs that are turned away: document 01, section 7; document 02, R-7. Each is of the calls' own type, and does all else as `step` does; proofs/Turned.antt and FirstRow.antt show which
+-- Programs that are turned away: document 01, section 7; document 02, R-7 and R-9. Each is of the calls' own type, and does all else as `step` does; proofs/Turned.antt, FirstRow.antt and Editions.antt show which
 -- promise each breaks. Assumes nothing.
 use mathlib.Core.Bool.{cond}
-use mathlib.Core.List.{List, [], _∷_}
+use mathlib.Core.List.{List, [], _∷_, map}
 use Prim.Native.Nat.{ℕ, _%_}
 use lib.Dec.{eqb}
 use lib.ListN.{getD, take, drop}
@@ -9,8 +9,13 @@ use Rattle.refusals.specs.declared.Refusal.the-variants.{Unknown, Field}
 use Rattle.refusals.specs.Told.{acceptedWith, refusedAs}
 use Rattle.code.specs.Repair.{repairOf}
 use Rattle.code.specs.Mend.{Mended, whole, behind}
+use Rattle.packet.specs.Packet.{fieldsIn}
+use Rattle.packet.specs.Edition.{editionOf}
+use Rattle.places.specs.declared.Place.{Place}
+use Rattle.places.specs.declared.Record.{Record}
+use Rattle.places.specs.Places.{inUse}
 use Rattle.record.specs.Mend.{payloadIn}
-use Rattle.record.specs.Offer.{offerBy}
+use Rattle.record.specs.Offer.{offerBy, offerOf}
 use Rattle.record.specs.Told.{offeredTold}
 use Rattle.promises.specs.Calls.{Answer, telling, State, Outcome, Program, step}
 use Rattle.promises.specs.Calls.Call.{packing, opening, offering, asking, handing, closing}
@@ -47,6 +52,33 @@ hushed a = cond (eqb (a .told .number) 0) (telling (acceptedWith ((getD (a .told
 
 unfoldable pub silent : Program
 silent = offeringBy (λ q x. record { answer = hushed (step (offering q) x .answer); state = step (offering q) x .state })
+
+-- it takes either edition: to an offered packet every place in use is as if it were of the packet's
+abbrev pub asIn : ℕ → Place → Place
+asIn edition p =
+    cond (inUse p)
+    (record {
+      resource = p .resource;
+      kind = p .kind;
+      update = p .update;
+      count = p .count;
+      protection = p .protection;
+      rows = p .rows;
+      slot = p .slot;
+      start = p .start;
+      edition = edition;
+    })
+    p
+
+abbrev pub allIn : ℕ → Record → Record
+allIn edition h = record { places = map (asIn edition) (h .places) }
+
+unfoldable pub takingEither : Program
+takingEither =
+    offeringBy (λ q x. record {
+      answer = telling (offeredTold (offerOf (allIn (editionOf (fieldsIn q)) (x .held)) (x .store) q .answer));
+      state = record { held = x .held; store = offerOf (allIn (editionOf (fieldsIn q)) (x .held)) (x .store) q .store };
+    })
 
 -- its Status refuses where it should, and invents a number for every place that is open
 abbrev pub invented : Answer → Answer
