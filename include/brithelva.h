@@ -13,6 +13,13 @@
  * numbered and counted each by itself. So a place belongs to a resource and a type together, and no two places in use have both alike:
  * a file and its description are collected side by side, in two places, and each is asked for, handed out and closed by itself. A call
  * that names a place takes the type behind the resource, as bh_pack and bh_open do.
+ *
+ * Editions. Two texts differ in what a sender writes where nothing is said: GY/T 268.2 (edition 1) sets the four reserved bits of a packet's
+ * header to one, and M to 255 where a file is not protected; the data broadcasting text (edition 2) sets all of these to zero. Under
+ * protection M is the number of rows in either. A place is opened in one edition, takes packets of that edition alone, and refuses the
+ * others by 33, before it looks at a CRC; a packet that has neither way is taken by no place. A call that names no edition means 2. Of a
+ * station whose edition is not known, give a packet to bh_read_fields, whose tenth number tells it, and open by bh_open_as in that edition.
+ * The reading confirms no CRC, so one packet may be noise: take the edition of several, or of one that is sound.
  */
 #ifndef BRITHELVA_H
 #define BRITHELVA_H
@@ -33,8 +40,10 @@ enum bh_limit {
     BH_ROW = 255,             /* bytes of a row: 239 information bytes, then 16 checks */
     BH_ROW_INFO = 239,
     BH_ROW_CHECKS = 16,
-    BH_RECORD = 128,          /* bytes of a record; all 0 is a fresh one */
     BH_PLACES = 8,
+    BH_PLACE = 18,            /* bytes of a place */
+    BH_RECORD = 144,          /* bytes of a record, its eight places; all 0 is a fresh one */
+    BH_FIELDS = 10,           /* numbers of bh_read_fields */
     BH_LARGEST_FILE = 16777216,
     BH_USABLE_STORE = 16777216, /* only so many bytes of a longer store are used */
     BH_LARGEST_COUNT = 1048575,
@@ -53,16 +62,16 @@ enum bh_refusal {
     BH_NUMBER = 6,      /* packet number not below the count, or a count that the type does not have */
     BH_ROWS = 7,        /* protection 1, and the payload is not whole rows */
     BH_RESOURCE = 8,    /* resource 0 */
-    BH_RECORD_BAD = 9,  /* the record is not 128 bytes, or one of its places is out of range, passes the store, meets another, or has
-                         * resource and type of another */
+    BH_RECORD_BAD = 9,  /* the record is not 144 bytes, or one of its places is out of range (its edition too), passes the store, meets
+                         * another, or has resource and type of another */
     BH_UNKNOWN = 10,    /* no place has this resource and this type; so for every type but 1 and 2, a packet of a stream (type 0) too */
-    BH_OTHER = 11,      /* update, count, protection or M differs from the place of this resource and type */
+    BH_OTHER = 11,      /* update, count, protection, or M under protection, differs from the place of this resource and type */
     BH_WIDE = 12,       /* the payload is longer than the place's slots */
     BH_REPAIR = 13,     /* a row has no coded row within eight bytes; value: the first such row, 0 for a row alone */
     BH_CRC_BAD = 14,    /* the CRC differs */
     BH_SLOT = 15,       /* the store is damaged: a slot's length is out of range */
     BH_CONFLICT = 16,   /* the slot holds a different payload, which stays */
-    BH_FIELD = 17,      /* an argument is out of its range */
+    BH_FIELD = 17,      /* an argument is out of its range; an edition other than 1 or 2 too */
     BH_HELD = 18,       /* the resource is open already under this type */
     BH_FULL = 19,       /* all eight places are in use */
     BH_ROOM = 20,       /* no room for the slots in the store */
@@ -73,25 +82,48 @@ enum bh_refusal {
     BH_COUNT = 25,      /* the file would need more than 1048575 packets */
     BH_OUTPUT = 26,     /* the output is too short */
     BH_LINE = 29,       /* a line of a description has a fault; value: the line, 1 to 15 */
-    BH_EXTRA = 30       /* bytes stand behind line 15 of a description */
+    BH_EXTRA = 30,      /* bytes stand behind line 15 of a description */
+    BH_EDITION = 33     /* the packet is of another edition than the place, or of neither; judged straight behind 11 */
 };
 
 static inline unsigned bh_number(uint64_t answer) { return (unsigned)(answer & 255); }
 static inline uint64_t bh_value(uint64_t answer) { return answer >> 8; }
 
-/* A place of the record, as its sixteen bytes lie in memory (little-endian). It is unused exactly if its resource is 0. A
- * program reads it to list what is open, by resource and type, since a resource may be there twice; it is changed by bh_open and
- * bh_close alone. */
+/* A place of the record. It is unused exactly if its resource is 0. A program reads it to list what is open, by resource and type, since a
+ * resource may be there twice; it is changed by bh_open and bh_close alone. */
 struct bh_place {
     uint16_t resource;
     uint8_t type;
     uint8_t update;
     uint32_t count;
     uint8_t protection;
-    uint8_t rows;
+    uint8_t rows; /* 0 without protection, in either edition */
     uint16_t slot;
     uint32_t start;
+    uint16_t edition; /* 1 or 2 */
 };
+
+/* Place i of a record; all 0 for i above 7. In the record a place has eighteen bytes, its numbers in the order of the struct, each
+ * little-endian, one straight behind the other. So the struct is not laid over them: a compiler gives it more than eighteen bytes.
+ * A record that was kept from before there were editions has 128 bytes, and every call refuses it by 9. One of 144 is made of it place by
+ * place: its sixteen bytes, then 2, 0 for a place in use and 0, 0 for one that is not. */
+static inline struct bh_place bh_place_at(const uint8_t *record, unsigned i)
+{
+    struct bh_place p = {0, 0, 0, 0, 0, 0, 0, 0, 0};
+    if (i < BH_PLACES) {
+        const uint8_t *b = record + (size_t)BH_PLACE * i;
+        p.resource = (uint16_t)(b[0] | b[1] << 8);
+        p.type = b[2];
+        p.update = b[3];
+        p.count = b[4] | (uint32_t)b[5] << 8 | (uint32_t)b[6] << 16 | (uint32_t)b[7] << 24;
+        p.protection = b[8];
+        p.rows = b[9];
+        p.slot = (uint16_t)(b[10] | b[11] << 8);
+        p.start = b[12] | (uint32_t)b[13] << 8 | (uint32_t)b[14] << 16 | (uint32_t)b[15] << 24;
+        p.edition = (uint16_t)(b[16] | b[17] << 8);
+    }
+    return p;
+}
 
 /* The CRC-32 of n bytes: polynomial 04C11DB7, most significant bit first, all ones at the start, complemented at the end. */
 uint32_t bh_crc32(const uint8_t *bytes, size_t n);
@@ -106,34 +138,48 @@ uint64_t bh_encode_row(const uint8_t *info, size_t n, uint8_t *checks, size_t ro
  * Refusals: 1 where n is not 255; 13 where there is no such row; 26 where room is below 255. */
 uint64_t bh_repair_row(const uint8_t *row, size_t n, uint8_t *fixed, size_t room);
 
-/* The fields of a packet, as sent: nine numbers, resource, number, update, length, count, type, protection, rows, reserved, written
- * to the start of `fields`; room counts numbers, not bytes. Types 0, 1 and 2 are read. The CRC is not looked at.
- * Refusals: 1 to 8, the first that applies; 26 where room is below 9. */
+/* The fields of a packet, as sent, and its edition: ten numbers, resource, number, update, length, count, type, protection, rows, reserved,
+ * edition, written to the start of `fields`; room counts numbers, not bytes. Types 0, 1 and 2 are read. The CRC is not looked at.
+ * The edition is 1 where reserved is 15 and, without protection, rows is 255; 2 where reserved is 0 and, without protection, rows is 0; else
+ * 0, for neither, which is no refusal here, though no place takes such a packet. A stream has one too.
+ * Refusals: 1 to 8, the first that applies; 26 where room is below 10. */
 uint64_t bh_read_fields(const uint8_t *packet, size_t n, uint32_t *fields, size_t room);
 
 /* Writes packet `number` of a file of n bytes to the start of `out`. Value: the packet's length, at most 4095.
  * resource 1 to 65535; type 1 (file) or 2 (description file); update 0 to 15; protection 0 or 1; rows (M) 1 to 255 with
  * protection, any without; size (P), the payload of every packet but the last: 1 to 4077, with protection a multiple of 255 up
- * to 3825. A file has as many packets as its first packet's count field says.
+ * to 3825; edition 1 or 2. A file has as many packets as its first packet's count field says.
+ * Without protection the M that is written is the edition's, 255 or 0, whatever `rows` says.
  * Refusals, the first that applies: 17 an argument out of range; 23 n is 0 or above 16,777,216; 25 more than 1048575 packets;
  * 6 no packet has this number; 26 the packet does not fit room. */
+uint64_t bh_pack_as(const uint8_t *file, size_t n, uint16_t resource, uint8_t type, uint8_t update, uint8_t protection,
+                    uint8_t rows, uint16_t size, uint16_t edition, uint32_t number, uint8_t *out, size_t room);
+
+/* The same in edition 2. */
 uint64_t bh_pack(const uint8_t *file, size_t n, uint16_t resource, uint8_t type, uint8_t update, uint8_t protection,
                  uint8_t rows, uint16_t size, uint32_t number, uint8_t *out, size_t room);
 
-/* The same at the house setting: protection 1, 32 rows, size 255. */
+/* The same at the house setting: protection 1, 32 rows, size 255, edition 2. */
 uint64_t bh_pack_house(const uint8_t *file, size_t n, uint16_t resource, uint8_t type, uint8_t update, uint32_t number,
                        uint8_t *out, size_t room);
 
 /* Opens a place in which `count` packets of a resource and a type are collected: the first unused one of the record, its slots at the
  * lowest start of the store where count * (slot + 2) bytes fit. Writes the place into the record and the length 0 into each slot; no
- * other byte of the store changes. rn is 128; sn is the store's length. `slot` has the range of bh_pack's size.
+ * other byte of the store changes. rn is 144; sn is the store's length. `slot` has the range of bh_pack_as's size, and `edition` is 1 or 2.
+ * Without protection any `rows` is taken and 0 is held, also where the edition's packets carry 255.
+ * A place opened in the edition that a station does not send collects nothing: each of its packets is 33. A file and its description may be
+ * of different editions.
  * A file and its description are two places, with two counts and settings of their own: the one that is not opened is not collected,
  * though it comes under the same resource. Nothing asks that their updates agree; a caller that reads one by the other compares them.
  * Refusals: 9; 17 an argument out of range (count 1 to 1048575); 18 only where resource and type are those of a place; 19; 20. */
+uint64_t bh_open_as(uint8_t *record, size_t rn, uint8_t *store, size_t sn, uint16_t resource, uint8_t type, uint8_t update,
+                    uint32_t count, uint8_t protection, uint8_t rows, uint16_t slot, uint16_t edition);
+
+/* The same in edition 2. */
 uint64_t bh_open(uint8_t *record, size_t rn, uint8_t *store, size_t sn, uint16_t resource, uint8_t type, uint8_t update,
                  uint32_t count, uint8_t protection, uint8_t rows, uint16_t slot);
 
-/* The same at the house setting: protection 1, 32 rows, slots of 255. */
+/* The same at the house setting: protection 1, 32 rows, slots of 255, edition 2. */
 uint64_t bh_open_house(uint8_t *record, size_t rn, uint8_t *store, size_t sn, uint16_t resource, uint8_t type, uint8_t update,
                        uint32_t count);
 
@@ -148,7 +194,8 @@ uint64_t bh_open_house(uint8_t *record, size_t rn, uint8_t *store, size_t sn, ui
  * A packet that comes twice is mended twice: a repeat has a count of its own. A refusal has none, whatever was repaired before it.
  * The packet names its place itself: the resource by its bytes 3 and 4, the type by the two high bits of byte 12, both before any CRC
  * has confirmed them. A packet of a stream is always 10, as is one of a description of whose resource only the file is open.
- * Refusals: 9; 1 to 8 as bh_read_fields; 10 to 16. */
+ * The edition is judged likewise by the header alone: 33 may be noise, and many of them on a place mean that it was opened in the wrong one.
+ * Refusals, the first that applies: 9; 1 to 8 as bh_read_fields; 10; 11; 33; 12 to 16. */
 uint64_t bh_offer(const uint8_t *record, size_t rn, uint8_t *store, size_t sn, const uint8_t *packet, size_t n);
 
 /* Of an answer of bh_offer, and of no other call: the value of bh_repair_row is the count itself. Both are 0 for a refusal, whose value
