@@ -95,7 +95,7 @@ void write_output(struct output *o, const uint8_t *at, size_t n);
 void finish_output(struct output *o);
 
 /* ---- place.c: what stands in a record, and the room of a store. */
-struct bh_place place_of(const uint8_t *record, int i);
+struct bh_place place_of(const uint8_t *record, int i); /* all 0 where i is -1 */
 int find_place(const uint8_t *record, uint16_t resource, uint8_t type); /* -1 where no place has both */
 uint64_t cover_of(struct bh_place p);
 uint8_t *slot_of(uint8_t *store, struct bh_place p, uint32_t number);

@@ -5,18 +5,7 @@
 
 struct bh_place place_of(const uint8_t *record, int i)
 {
-    const uint8_t *p = record + 16 * i;
-    struct bh_place place = {
-        .resource = (uint16_t)(p[0] | p[1] << 8),
-        .type = p[2],
-        .update = p[3],
-        .count = (uint32_t)number_at(p + 4, 4),
-        .protection = p[8],
-        .rows = p[9],
-        .slot = (uint16_t)(p[10] | p[11] << 8),
-        .start = (uint32_t)number_at(p + 12, 4),
-    };
-    return place;
+    return bh_place_at(record, (unsigned)i);
 }
 
 int find_place(const uint8_t *record, uint16_t resource, uint8_t type)
@@ -29,7 +18,7 @@ int find_place(const uint8_t *record, uint16_t resource, uint8_t type)
 
 int same_place(const uint8_t *one, const uint8_t *other, int i)
 {
-    return memcmp(one + 16 * i, other + 16 * i, 16) == 0;
+    return memcmp(one + BH_PLACE * i, other + BH_PLACE * i, BH_PLACE) == 0;
 }
 
 uint64_t cover_of(struct bh_place p)
