@@ -193,10 +193,10 @@ static void judge_head(const char *path, const uint8_t *head, size_t n)
 }
 
 /* the record with nothing wrong in it: resource 0 is never open, under any type, so a good one answers Unknown */
-static void judge_record(const struct archive *a)
+static void read_record(struct archive *a)
 {
-    if (number_at(a->state + AT_RECORD_LENGTH, 4) != BH_RECORD)
-        damaged(a->path, "an archive with a record of a length that this command does not know");
+    if (take_record(a->record, a->state + AT_RECORD, number_at(a->state + AT_RECORD_LENGTH, 4)) != 0)
+        damaged(a->path, "an archive that a later version of this command has changed: its record has a length that this one does not know");
     if (bh_number(bh_status(a->record, BH_RECORD, a->store, a->store_size, 0, FILE_TYPE)) != BH_UNKNOWN)
         damaged(a->path, "a damaged archive: its record breaks a rule (refusal 9 Record)");
 }
@@ -226,6 +226,7 @@ static void load_old(struct archive *a, size_t n)
     free(old);
     a->version = 1;
     choose_state(a);
+    read_record(a);
 }
 
 static void load(struct archive *a)
@@ -248,7 +249,7 @@ static void load(struct archive *a)
     choose_state(a);
     memcpy(settled, a->state, STATE);
     replay(a);
-    judge_record(a);
+    read_record(a);
     if (a->writing && a->copies < 2)
         complain("%s: one of the two copies of its record was damaged; it is written anew", a->path);
     /* what an older copy would need of the journal is about to be overwritten */
@@ -330,6 +331,13 @@ void close_archive(struct archive *a)
     close(a->fd);
 }
 
+const char *older(const struct archive *a)
+{
+    if (a->version == 1)
+        return "is of version 1";
+    return number_at(a->state + AT_RECORD_LENGTH, 4) == BH_RECORD ? NULL : "has a record from before editions";
+}
+
 /* ---- counters */
 
 static uint8_t *counter_at(const struct archive *a, int place, enum counter which)
@@ -404,6 +412,7 @@ void commit(struct archive *a)
         carry_over(a);
         return;
     }
+    int carried = older(a) != NULL;
     uint8_t *head = a->journal + a->used;
     memcpy(head + AT_CHANGE_BEHIND, a->state + AT_MARK, 8);
     put_number(a->state + AT_GENERATION, 8, generation(a) + 1);
@@ -416,6 +425,8 @@ void commit(struct archive *a)
         not_written(a);
     a->used += a->growing;
     a->growing = 0;
+    if (carried)
+        remark("%s: its record is carried over: each place names its edition now, which is 2 for those that were open; a command from before editions no longer reads it", a->path);
 }
 
 void sync_archive(struct archive *a)

@@ -125,7 +125,8 @@ struct archive {
     int fd, writing, version;
     uint8_t *image; /* the whole file, what the journal has put into its place */
     size_t size;
-    uint8_t *state, *record, *checks, *journal, *store; /* parts of the image */
+    uint8_t *state, *checks, *journal, *store; /* parts of the image */
+    uint8_t record[BH_RECORD];                 /* as the library takes it; a change puts it into the state */
     size_t journal_size, store_size;
     size_t used, growing;  /* bytes of the journal that are written, and of the change that is being put together behind them */
     uint64_t in_place[2];  /* the generations of the two states on disk */
@@ -139,6 +140,7 @@ int open_if_free(struct archive *a, const char *path, int writing, long long wai
 void release_archive(struct archive *a);
 void retake_archive(struct archive *a);
 void close_archive(struct archive *a);
+const char *older(const struct archive *a); /* what it is, where its first change carries it over; NULL where it is as a new one */
 uint64_t count_of(const struct archive *a, int place, enum counter which);
 void count_more(struct archive *a, int place, enum counter which, uint64_t more);
 void clear_counters(struct archive *a, int place);
@@ -150,10 +152,11 @@ void sync_archive(struct archive *a); /* what was committed reaches the disk */
 void settle(struct archive *a);       /* and goes to its own place there */
 void write_ahead(struct archive *a, const uint8_t *at, size_t n); /* straight to the file: bytes that no place in use has */
 
-/* ---- image.c: a fresh image of an archive, and one carried over from version 1. */
+/* ---- image.c: a fresh image of an archive, one carried over from version 1, and records from before. */
 size_t image_size(uint64_t store_size);
 void point_into(struct archive *a, uint8_t *image, uint64_t store_size);
-void seal_state(struct archive *a);
+int take_record(uint8_t *record, const uint8_t *from, uint64_t length); /* 0, or -1 where no record has this length */
+void seal_state(struct archive *a);                                    /* with the record in it, as a state that is new */
 uint8_t *fresh_image(uint64_t store_size);
 uint8_t *carried_image(const char *path, const uint8_t *old, size_t n); /* NULL where it is no archive of version 1 */
 uint64_t number_at(const uint8_t *p, int n);

@@ -37,7 +37,9 @@ static struct bytes asked_for(const struct arguments *a, struct archive *archive
 static void note_handed(const struct arguments *a, const struct archive *seen, int place)
 {
     struct archive archive;
-    const char *not = seen->version != 2 ? "is of version 1" : access(a->names[0], W_OK) != 0 ? "cannot be written" : NULL;
+    const char *not = older(seen);
+    if (not == NULL && access(a->names[0], W_OK) != 0)
+        not = "cannot be written";
     if (not == NULL && open_if_free(&archive, a->names[0], 1, a->wait) != 0)
         not = "is not free";
     if (not != NULL) {

@@ -1,4 +1,4 @@
-/* The bytes of an archive, as docs/ARCHIVE.md has them: where each part stands, a fresh one, and one carried over from version 1. */
+/* The bytes of an archive, as docs/ARCHIVE.md has them: where each part stands, a fresh one, one carried over from version 1, and records from before. */
 #define _GNU_SOURCE
 #include "command.h"
 #include "layout.h"
@@ -48,7 +48,6 @@ void point_into(struct archive *a, uint8_t *image, uint64_t store_size)
     a->image = image;
     a->size = image_size(store_size);
     a->state = image + AT_STATES;
-    a->record = a->state + AT_RECORD;
     a->checks = image + AT_CHECKS;
     a->journal = a->checks + checks_size(store_size);
     a->journal_size = journal_size(store_size);
@@ -57,9 +56,28 @@ void point_into(struct archive *a, uint8_t *image, uint64_t store_size)
     a->used = a->growing = 0;
 }
 
+/* A record from before a place had all its numbers is shorter: each place then means what stands here behind the bytes that it has. */
+int take_record(uint8_t *record, const uint8_t *from, uint64_t length)
+{
+    static const uint8_t meant[BH_PLACE] = {[OLD_PLACE] = 2}; /* the edition */
+    size_t n = (size_t)length / BH_PLACES;
+    if (length != OLD_RECORD && length != BH_RECORD)
+        return -1;
+    memset(record, 0, BH_RECORD);
+    for (size_t i = 0; i < BH_PLACES; i++) {
+        uint8_t *place = record + BH_PLACE * i;
+        memcpy(place, from + n * i, n);
+        if (number_at(place, 2) != 0)
+            memcpy(place + n, meant + n, BH_PLACE - n);
+    }
+    return 0;
+}
+
 /* a state that is none of those before: with a mark that nobody can know beforehand */
 void seal_state(struct archive *a)
 {
+    put_number(a->state + AT_RECORD_LENGTH, 4, BH_RECORD);
+    memcpy(a->state + AT_RECORD, a->record, BH_RECORD);
     if (getrandom(a->state + AT_MARK, 8, 0) != 8)
         trouble("no random number for a change: %s", strerror(errno));
     put_number(a->state + AT_STATE_CHECK, 4, bh_crc32(a->state, AT_STATE_CHECK));
@@ -79,7 +97,6 @@ uint8_t *fresh_image(uint64_t store_size)
     put_number(image + AT_HEAD_CHECK, 4, bh_crc32(image, AT_HEAD_CHECK));
     point_into(&a, image, store_size);
     put_number(a.state + AT_GENERATION, 8, 1);
-    put_number(a.state + AT_RECORD_LENGTH, 4, BH_RECORD);
     seal_state(&a);
     memcpy(image + AT_STATES + PAGE, a.state, STATE);
     return image;
@@ -113,12 +130,12 @@ uint8_t *carried_image(const char *path, const uint8_t *old, size_t n)
     struct archive a = {.path = path};
     if (n < OLD_STORE || number_at(old + AT_STORE_SIZE, 8) != n - OLD_STORE || n - OLD_STORE > BH_USABLE_STORE || number_at(old + OLD_CHOICE, 4) > 1)
         return NULL;
-    const uint8_t *record = old + OLD_RECORDS + number_at(old + OLD_CHOICE, 4) * BH_RECORD, *store = old + OLD_STORE;
+    const uint8_t *store = old + OLD_STORE;
+    take_record(a.record, old + OLD_RECORDS + number_at(old + OLD_CHOICE, 4) * OLD_RECORD, OLD_RECORD);
     /* resource 0 is never open, under any type, so a good record answers Unknown */
-    if (bh_number(bh_status(record, BH_RECORD, store, n - OLD_STORE, 0, FILE_TYPE)) != BH_UNKNOWN)
+    if (bh_number(bh_status(a.record, BH_RECORD, store, n - OLD_STORE, 0, FILE_TYPE)) != BH_UNKNOWN)
         return NULL;
     point_into(&a, fresh_image(n - OLD_STORE), n - OLD_STORE);
-    memcpy(a.record, record, BH_RECORD);
     memcpy(a.store, store, a.store_size);
     check_as_stored(&a, store);
     seal_state(&a);
