@@ -22,6 +22,7 @@ static const struct {
     {"protection", NUMBER, offsetof(struct arguments, protection), 255, 0},
     {"rows", NUMBER, offsetof(struct arguments, rows), 255, 0},
     {"size", SIZE, offsetof(struct arguments, size), BH_USABLE_STORE, 0},
+    {"edition", NUMBER, offsetof(struct arguments, edition), 65535, 0},
     {"length", NUMBER, offsetof(struct arguments, length), INT64_MAX, 0},
     {"count", NUMBER, offsetof(struct arguments, packets), UINT32_MAX, 0},
     {"service", NUMBER, offsetof(struct arguments, service), 65535, 0},

@@ -8,9 +8,9 @@ _brithelva() {
         return
     fi
     case ${COMP_WORDS[1]} in
-    pack) options='--resource --type --update --protection --rows --size --output --force' ;;
+    pack) options='--resource --type --update --protection --rows --size --edition --output --force' ;;
     new) options='--size' ;;
-    open) options='--resource --count --type --update --protection --rows --size --wait' ;;
+    open) options='--resource --count --type --update --protection --rows --size --edition --wait' ;;
     offer) options='--each --json --strict --wait' ;;
     status) options='--resource --type --json --wait' ;;
     verify) options='--resource --type --mend --json --wait' ;;
@@ -26,7 +26,7 @@ _brithelva() {
         ;;
     esac
     case $before in
-    --type) mapfile -t COMPREPLY < <(compgen -W '1 2' -- "$word") ;;
+    --type | --edition) mapfile -t COMPREPLY < <(compgen -W '1 2' -- "$word") ;;
     --protection) mapfile -t COMPREPLY < <(compgen -W '0 1' -- "$word") ;;
     --mode) mapfile -t COMPREPLY < <(compgen -W 'stream file' -- "$word") ;;
     --resource | --count | --update | --rows | --size | --length | --wait | --service | --kind | --charset | --name | --title | --summary | --keywords | --path | --from | --until) ;;

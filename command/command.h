@@ -48,8 +48,8 @@ const char *what_is_wrong(struct bytes text, uint64_t line); /* with a line that
 struct arguments {
     char **names; /* what is no option, the command's own name left out */
     int count;
-    long long resource, type, update, protection, rows, size, length, packets, service, kind, charset, wait; /* -1 where it is not named */
-    const char *mode, *name, *title, *summary, *keywords, *path, *file, *from, *until, *output;              /* NULL where it is not named */
+    long long resource, type, update, protection, rows, size, edition, length, packets, service, kind, charset, wait; /* -1 where it is not named */
+    const char *mode, *name, *title, *summary, *keywords, *path, *file, *from, *until, *output;                       /* NULL where it is not named */
     int delete, json, each, force, strict, mend, despite_conflicts, help, quiet, verbose;
 };
 struct arguments parse(int argc, char **argv, const char *allowed);
@@ -109,9 +109,9 @@ int same_place(const uint8_t *one, const uint8_t *other, int i);
 
 /* ---- settings.c: the settings that pack and open name. */
 struct settings {
-    int house; /* none of protection, rows and size is named */
+    int house; /* none of protection, rows, size and edition is named */
     uint8_t type, update, protection, rows;
-    uint16_t resource, size;
+    uint16_t resource, size, edition;
 };
 struct settings settings_of(const struct arguments *a);
 /* which argument is out of its range, and the range; count is -1 where there is none */

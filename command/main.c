@@ -17,19 +17,20 @@ static const struct command {
     int (*run)(const struct arguments *);
     const char *form, *what;
 } commands[] = {
-    {"pack", "resource type update protection rows size output force", pack,
+    {"pack", "resource type update protection rows size edition output force", pack,
      "pack FILE -o PACKETS --resource N [--type 1|2] [--update U]\n"
-     "                 [--protection 0|1] [--rows M] [--size P] [--force]",
+     "                 [--protection 0|1] [--rows M] [--size P] [--edition 1|2] [--force]",
      "writes all packets of FILE end to end. Where none of protection, rows and size is named, the\n"
-     "      house setting: protection 1, tables of 32 rows, payloads of 255 bytes"},
+     "      house setting: protection 1, tables of 32 rows, payloads of 255 bytes. The edition is that of the\n"
+     "      spare bits: 1 all one (GY/T 268.2), 2 all zero, which is meant where none is named"},
     {"new", "size", make_archive, "new ARCHIVE --size BYTES",
      "makes an archive with a store of so many bytes (4M, 512K), at most 16M. C packets with payloads\n"
      "      of P bytes take C * (P + 2) of them"},
-    {"open", "resource type update protection rows size count wait", open_place,
+    {"open", "resource type update protection rows size edition count wait", open_place,
      "open ARCHIVE --resource N --count C [--type 1|2] [--update U]\n"
-     "                 [--protection 0|1] [--rows M] [--size S] [--wait SECONDS]",
+     "                 [--protection 0|1] [--rows M] [--size S] [--edition 1|2] [--wait SECONDS]",
      "opens a place for the C packets of a file (type 1), or of its description (type 2) beside it: a\n"
-     "      slot of S bytes for each, settings as in pack"},
+     "      slot of S bytes for each, settings as in pack. It takes packets of its own edition alone"},
     {"offer", "json each strict wait", offer, "offer ARCHIVE RECORDING.. [--each] [--json] [--strict] [--wait SECONDS]",
      "offers every packet found in the recordings (- for standard input), past noise, as they come, and\n"
      "      tells the tally, bytes mended among it; with --each also a line for every packet: resource, type,\n"

@@ -19,7 +19,7 @@ static uint64_t open_one(struct archive *archive, uint8_t *record, const struct 
 {
     if (s->house)
         return bh_open_house(record, BH_RECORD, archive->store, archive->store_size, s->resource, s->type, s->update, count);
-    return bh_open(record, BH_RECORD, archive->store, archive->store_size, s->resource, s->type, s->update, count, s->protection, s->rows, s->size);
+    return bh_open_as(record, BH_RECORD, archive->store, archive->store_size, s->resource, s->type, s->update, count, s->protection, s->rows, s->size, s->edition);
 }
 
 static int not_opened(uint64_t answer, const struct archive *archive, const struct settings *s, uint32_t count)
@@ -30,7 +30,7 @@ static int not_opened(uint64_t answer, const struct archive *archive, const stru
     if (number == BH_FIELD)
         return refused_since(answer, what, "%s", field_cause(s, count));
     if (number == BH_HELD)
-        return refused_since(answer, what, "update %u, %" PRIu32 " packets", p.update, p.count);
+        return refused_since(answer, what, "update %u, %" PRIu32 " packets, edition %u", p.update, p.count, p.edition);
     if (number == BH_ROOM)
         return refused_since(answer, what, "%" PRIu64 " bytes are needed, the largest gap has %" PRIu64 " of the store's %zu", (uint64_t)count * (s->size + 2u),
                              largest_gap(archive->record, archive->store_size), archive->store_size);
@@ -84,7 +84,8 @@ int open_place(const struct arguments *a)
     int result = EXIT_ACCEPTED;
     if (bh_number(answer) == BH_ACCEPTED) {
         publish_opened(&archive, find_place(record, s.resource, s.type), record);
-        detail("%s: %s, is open for %lld packets; %" PRIu64 " bytes of the store are used", a->names[0], place_words(s.resource, s.type), a->packets, bytes_used(record));
+        detail("%s: %s, is open for %lld packets of edition %u; %" PRIu64 " bytes of the store are used", a->names[0], place_words(s.resource, s.type), a->packets, s.edition,
+               bytes_used(record));
     } else {
         result = not_opened(answer, &archive, &s, (uint32_t)a->packets);
     }

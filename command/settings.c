@@ -4,11 +4,12 @@
 struct settings settings_of(const struct arguments *a)
 {
     struct settings s = {
-        .house = a->protection < 0 && a->rows < 0 && a->size < 0,
+        .house = a->protection < 0 && a->rows < 0 && a->size < 0 && a->edition < 0,
         .resource = (uint16_t)a->resource,
         .type = type_named(a),
         .update = a->update < 0 ? 0 : (uint8_t)a->update,
         .protection = a->protection < 0 ? 1 : (uint8_t)a->protection,
+        .edition = a->edition < 0 ? 2 : (uint16_t)a->edition,
     };
     s.rows = a->rows >= 0 ? (uint8_t)a->rows : s.protection == 0 ? 0 : 32;
     if (a->size > UINT16_MAX)
@@ -30,6 +31,7 @@ const char *field_cause(const struct settings *s, long long count)
         {"protection", s->protection, 0, 1},
         {"rows", s->rows, s->protection == 1, 255},
         {"size", s->size, 1, s->protection == 1 ? 3825 : BH_LARGEST_PAYLOAD},
+        {"edition", s->edition, 1, 2},
         {"count", count < 0 ? 1 : count, 1, BH_LARGEST_COUNT},
     };
     for (size_t k = 0; k < sizeof ranges / sizeof *ranges; k++)
