@@ -119,7 +119,7 @@ const char *field_cause(const struct settings *s, long long count);
 
 /* ---- archive.c: one file, held in memory while a command works on it (docs/ARCHIVE.md). */
 enum { UNIT = 64 }; /* bytes of the store to one check */
-enum counter { STORED, REPEATED, CONFLICTS, OTHERS, MENDED, HANDED_OUT, COUNTERS = 16 };
+enum counter { STORED, REPEATED, CONFLICTS, OTHERS, MENDED, HANDED_OUT, EDITIONS, COUNTERS = 16 };
 struct archive {
     const char *path;
     int fd, writing, version;

@@ -9,11 +9,14 @@
 #include <time.h>
 #include <unistd.h>
 
+enum { LAST = BH_EDITION }; /* no refusal of an offer has a higher number */
+
 struct tally {
-    uint64_t stored, repeated, refused[BH_CONFLICT + 1], skipped;
+    uint64_t stored, repeated, refused[LAST + 1], skipped;
     uint64_t mended; /* bytes, in the packets stored and repeated */
     uint64_t lost; /* packets of open places that were sound and were refused */
-    char cause[BH_CONFLICT + 1][96]; /* of the first refusal with this number */
+    char cause[LAST + 1][128]; /* of the first refusal with this number */
+    char hint[256]; /* what to do for the first sound packet of the other edition than its place's */
 };
 
 struct offering {
@@ -38,14 +41,31 @@ static int is_sound(const uint8_t *packet, size_t n)
     return bh_crc32(copy, n - BH_CRC) == ((uint32_t)crc[0] << 24 | (uint32_t)crc[1] << 16 | (uint32_t)crc[2] << 8 | crc[3]);
 }
 
+/* fields of a packet, as bh_read_fields gives them */
+enum field { RESOURCE = 0, NUMBER = 1, UPDATE = 2, COUNT = 4, TYPE = 5, PROTECTION = 6, ROWS = 7, RESERVED = 8, EDITION = 9 };
+
+/* The edition of a packet beside that of its place; where it has neither, what it has instead. Under protection its rows say nothing of it. */
+static void tell_edition(char *to, size_t room, struct bh_place p, const uint32_t *fields)
+{
+    const char *place = place_words(p.resource, p.type);
+    if (fields[EDITION] != 0)
+        snprintf(to, room, "%s: edition %" PRIu32 ", held %u", place, fields[EDITION], p.edition);
+    else if (fields[PROTECTION] != 0)
+        snprintf(to, room, "%s: of neither edition (reserved bits %" PRIu32 "), held %u", place, fields[RESERVED], p.edition);
+    else
+        snprintf(to, room, "%s: of neither edition (reserved bits %" PRIu32 ", rows %" PRIu32 "), held %u", place, fields[RESERVED], fields[ROWS], p.edition);
+}
+
 /* Why a packet does not fit the place that its resource and type name: the first field that differs, as it is and as it is held. */
 static void tell_cause(char *to, size_t room, unsigned number, struct bh_place p, const uint32_t *fields, size_t n)
 {
     const struct {
         const char *name;
         uint32_t seen, held;
-    } pairs[] = {{"update", fields[2], p.update}, {"count", fields[4], p.count}, {"protection", fields[6], p.protection}, {"rows", fields[7], p.rows}};
+    } pairs[] = {{"update", fields[UPDATE], p.update}, {"count", fields[COUNT], p.count}, {"protection", fields[PROTECTION], p.protection}, {"rows", fields[ROWS], p.rows}};
     *to = '\0';
+    if (number == BH_EDITION)
+        tell_edition(to, room, p, fields);
     if (number == BH_WIDE)
         snprintf(to, room, "%s: %zu bytes of payload, held in slots of %u", place_words(p.resource, p.type), n - BH_HEADER - BH_CRC, p.slot);
     for (size_t k = 0; number == BH_OTHER && k < sizeof pairs / sizeof *pairs; k++)
@@ -65,7 +85,7 @@ static void tell_packet(struct offering *o, const uint32_t *fields, uint64_t ans
     else if (unread)
         fputs("- - -", o->lines);
     else
-        fprintf(o->lines, o->json ? "{\"resource\": %" PRIu32 ", \"type\": %" PRIu32 ", \"number\": %" PRIu32 : "%" PRIu32 " %" PRIu32 " %" PRIu32, fields[0], fields[5], fields[1]);
+        fprintf(o->lines, o->json ? "{\"resource\": %" PRIu32 ", \"type\": %" PRIu32 ", \"number\": %" PRIu32 : "%" PRIu32 " %" PRIu32 " %" PRIu32, fields[RESOURCE], fields[TYPE], fields[NUMBER]);
     fprintf(o->lines, o->json ? ", \"answer\": \"%s\"" : " %s", words);
     if (number != BH_ACCEPTED)
         fprintf(o->lines, o->json ? ", \"refusal\": %u, \"name\": \"%s\"" : " %u %s", number, refusal_name(number));
@@ -93,6 +113,12 @@ static int tell_damage(struct archive *a, struct bh_place p, uint32_t number, ch
     return damaged;
 }
 
+/* refused for what its header says beside the place that it names, before its CRC is looked at */
+static int is_unfit(unsigned number)
+{
+    return number == BH_OTHER || number == BH_EDITION || number == BH_WIDE;
+}
+
 /* counts for the command, and for the place if the packet names one; damaged: what stands in its slot is not what was stored */
 static void count_packet(struct offering *o, int place, uint64_t answer, int sound, int damaged)
 {
@@ -110,8 +136,10 @@ static void count_packet(struct offering *o, int place, uint64_t answer, int sou
         which = CONFLICTS;
     if (number == BH_OTHER && sound)
         which = OTHERS;
+    if (number == BH_EDITION && sound)
+        which = EDITIONS;
     t->mended += bh_mended(answer);
-    t->lost += sound && (number == BH_CONFLICT || number == BH_SLOT || number == BH_OTHER || number == BH_WIDE);
+    t->lost += sound && (number == BH_CONFLICT || number == BH_SLOT || is_unfit(number));
     if (which == COUNTERS)
         return;
     count_more(&o->archive, place, which, 1);
@@ -119,25 +147,35 @@ static void count_packet(struct offering *o, int place, uint64_t answer, int sou
     o->changed = 1;
 }
 
+/* A place that was opened in the wrong edition collects nothing: what would. A packet of neither edition fits no place, and nothing can be said for it. */
+static void give_hint(struct tally *t, struct bh_place p, uint32_t edition)
+{
+    if (edition != 0 && t->hint[0] == '\0')
+        snprintf(t->hint, sizeof t->hint, "%s, is open in edition %u, and sound packets of edition %" PRIu32 " came: a place that is opened with --edition %" PRIu32 " takes them, once this one is closed",
+                 place_words(p.resource, p.type), p.edition, edition, edition);
+}
+
 /* Answers whether the search may go on behind the packet: whether it is one, by its CRC. */
 static int take_packet(struct offering *o, const uint8_t *packet, size_t n)
 {
     struct archive *a = &o->archive;
-    uint32_t fields[9] = {0};
+    uint32_t fields[BH_FIELDS] = {0};
     uint64_t answer = bh_offer(a->record, BH_RECORD, a->store, a->store_size, packet, n);
     unsigned number = bh_number(answer);
     int place = find_place(a->record, (uint16_t)(packet[3] << 8 | packet[4]), packet[12] >> 6), damaged = 0;
     int judged = number == BH_ACCEPTED || number == BH_CONFLICT || number == BH_SLOT;
     char cause[sizeof o->tally.cause[0]] = "";
-    bh_read_fields(packet, n, fields, 9);
-    if (number == BH_OTHER || number == BH_WIDE)
+    bh_read_fields(packet, n, fields, BH_FIELDS);
+    if (is_unfit(number))
         tell_cause(cause, sizeof cause, number, place_of(a->record, place), fields, n);
     if (number == BH_CONFLICT || number == BH_SLOT)
-        damaged = tell_damage(a, place_of(a->record, place), fields[1], cause, sizeof cause);
+        damaged = tell_damage(a, place_of(a->record, place), fields[NUMBER], cause, sizeof cause);
     if (number == BH_ACCEPTED && !bh_is_repeat(answer))
-        keep_slot(a, place, fields[1]);
-    int unjudged = number == BH_OTHER || number == BH_WIDE || (number == BH_UNKNOWN && o->found == 0);
-    count_packet(o, place, answer, judged || (unjudged && is_sound(packet, n)), damaged);
+        keep_slot(a, place, fields[NUMBER]);
+    int unjudged = is_unfit(number) || (number == BH_UNKNOWN && o->found == 0), sound = judged || (unjudged && is_sound(packet, n));
+    count_packet(o, place, answer, sound, damaged);
+    if (number == BH_EDITION && sound)
+        give_hint(&o->tally, place_of(a->record, place), fields[EDITION]);
     if (*cause && o->tally.cause[number][0] == '\0')
         memcpy(o->tally.cause[number], cause, sizeof cause);
     if (o->each)
@@ -257,7 +295,7 @@ static int offer_recording(struct offering *o, const char *archive, const char *
 static uint64_t all_refused(const struct tally *t)
 {
     uint64_t sum = 0;
-    for (unsigned k = 1; k <= BH_CONFLICT; k++)
+    for (unsigned k = 1; k <= LAST; k++)
         sum += t->refused[k];
     return sum;
 }
@@ -269,7 +307,7 @@ static void tell_tally(const struct tally *t, int json)
         printf("{\"stored\": %" PRIu64 ", \"repeated\": %" PRIu64 ", \"refused\": {", t->stored, t->repeated);
     else
         printf("stored    %" PRIu64 "\nrepeated  %" PRIu64 "\nmended    %" PRIu64 " bytes\nrefused   %" PRIu64 "\n", t->stored, t->repeated, t->mended, all_refused(t));
-    for (unsigned k = 1; k <= BH_CONFLICT; k++) {
+    for (unsigned k = 1; k <= LAST; k++) {
         if (t->refused[k] == 0)
             continue;
         if (json)
@@ -302,6 +340,8 @@ int offer(const struct arguments *a)
         tell_tally(&o.tally, a->json);
     if (o.tally.lost > 0)
         complain("%" PRIu64 " packets that name an open resource and its type were sound and were refused: something of what was sent may be missing", o.tally.lost);
+    if (o.tally.hint[0] != '\0')
+        complain("%s", o.tally.hint);
     if (result == EXIT_ACCEPTED && (o.tally.lost > 0 || (a->strict && all_refused(&o.tally) > 0)))
         result = EXIT_REFUSED;
     fflush(stdout);

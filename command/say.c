@@ -39,6 +39,7 @@ static const struct {
     {"Output", "the output is too short"},
     [BH_LINE] = {"Line", "a line of the description has a fault"},
     [BH_EXTRA] = {"Extra", "bytes stand behind line 15 of the description"},
+    [BH_EDITION] = {"Edition", "the packet is not of the edition that was opened"},
 };
 
 enum talk talk = PLAIN;

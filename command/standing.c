@@ -3,7 +3,7 @@
 
 #include <inttypes.h>
 
-static const char *const counter_names[] = {"stored", "repeated", "conflicts", "other", "mended", "handed_out"};
+static const char *const counter_names[] = {"stored", "repeated", "conflicts", "other", "mended", "handed_out", "other_edition"};
 enum { TOLD = sizeof counter_names / sizeof *counter_names };
 
 static void place_json(const struct archive *a, int i, uint64_t answer, const char *between)
@@ -11,9 +11,9 @@ static void place_json(const struct archive *a, int i, uint64_t answer, const ch
     struct bh_place p = place_of(a->record, i);
     unsigned number = bh_number(answer);
     int32_t lowest = number == BH_ACCEPTED ? bh_lowest_empty(answer) : -1;
-    printf("%s\n  {\"resource\": %u, \"type\": %u, \"update\": %u, \"count\": %" PRIu32 ", \"protection\": %u, \"rows\": %u, \"slot\": %u, \"refused\": %u, \"filled\": %" PRIu32
+    printf("%s\n  {\"resource\": %u, \"type\": %u, \"update\": %u, \"count\": %" PRIu32 ", \"protection\": %u, \"rows\": %u, \"slot\": %u, \"edition\": %u, \"refused\": %u, \"filled\": %" PRIu32
            ", \"lowest_empty\": ",
-           between, p.resource, p.type, p.update, p.count, p.protection, p.rows, p.slot, number, number == BH_ACCEPTED ? bh_filled(answer) : 0);
+           between, p.resource, p.type, p.update, p.count, p.protection, p.rows, p.slot, p.edition, number, number == BH_ACCEPTED ? bh_filled(answer) : 0);
     if (lowest < 0)
         printf("null");
     else
@@ -34,11 +34,18 @@ static void say_bar(struct bh_place p, uint32_t filled, int32_t lowest)
     putchar('\n');
 }
 
+/* A place that waits for the edition that its station does not send stays empty: that is told where it can be seen. */
+static void say_edition(struct bh_place p, uint64_t answer, uint64_t refused)
+{
+    if (bh_number(answer) == BH_ACCEPTED && bh_filled(answer) == 0 && refused > 0)
+        printf("  nothing of edition %u has come; the station may send edition %d, for which a place is opened with --edition %d\n", p.edition, 3 - p.edition, 3 - p.edition);
+}
+
 static void say_place(const struct archive *a, int i, uint64_t answer)
 {
     struct bh_place p = place_of(a->record, i);
     uint64_t conflicts = count_of(a, i, CONFLICTS), handed = count_of(a, i, HANDED_OUT);
-    printf("resource %-5u  type %u %-13s  update %-2u  ", p.resource, p.type, type_words(p.type), p.update);
+    printf("resource %-5u  type %u %-13s  update %-2u  edition %u  ", p.resource, p.type, type_words(p.type), p.update, p.edition);
     if (p.protection)
         printf("%3u rows  ", p.rows);
     else
@@ -47,12 +54,14 @@ static void say_place(const struct archive *a, int i, uint64_t answer)
         printf("refused: %u %s\n", bh_number(answer), refusal_name(bh_number(answer)));
     else
         say_bar(p, bh_filled(answer), bh_lowest_empty(answer));
-    printf("  stored %" PRIu64 ", repeated %" PRIu64 ", %sin conflict %" PRIu64 "%s, refused as Other %" PRIu64 ", bytes mended %" PRIu64 "; ", count_of(a, i, STORED),
-           count_of(a, i, REPEATED), conflicts ? colour(stdout, RED) : "", conflicts, conflicts ? colour(stdout, NO_COLOUR) : "", count_of(a, i, OTHERS), count_of(a, i, MENDED));
+    printf("  stored %" PRIu64 ", repeated %" PRIu64 ", %sin conflict %" PRIu64 "%s, refused as Other %" PRIu64 ", as Edition %" PRIu64 ", bytes mended %" PRIu64 "; ",
+           count_of(a, i, STORED), count_of(a, i, REPEATED), conflicts ? colour(stdout, RED) : "", conflicts, conflicts ? colour(stdout, NO_COLOUR) : "", count_of(a, i, OTHERS),
+           count_of(a, i, EDITIONS), count_of(a, i, MENDED));
     if (handed == 0)
         puts("not handed out yet");
     else
         printf("handed out %" PRIu64 " time%s\n", handed, handed == 1 ? "" : "s");
+    say_edition(p, answer, count_of(a, i, EDITIONS));
 }
 
 static void tell_store(const struct archive *a, int json)
