@@ -1,10 +1,11 @@
 /*
- * Damaged archives, chosen by bytes: a small archive of version 1 or 2 with some of its bytes altered, changes put into its journal, and its CRCs made right
- * again where that is chosen, so that what stands behind them is reached. The same bytes make the same archive, whether a fuzzer or the random driver below
+ * Damaged archives, chosen by bytes: a small archive of version 1 or 2, the latter with editions in its record or from before them, with some of its bytes altered,
+ * changes put into its journal, and its CRCs made right again where that is chosen, so that what stands behind them is reached. The same bytes make the same archive, whether a fuzzer or the random driver below
  * chose them.
  *
  * It is opened to be read and to be written. What is refused stays as it was, byte for byte, with nothing beside it. Looking changes nothing, what was mended
- * is sound, and what was accepted and changed is accepted again, as it was left. The command's own files are at work here; only its messages are not.
+ * is sound, and what was accepted and changed is accepted again, as it was left. A record from before editions is carried over by the first change, is told once, and
+ * its places mean edition 2; a packet is taken by a place of its own edition alone. The command's own files are at work here; only its messages are not.
  */
 #define _GNU_SOURCE
 #include "command.h"
@@ -29,6 +30,7 @@ enum talk talk = QUIET;
 static jmp_buf refusal;
 static int may_refuse;
 static char said[512];
+static int carried_over; /* how often that was said */
 static void *blocks[BLOCKS];
 
 void *__real_malloc(size_t n);
@@ -107,7 +109,7 @@ void complain(const char *format, ...)
 
 void remark(const char *format, ...)
 {
-    (void)format;
+    carried_over += strstr(format, "carried over") != NULL;
 }
 
 void detail(const char *format, ...)
@@ -196,28 +198,39 @@ ssize_t getrandom(void *to, size_t n, unsigned flags)
     return (ssize_t)n;
 }
 
-/* ---- the archives that are damaged: two places with protection, two without, a file and a description under one resource, a gap, and three changes that have
- * not gone to their place */
+/* ---- the archives that are damaged: two places with protection, two without, one of each in edition 1, a file and a description under one resource, a gap, and
+ * three changes that have not gone to their place */
 
-static uint8_t whole[2][ROOM], image[ROOM], after[ROOM];
-static size_t whole_size[2], size;
+enum form { VERSION_1, BEFORE_EDITIONS, USUAL, FORMS };
+static uint8_t whole[FORMS][ROOM], image[ROOM], after[ROOM];
+static size_t whole_size[FORMS], size;
 static struct archive parts; /* of the image, if it is of version 2 */
 
 static const struct {
     uint16_t resource, slot;
-    uint8_t type, protection;
+    uint8_t type, protection, edition;
     uint32_t count;
-} plan[] = {{7, 510, 1, 1, 3}, {8, 20, 2, 0, 20}, {9, 30, 1, 0, 3}, {10, 300, 1, 0, 2}, {7, 255, 2, 1, 2}};
+} plan[] = {{7, 510, 1, 1, 2, 3}, {8, 20, 2, 0, 1, 20}, {9, 30, 1, 0, 2, 3}, {10, 300, 1, 0, 2, 2}, {7, 255, 2, 1, 1, 2}};
 enum { PLANNED = sizeof plan / sizeof *plan, CLOSED = 2 };
 
-/* Offers a packet of the plan, with so many bytes altered in each of its rows; answers what the library does. */
-static uint64_t offer_packet(struct archive *a, size_t k, uint32_t number, unsigned wrong)
+/* What is refused for its edition, or accepted, is not that of its place, or is. */
+static void judge_edition(const struct archive *a, size_t k, unsigned edition, uint64_t answer)
+{
+    struct bh_place p = place_of(a->record, find_place(a->record, plan[k].resource, plan[k].type));
+    if (bh_number(answer) == BH_ACCEPTED && p.edition != edition)
+        fault("a packet of another edition was accepted");
+    if (bh_number(answer) == BH_EDITION && p.edition == edition)
+        fault("a packet was refused for the edition that its place has");
+}
+
+/* Offers a packet of the plan in an edition, with so many bytes altered in each of its rows; answers what the library does. */
+static uint64_t offer_packet(struct archive *a, size_t k, uint32_t number, unsigned edition, unsigned wrong)
 {
     static uint8_t content[2000], sent[BH_LARGEST_PACKET];
     size_t n = plan[k].count * (size_t)(plan[k].protection ? plan[k].slot / BH_ROW * BH_ROW_INFO : plan[k].slot);
     for (size_t i = 0; i < n; i++)
         content[i] = (uint8_t)(i * i + k);
-    uint64_t packed = bh_pack(content, n, plan[k].resource, plan[k].type, 0, plan[k].protection, 1, plan[k].slot, number, sent, sizeof sent);
+    uint64_t packed = bh_pack_as(content, n, plan[k].resource, plan[k].type, 0, plan[k].protection, 1, plan[k].slot, (uint16_t)edition, number, sent, sizeof sent);
     if (bh_number(packed) != BH_ACCEPTED)
         fail("a packet of the plan cannot be made");
     uint32_t altered = 0;
@@ -227,6 +240,7 @@ static uint64_t offer_packet(struct archive *a, size_t k, uint32_t number, unsig
     uint64_t answer = bh_offer(a->record, BH_RECORD, a->store, a->store_size, sent, (size_t)bh_value(packed));
     if (bh_number(answer) == BH_ACCEPTED && bh_mended(answer) != altered)
         fault("another number of bytes mended than were altered");
+    judge_edition(a, k, edition, answer);
     return answer;
 }
 
@@ -238,7 +252,7 @@ static void count_offer(struct archive *a, int place, uint64_t answer)
 
 static void store_packet(struct archive *a, size_t k, uint32_t number)
 {
-    uint64_t answer = offer_packet(a, k, number, number);
+    uint64_t answer = offer_packet(a, k, number, plan[k].edition, number);
     if (bh_number(answer) != BH_ACCEPTED || bh_is_repeat(answer))
         fail("a packet of the sound archive was not stored");
     count_offer(a, (int)k, answer);
@@ -257,7 +271,7 @@ static void make_settled(void)
     struct archive a = {0};
     point_into(&a, fresh, SMALL_STORE);
     for (size_t k = 0; k < PLANNED; k++) {
-        if (bh_open(a.record, BH_RECORD, a.store, a.store_size, plan[k].resource, plan[k].type, 0, plan[k].count, plan[k].protection, 1, plan[k].slot) != BH_ACCEPTED)
+        if (bh_open_as(a.record, BH_RECORD, a.store, a.store_size, plan[k].resource, plan[k].type, 0, plan[k].count, plan[k].protection, 1, plan[k].slot, plan[k].edition) != BH_ACCEPTED)
             fail("a place of the sound archive was refused");
         for (uint32_t number = 0; number < plan[k].count; number += 2)
             store_packet(&a, k, number);
@@ -281,6 +295,13 @@ static void keep_slot(struct archive *a, struct bh_place p, uint32_t number)
     settle(a);
 }
 
+/* A record as it was before editions: of each place its first bytes. */
+static void shorten(uint8_t *to, const uint8_t *record)
+{
+    for (int i = 0; i < BH_PLACES; i++)
+        memmove(to + OLD_PLACE * i, record + BH_PLACE * i, OLD_PLACE);
+}
+
 /* and one more of each place is in the journal */
 static void make_whole(void)
 {
@@ -296,14 +317,15 @@ static void make_whole(void)
         if (k != 0)
             commit(&a);
     }
-    memcpy(whole[0], archive_magic, sizeof archive_magic);
-    put_number(whole[0] + AT_VERSION, 4, 1);
-    put_number(whole[0] + AT_STORE_SIZE, 8, SMALL_STORE);
-    memcpy(whole[0] + OLD_RECORDS, a.record, BH_RECORD);
-    memcpy(whole[0] + OLD_STORE, a.store, SMALL_STORE);
-    whole_size[0] = OLD_STORE + SMALL_STORE;
+    uint8_t *old = whole[VERSION_1];
+    memcpy(old, archive_magic, sizeof archive_magic);
+    put_number(old + AT_VERSION, 4, 1);
+    put_number(old + AT_STORE_SIZE, 8, SMALL_STORE);
+    shorten(old + OLD_RECORDS, a.record);
+    memcpy(old + OLD_STORE, a.store, SMALL_STORE);
+    whole_size[VERSION_1] = OLD_STORE + SMALL_STORE;
     close_archive(&a);
-    whole_size[1] = take_up(whole[1]);
+    whole_size[USUAL] = take_up(whole[USUAL]);
     point_into(&parts, image, SMALL_STORE);
 }
 
@@ -332,7 +354,7 @@ static uint8_t *some_change(void)
 static uint64_t some_number(void)
 {
     const uint64_t journal = (uint64_t)(parts.journal - image), store = (uint64_t)(parts.store - image);
-    const uint64_t edges[] = {0, 1, BH_RECORD, HEAD, STATE, AT_STATES, AT_STATES + PAGE, AT_CHECKS, journal, store, parts.size, parts.journal_size, SMALL_STORE,
+    const uint64_t edges[] = {0, 1, OLD_RECORD, BH_RECORD, HEAD, STATE, AT_STATES, AT_STATES + PAGE, AT_CHECKS, journal, store, parts.size, parts.journal_size, SMALL_STORE,
                               BH_USABLE_STORE, UINT32_MAX, (uint64_t)1 << 32, (uint64_t)1 << 63, UINT64_MAX};
     uint64_t edge = edges[pick() % (sizeof edges / sizeof *edges)];
     unsigned way = pick() % 8;
@@ -340,47 +362,53 @@ static uint64_t some_number(void)
 }
 
 /* where bytes are altered: mostly where something is looked at */
-static uint8_t *some_place(int version)
+static uint8_t *some_place(enum form form)
 {
     const struct {
         size_t at, n;
-    } old[] = {{0, 24}, {OLD_RECORDS, 2 * BH_RECORD}, {OLD_STORE, SMALL_STORE - 8}},
+    } old[] = {{0, 24}, {OLD_RECORDS, 2 * OLD_RECORD}, {OLD_STORE, SMALL_STORE - 8}},
       now[] = {{0, HEAD}, {AT_STATES, AT_COUNTERS}, {AT_STATES, STATE}, {AT_STATES + PAGE, STATE}, {AT_CHECKS, SMALL_STORE / UNIT * 4},
                {(size_t)(parts.store - image), SMALL_STORE - 8}};
     unsigned which = pick(), at = wide();
-    if (version == 1)
+    if (form == VERSION_1)
         return image + old[which % 3].at + at % old[which % 3].n;
     return image + now[which % 6].at + at % now[which % 6].n;
 }
 
-static uint8_t *some_record(int version)
+/* a state: one of the two copies, or the one that ends a change */
+static uint8_t *some_state(void)
 {
     unsigned which = pick() % 3;
     uint8_t *part = some_change();
-    if (version == 1)
-        return image + OLD_RECORDS + which % 2 * BH_RECORD;
     if (which < 2)
-        return image + AT_STATES + which * PAGE + AT_RECORD;
-    /* the state ends its change */
+        return image + AT_STATES + which * PAGE;
     part = change_behind(part) == NULL ? part : change_behind(part);
-    return part - parts.journal < CHANGE_HEAD + STATE ? parts.record : part - STATE + AT_RECORD;
+    return part - parts.journal < CHANGE_HEAD + STATE ? parts.state : part - STATE;
 }
 
-static void alter_place(int version)
+static void alter_record_length(void)
+{
+    unsigned way = pick() % 4;
+    put_number(some_state() + AT_RECORD_LENGTH, 4, way == 0 ? some_number() : way == 1 ? OLD_RECORD : way == 2 ? BH_RECORD : BH_RECORD + 16);
+}
+
+/* the edition has a place's last two bytes, in a record that has it */
+static void alter_place(enum form form)
 {
     static const struct {
         uint8_t at, n;
-    } fields[] = {{0, 2}, {2, 1}, {3, 1}, {4, 4}, {8, 1}, {9, 1}, {10, 2}, {12, 4}};
-    unsigned which = pick() % 8, place = pick() % BH_PLACES, way = pick() % 4;
-    uint8_t *field = some_record(version) + 16 * place + fields[which].at;
+    } fields[] = {{0, 2}, {2, 1}, {3, 1}, {4, 4}, {8, 1}, {9, 1}, {10, 2}, {12, 4}, {16, 2}};
+    unsigned which = pick() % (form == USUAL ? 9 : 8), place = pick() % BH_PLACES, way = pick() % 4;
+    uint8_t *record = form == VERSION_1 ? image + OLD_RECORDS + pick() % 2 * OLD_RECORD : some_state() + AT_RECORD;
+    uint8_t *field = record + (form == USUAL ? BH_PLACE : OLD_PLACE) * place + fields[which].at;
     put_number(field, fields[which].n, way == 0 ? some_number() : number_at(field, fields[which].n) + (uint64_t)(int64_t)(int8_t)pick());
 }
 
 /* the length of a slot, as the places were before anything was altered */
-static void alter_slot(int version)
+static void alter_slot(enum form form)
 {
-    struct bh_place p = place_of(whole[0] + OLD_RECORDS, (int)(pick() % PLANNED));
-    uint8_t *store = version == 1 ? image + OLD_STORE : parts.store;
+    struct bh_place p = place_of(whole[USUAL] + AT_STATES + AT_RECORD, (int)(pick() % PLANNED));
+    uint8_t *store = form == VERSION_1 ? image + OLD_STORE : parts.store;
     if (p.resource != 0)
         put_number(slot_of(store, p, pick() % p.count), 2, some_number());
 }
@@ -448,33 +476,35 @@ static void add_change(void)
 }
 
 /* the file's length, by itself or with the store's: the parts before the store stay where they are */
-static void alter_length(int version)
+static void alter_length(enum form form)
 {
     unsigned way = pick() % 8;
     if (way > 2) {
         uint64_t n = way < 5 ? pick() : way == 5 ? wide() % 40000 : SMALL_STORE - 128 + pick();
         put_number(image + AT_STORE_SIZE, 8, n);
-        size = version == 1 ? OLD_STORE + n : image_size(n);
+        size = form == VERSION_1 ? OLD_STORE + n : image_size(n);
         return;
     }
     size_t least = pick(), most = ROOM - least;
     size = way == 0 ? wide() : way == 1 && size > least ? size - least : way == 2 && size < most ? size + least : least;
 }
 
-static void alter(int version)
+static void alter(enum form form)
 {
-    unsigned way = pick() % 16;
+    unsigned way = pick() % 17;
     if (way == 0)
-        alter_length(version);
+        alter_length(form);
     else if (way < 4)
-        *some_place(version) ^= (uint8_t)pick();
+        *some_place(form) ^= (uint8_t)pick();
     else if (way == 4)
-        alter_slot(version);
+        alter_slot(form);
     else if (way < 7)
-        put_number(some_place(version), way == 5 ? 4 : 8, some_number());
-    else if (way < 10 || version == 1)
-        alter_place(version);
-    else if (way < 13)
+        put_number(some_place(form), way == 5 ? 4 : 8, some_number());
+    else if (way < 10 || form == VERSION_1)
+        alter_place(form);
+    else if (way == 10)
+        alter_record_length();
+    else if (way < 14)
         alter_change();
     else
         add_change();
@@ -499,6 +529,23 @@ static void make_right(int within)
             seal(head + CHANGE_HEAD + n - STATE);
         put_number(head + AT_CHANGE_CHECK, 4, bh_crc32(head + AT_CHANGE_SIZE, CHANGE_HEAD - AT_CHANGE_SIZE + n));
     }
+}
+
+/* the usual archive as it was before editions, in its states and in the changes of its journal */
+static void make_narrow(void)
+{
+    memcpy(image, whole[USUAL], whole_size[USUAL]);
+    uint8_t *states[8] = {image + AT_STATES, image + AT_STATES + PAGE};
+    size_t n = 2;
+    for (uint8_t *head = parts.journal; n < 8 && (head = change_behind(head)) != NULL;)
+        states[n++] = head - STATE;
+    for (size_t k = 0; k < n; k++) {
+        shorten(states[k] + AT_RECORD, states[k] + AT_RECORD);
+        memset(states[k] + AT_RECORD + OLD_RECORD, 0, BH_RECORD - OLD_RECORD);
+        put_number(states[k] + AT_RECORD_LENGTH, 4, OLD_RECORD);
+    }
+    make_right(1);
+    memcpy(whole[BEFORE_EDITIONS], image, whole_size[BEFORE_EDITIONS] = whole_size[USUAL]);
 }
 
 /* ---- what is done with an archive, and judged */
@@ -564,6 +611,8 @@ static void look_at(struct archive *a, int mend, int keep_it)
             continue;
         if (find_place(a->record, p.resource, p.type) != i)
             fault("two places of one resource and type");
+        if (p.edition != 2 && (p.edition != 1 || older(a) != NULL))
+            fault("an edition that there is not, or was not");
         if (whole_length(a->store, p) > joined_length(a->store, p))
             fault("a file longer than what came");
         look_at_slots(a, p, mend, keep_it);
@@ -572,23 +621,31 @@ static void look_at(struct archive *a, int mend, int keep_it)
         fault("looking changed the archive");
 }
 
-/* What offer does with every packet of the plan; answers whether something has to be committed, if only what was counted. */
-static int offer_all(struct archive *a, unsigned wrong)
+/* What offer does with one packet of the plan; answers whether something has to be committed, if only what was counted. */
+static int offer_one(struct archive *a, size_t k, uint32_t number, unsigned edition, unsigned wrong)
+{
+    uint64_t answer = offer_packet(a, k, number, edition, wrong);
+    int place = find_place(a->record, plan[k].resource, plan[k].type);
+    if (bh_number(answer) == BH_EDITION)
+        count_more(a, place, EDITIONS, 1);
+    else if (bh_number(answer) == BH_ACCEPTED)
+        count_offer(a, place, answer);
+    else
+        return 0;
+    if (bh_number(answer) == BH_ACCEPTED && !bh_is_repeat(answer)) {
+        renew_for(a, slot_of(a->store, place_of(a->record, place), number));
+        keep_slot(a, place_of(a->record, place), number);
+    }
+    return 1;
+}
+
+/* every packet of the plan, in the one edition or the other */
+static int offer_all(struct archive *a, unsigned edition, unsigned wrong)
 {
     int counted = 0;
     for (size_t k = 0; k < PLANNED; k++)
-        for (uint32_t number = 0; number < plan[k].count; number++) {
-            uint64_t answer = offer_packet(a, k, number, wrong);
-            if (bh_number(answer) != BH_ACCEPTED)
-                continue;
-            int place = find_place(a->record, plan[k].resource, plan[k].type);
-            count_offer(a, place, answer);
-            counted = 1;
-            if (bh_is_repeat(answer))
-                continue;
-            renew_for(a, slot_of(a->store, place_of(a->record, place), number));
-            keep_slot(a, place_of(a->record, place), number);
-        }
+        for (uint32_t number = 0; number < plan[k].count; number++)
+            counted |= offer_one(a, k, number, edition, wrong);
     return counted;
 }
 
@@ -609,7 +666,7 @@ static void write_to(struct archive *a, unsigned way)
     look_at(a, 0, 0);
     if (way & 1)
         look_at(a, 1, 1);
-    int counted = way & 2 ? offer_all(a, way % 9) : 0;
+    int counted = way & 2 ? offer_all(a, 1 + way / 32 % 2, way % 9) : 0;
     if (way & 4) {
         count_more(a, (int)(way / 8 % BH_PLACES), REPEATED, way);
         commit(a);
@@ -659,7 +716,11 @@ static void use_image(unsigned way)
         same_file_as(image, "what was refused was changed");
         return;
     }
+    int was_older = older(a) != NULL;
+    carried_over = 0;
     write_to(a, way);
+    if (carried_over != (was_older && older(a) == NULL))
+        fault("carried over without a word, or said more than once");
     if (a->version != VERSION) {
         close_archive(a);
         same_file_as(image, "an archive of version 1 was changed though nothing in it was");
@@ -677,18 +738,21 @@ static void use_image(unsigned way)
 int LLVMFuzzerTestOneInput(const uint8_t *data, size_t n)
 {
     static const uint8_t nothing[1];
-    if (whole_size[1] == 0)
+    static const enum form forms[] = {VERSION_1, BEFORE_EDITIONS, USUAL, USUAL};
+    if (whole_size[USUAL] == 0) {
         make_whole();
+        make_narrow();
+    }
     make_unknown(data, n);
     choice = n ? data : nothing;
     choices = n;
     unsigned way = pick(), how = pick();
-    int version = pick() % 4 == 0 ? 1 : 2;
+    enum form form = forms[pick() % 4];
     memset(image, 0, sizeof image);
-    memcpy(image, whole[version - 1], size = whole_size[version - 1]);
+    memcpy(image, whole[form], size = whole_size[form]);
     while (choices > 0)
-        alter(version);
-    if (version == 2 && how % 4 != 0)
+        alter(form);
+    if (form != VERSION_1 && how % 4 != 0)
         make_right(how % 4 != 1);
     calls++;
     use_image(way);
