@@ -151,7 +151,8 @@ static void count_packet(struct offering *o, int place, uint64_t answer, int sou
 static void give_hint(struct tally *t, struct bh_place p, uint32_t edition)
 {
     if (edition != 0 && t->hint[0] == '\0')
-        snprintf(t->hint, sizeof t->hint, "%s, is open in edition %u, and sound packets of edition %" PRIu32 " came: a place that is opened with --edition %" PRIu32 " takes them, once this one is closed",
+        snprintf(t->hint, sizeof t->hint,
+                 "%s, is open in edition %u, and sound packets of edition %" PRIu32 " came: a place that is opened with --edition %" PRIu32 " takes them, once this one is closed",
                  place_words(p.resource, p.type), p.edition, edition, edition);
 }
 

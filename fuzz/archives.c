@@ -271,7 +271,8 @@ static void make_settled(void)
     struct archive a = {0};
     point_into(&a, fresh, SMALL_STORE);
     for (size_t k = 0; k < PLANNED; k++) {
-        if (bh_open_as(a.record, BH_RECORD, a.store, a.store_size, plan[k].resource, plan[k].type, 0, plan[k].count, plan[k].protection, 1, plan[k].slot, plan[k].edition) != BH_ACCEPTED)
+        if (bh_open_as(a.record, BH_RECORD, a.store, a.store_size, plan[k].resource, plan[k].type, 0, plan[k].count, plan[k].protection, 1, plan[k].slot,
+                       plan[k].edition) != BH_ACCEPTED)
             fail("a place of the sound archive was refused");
         for (uint32_t number = 0; number < plan[k].count; number += 2)
             store_packet(&a, k, number);
@@ -683,6 +684,16 @@ static void write_to(struct archive *a, unsigned way)
         settle(a);
 }
 
+/* An archive from before is carried over by its first change, which is said once, and not before. */
+static void write_and_listen(struct archive *a, unsigned way)
+{
+    int was_older = older(a) != NULL;
+    carried_over = 0;
+    write_to(a, way);
+    if (carried_over != (was_older && older(a) == NULL))
+        fault("carried over without a word, or said more than once");
+}
+
 static void check_kept(const uint8_t *state, const uint8_t *checks, const uint8_t *store)
 {
     struct archive *a = try_to_open(0);
@@ -716,11 +727,7 @@ static void use_image(unsigned way)
         same_file_as(image, "what was refused was changed");
         return;
     }
-    int was_older = older(a) != NULL;
-    carried_over = 0;
-    write_to(a, way);
-    if (carried_over != (was_older && older(a) == NULL))
-        fault("carried over without a word, or said more than once");
+    write_and_listen(a, way);
     if (a->version != VERSION) {
         close_archive(a);
         same_file_as(image, "an archive of version 1 was changed though nothing in it was");
