@@ -1,11 +1,12 @@
 /*
- * Damaged archives, chosen by bytes: a small archive of version 1 or 2, the latter with editions in its record or from before them, with some of its bytes altered,
- * changes put into its journal, and its CRCs made right again where that is chosen, so that what stands behind them is reached. The same bytes make the same archive, whether a fuzzer or the random driver below
- * chose them.
+ * Damaged archives, chosen by bytes: a small archive of version 1 or 2, the latter with editions in its record or from before them, with some of its bytes
+ * altered, changes put into its journal, and its CRCs made right again where that is chosen, so that what stands behind them is reached. The same bytes make
+ * the same archive, whether a fuzzer or the random driver below chose them.
  *
  * It is opened to be read and to be written. What is refused stays as it was, byte for byte, with nothing beside it. Looking changes nothing, what was mended
- * is sound, and what was accepted and changed is accepted again, as it was left. A record from before editions is carried over by the first change, is told once, and
- * its places mean edition 2; a packet is taken by a place of its own edition alone. The command's own files are at work here; only its messages are not.
+ * is sound, and what was accepted and changed is accepted again, as it was left. A record from before editions is carried over by the first change, that is
+ * told once, and its places mean edition 2; a packet is taken by a place of its own edition alone. The command's own files are at work here; only its messages
+ * are not.
  */
 #define _GNU_SOURCE
 #include "command.h"
