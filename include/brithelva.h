@@ -14,12 +14,12 @@
  * a file and its description are collected side by side, in two places, and each is asked for, handed out and closed by itself. A call
  * that names a place takes the type behind the resource, as bh_pack and bh_open do.
  *
- * Editions. Two texts differ in what a sender writes where nothing is said: GY/T 268.2 (edition 1) sets the four reserved bits of a packet's
- * header to one, and M to 255 where a file is not protected; the data broadcasting text (edition 2) sets all of these to zero. Under
- * protection M is the number of rows in either. A place is opened in one edition, takes packets of that edition alone, and refuses the
- * others by 33, before it looks at a CRC; a packet that has neither way is taken by no place. A call that names no edition means 2. Of a
- * station whose edition is not known, give a packet to bh_read_fields, whose tenth number tells it, and open by bh_open_as in that edition.
- * The reading confirms no CRC, so one packet may be noise: take the edition of several, or of one that is sound.
+ * Editions. Two texts differ in what a sender writes where a packet has nothing to say. By GY/T 268.2 (edition 1) the four reserved bits of
+ * its header are one, and M is 255 where the file is not protected; by the data broadcasting text (edition 2) all of these are zero. Under
+ * protection M is the number of rows in either. A place is opened in one edition and takes packets of that edition alone; others are 33,
+ * and a packet of neither is taken by no place. A call that names no edition means 2. Where a station's edition is not known, give
+ * packets of it to bh_read_fields, whose tenth number tells it, and open by bh_open_as in that one. No CRC is looked at there, so a single
+ * packet may be noise: ask several.
  */
 #ifndef BRITHELVA_H
 #define BRITHELVA_H
@@ -100,7 +100,7 @@ struct bh_place {
     uint8_t rows; /* 0 without protection, in either edition */
     uint16_t slot;
     uint32_t start;
-    uint16_t edition; /* 1 or 2 */
+    uint16_t edition; /* 1 or 2; 0 in a place that is unused */
 };
 
 /* Place i of a record; all 0 for i above 7. In the record a place has eighteen bytes, its numbers in the order of the struct, each
@@ -149,7 +149,8 @@ uint64_t bh_read_fields(const uint8_t *packet, size_t n, uint32_t *fields, size_
  * resource 1 to 65535; type 1 (file) or 2 (description file); update 0 to 15; protection 0 or 1; rows (M) 1 to 255 with
  * protection, any without; size (P), the payload of every packet but the last: 1 to 4077, with protection a multiple of 255 up
  * to 3825; edition 1 or 2. A file has as many packets as its first packet's count field says.
- * Without protection the M that is written is the edition's, 255 or 0, whatever `rows` says.
+ * Without protection the M that is written is the edition's, 255 or 0, whatever `rows` says. The edition stands before the number: with the
+ * two exchanged a call still compiles, and writes another packet, or none.
  * Refusals, the first that applies: 17 an argument out of range; 23 n is 0 or above 16,777,216; 25 more than 1048575 packets;
  * 6 no packet has this number; 26 the packet does not fit room. */
 uint64_t bh_pack_as(const uint8_t *file, size_t n, uint16_t resource, uint8_t type, uint8_t update, uint8_t protection,
