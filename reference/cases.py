@@ -8,7 +8,7 @@ Without FILE it reads standard input. The exit status is 1 if a line says wrong.
 
 import functools, re, sys
 
-from receiver import NINE, Packer, Receiver, Refused, crc32, encode_row, house, read_description, read_fields, repair_row, write_description
+from receiver import PLACE, TEN, Packer, Receiver, Refused, crc32, encode_row, house, read_description, read_fields, repair_row, span, write_description
 
 LIMITS = {"file": 1_048_577, "store": 262_144, "held": 256, "bytes": 8_192, "out": 131_072}
 LONG, WORD, HALF, BYTE = 1 << 64, 1 << 32, 1 << 16, 1 << 8
@@ -64,7 +64,7 @@ def damaged(packet, family, seed):
 
 def numbers(words):
     """As many as there are; a missing one is 0."""
-    return [int(w) for w in words] + [0] * 9
+    return [int(w) for w in words] + [0] * 12
 
 
 def pairs(words):
@@ -111,7 +111,7 @@ class Run:
 
     def __init__(self):
         self.file, self.store, self.held, self.bytes, self.out = (bytearray() for _ in range(5))
-        self.settings, self.answer, self.packer = settings_of(0, 0, 0, 0, 0, 0), Answer(0, 0), None
+        self.settings, self.answer, self.packer = {**settings_of(0, 0, 0, 0, 0, 0), "edition": 2}, Answer(0, 0), None
 
     def do(self, line):
         words = line.split(" ")
@@ -219,14 +219,16 @@ class Run:
         self.set("held", bytes(min(numbers(words)[0], LIMITS["held"])))
 
     def do_place(self, words):
-        i, *values = numbers(words)[:9]
-        widths = [2, 1, 1, 4, 1, 1, 2, 4]
-        sixteen = b"".join((v % (1 << 8 * w)).to_bytes(w, "little") for v, w in zip(values, widths))
+        i, *values = numbers(words)
+        place = b"".join((v % (1 << 8 * width)).to_bytes(width, "little") for v, (_, width) in zip(values, PLACE))
         if i < 8:
-            overwrite(self.held, 16 * i, sixteen)
+            overwrite(self.held, span(i).start, place)
 
     def do_settings(self, words):
-        self.settings = settings_of(*numbers(words)[:6])
+        self.settings.update(settings_of(*numbers(words)[:6]))
+
+    def do_edition(self, words):
+        self.settings["edition"] = numbers(words)[0] % HALF
 
     def do_show_held(self, words):
         at, length = numbers(words)[:2]
@@ -253,6 +255,10 @@ class Run:
     def receiver(self):
         return Receiver(self.held, self.store)
 
+    def unnamed(self):
+        """The settings of a call that names no edition."""
+        return {**self.settings, "edition": 2}
+
     def house(self):
         return house(self.settings["resource"], self.settings["type"], self.settings["update"])
 
@@ -276,9 +282,9 @@ class Run:
     def do_read(self, words):
         def work():
             fields = read_fields(self.bytes)
-            if numbers(words)[0] < 9:
+            if numbers(words)[0] < len(TEN):
                 raise Refused(26)
-            overwrite(self.out, 0, b"".join(fields[name].to_bytes(4, "big") for name in NINE))
+            overwrite(self.out, 0, b"".join(fields[name].to_bytes(4, "big") for name in TEN))
         self.call(work)
 
     def do_describe(self, words):
@@ -304,16 +310,25 @@ class Run:
         self.call(work)
 
     def do_pack(self, words):
+        self.pack(self.unnamed(), words)
+
+    def do_pack_as(self, words):
         self.pack(self.settings, words)
 
     def do_pack_house(self, words):
         self.pack(self.house(), words)
 
+    def open(self, settings, words):
+        self.call(lambda: self.receiver().open(settings, numbers(words)[0] % WORD))
+
     def do_open(self, words):
-        self.call(lambda: self.receiver().open(self.settings, numbers(words)[0] % WORD))
+        self.open(self.unnamed(), words)
+
+    def do_open_as(self, words):
+        self.open(self.settings, words)
 
     def do_open_house(self, words):
-        self.call(lambda: self.receiver().open(self.house(), numbers(words)[0] % WORD))
+        self.open(self.house(), words)
 
     def do_offer(self, _):
         def work():

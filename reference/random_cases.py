@@ -8,11 +8,12 @@ import random, sys
 
 from cases import Case, Run
 from random_descriptions import Choices, Descriptions
-from receiver import GENERATOR, MARK, PLACE, header_of, place_of, read_description, up
+from receiver import GENERATOR, MARK, PLACE, PLACE_LENGTH, RECORD_LENGTH, header_of, place_at, read_description, up
 
 FIELDS = ["resource", "type", "update", "protection", "rows", "size"]
 RESOURCES = list(range(1, 12)) + [256, 65535]
 ODD_TYPES = [0, 0, 0, 0, 3, 3, 5, 6, 129, 255]
+ODD_EDITIONS = [0, 3, 255, 256, 257, 258, 513, 32769, 65535]
 
 
 def named(s):
@@ -80,12 +81,13 @@ class Writer(Choices):
         return self.any_file()
 
     def any_file(self):
-        s = {"resource": self.pick(*RESOURCES), "type": self.pick(1, 2), "update": self.below(16), "protection": self.pick(0, 1), "seed": self.below(1 << 32)}
+        s = {"resource": self.pick(*RESOURCES), "type": self.pick(1, 2), "update": self.below(16), "protection": self.pick(0, 1), "edition": self.pick(1, 2),
+             "seed": self.below(1 << 32)}
         if s["protection"]:
             s["rows"], s["size"] = self.pick(1, 2, 2, 3, 4, 5, 9), 255 * self.pick(1, 1, 1, 2, 2, 3, 15)
             s["length"] = 1 + self.below(239 * s["rows"] * self.pick(1, 1, 1, 2, 3))
         else:
-            s["rows"], s["size"] = self.pick(0, 0, 0, 7), self.pick(1, 2, 7, 8, 30, 30, 100, 100, 255, 1000, 4077)
+            s["rows"], s["size"] = self.pick(0, 0, 0, 7, 255), self.pick(1, 2, 7, 8, 30, 30, 100, 100, 255, 1000, 4077)
             s["length"] = 1 + self.below(s["size"] * self.pick(1, 3, 8, 12))
         return s
 
@@ -97,7 +99,7 @@ class Writer(Choices):
     def broken(self, s):
         """The same with one setting out of its range or at its edge."""
         wrong = {"resource": [0], "type": [0, 3, 4, 255], "update": [16, 255], "protection": [2, 3, 255], "rows": [0, 255],
-                 "size": [0, 1, 254, 256, 3825, 3826, 4077, 4078, 4080, 65535]}
+                 "size": [0, 1, 254, 256, 3825, 3826, 4077, 4078, 4080, 65535], "edition": ODD_EDITIONS}
         name = self.pick(*wrong)
         return {**s, name: self.pick(*wrong[name])}
 
@@ -106,6 +108,20 @@ class Writer(Choices):
     def say_settings(self, s):
         ranges = [65536, 256, 256, 256, 256, 65536]
         self.say("settings " + " ".join(str(self.wrapped(s[name], r)) for name, r in zip(FIELDS, ranges)))
+        self.say_edition(s["edition"])
+
+    def say_edition(self, edition):
+        """Only where it is another, since settings leave it."""
+        if self.run.settings["edition"] != edition or self.often(0.1):
+            self.say(f"edition {self.wrapped(edition, 65536)}")
+
+    def named_or_not(self, call, s):
+        """The call by its name that takes the edition; or, where that is the one meant without a name, now and then by the other, whatever is set."""
+        if s["edition"] != 2 or self.often(0.5):
+            return call + "-as"
+        if self.often(0.3):
+            self.say_edition(self.pick(1, 1, *ODD_EDITIONS))
+        return call
 
     def say_file(self, s):
         self.say(f"file {s['seed']} {s['length']}")
@@ -115,7 +131,7 @@ class Writer(Choices):
         self.say_file(s)
         self.say_settings(s)
         self.say("out 0 4095")
-        if self.call(f"pack {n}"):
+        if self.call(f"{self.named_or_not('pack', s)} {n}"):
             self.say(f"take {self.run.answer.value}")
 
     def say_header(self, **fields):
@@ -125,13 +141,15 @@ class Writer(Choices):
         self.say("put 0 " + hexes(header_of({k: full[k] % (1 << w) for k, w in widths.items()})))
 
     def header_fields(self, s):
+        """Of one of its packets, in its edition."""
+        ones = s["edition"] == 1
         return {"resource": s["resource"], "number": self.below(count_of(s)), "update": s["update"], "count": count_of(s), "type": s["type"],
-                "protection": s["protection"], "rows": s["rows"]}
+                "protection": s["protection"], "rows": s["rows"] if s["protection"] else 255 * ones, "reserved": 15 * ones}
 
     def edged(self, fields, length, times):
         """So many fields at the edge of their range, or beyond it."""
-        edges = {"resource": [0, 0, 65535], "type": [0, 0, 3, 3], "protection": [0, 1, 2, 3], "rows": [0, 1, 255], "count": [0, 1, 1048575],
-                 "number": [0, 1, 1048574, 1048575], "reserved": [0, 15], "length": [0, length + 1, length - 1], "mark": [0, MARK ^ 1]}
+        edges = {"resource": [0, 0, 65535], "type": [0, 0, 3, 3], "protection": [0, 1, 2, 3], "rows": [0, 1, 254, 255], "count": [0, 1, 1048575],
+                 "number": [0, 1, 1048574, 1048575], "reserved": [0, 1, 8, 14, 15], "length": [0, length + 1, length - 1], "mark": [0, MARK ^ 1]}
         for _ in range(times):
             name = self.pick(*edges)
             fields[name] = self.pick(*edges[name])
@@ -150,10 +168,10 @@ class Writer(Choices):
     def step_fresh(self):
         self.senders = {}
         if self.often(0.3):
-            self.say(f"held {self.pick(0, 1, 127, 129, 256)}")
+            self.say(f"held {self.pick(0, 1, 128, RECORD_LENGTH - 1, RECORD_LENGTH + 1, 256)}")
             self.any_call()
         self.say(f"store {self.below(256)} {self.pick(self.below(100), 1500, 6000, 6000, 20000, 20000, 60000, 60000)}")
-        self.say("held 128")
+        self.say(f"held {RECORD_LENGTH}")
         for _ in range(self.pick(1, 5, 5, 16)):
             self.open_well(self.sender())
 
@@ -163,16 +181,16 @@ class Writer(Choices):
 
     def open_well(self, s):
         self.say_settings(s)
-        if self.call(f"open {self.wrapped(count_of(s), 1 << 32)}"):
+        if self.call(f"{self.named_or_not('open', s)} {self.wrapped(count_of(s), 1 << 32)}"):
             self.senders[named(s)] = s
 
     def open_badly(self, s):
         self.say_settings(self.broken(s) if self.often(0.6) else s)
-        self.call(f"open {self.pick(count_of(s), 0, 1, 1048575, 1048576, 4294967295)}")
+        self.call(f"{self.pick('open', 'open-as', 'open-as')} {self.pick(count_of(s), count_of(s), 0, 1, 1048575, 1048576, 4294967295)}")
 
     def open_house(self, s):
-        s = {**s, "protection": 1, "rows": 32, "size": 255, "length": 1 + self.below(7648)}
-        self.say_settings({**s, "rows": self.below(256), "size": self.below(5000)})
+        s = {**s, "protection": 1, "rows": 32, "size": 255, "edition": 2, "length": 1 + self.below(7648)}
+        self.say_settings({**s, "rows": self.below(256), "size": self.below(5000), "edition": self.pick(1, 2, *ODD_EDITIONS)})
         if self.call(f"open-house {count_of(s)}"):
             self.senders[named(s)] = s
 
@@ -184,11 +202,12 @@ class Writer(Choices):
 
     def step_offer(self):
         s = self.any_sender()
-        s = self.pick(s, s, s, s, s, {**s, "seed": s["seed"] + 1}, {**s, "update": (s["update"] + 1) % 16}, {**s, "type": 3 - s["type"]})
+        s = self.pick(s, s, s, s, s, {**s, "seed": s["seed"] + 1}, {**s, "update": (s["update"] + 1) % 16}, {**s, "type": 3 - s["type"]},
+                      {**s, "edition": 3 - s["edition"]}, {**s, "edition": 3 - s["edition"], "seed": s["seed"] + 1})
         self.say_packet(s, self.below(count_of(s)))
         for _ in range(self.pick(0, 0, 0, 1, 1, 1, 2)):
             self.pick(self.spoil_rows, self.spoil_rows, self.spoil_each_row, self.spoil_each_row, self.spoil_row, self.spoil_bits, self.spoil_header,
-                      self.spoil_header, self.spoil_length)()
+                      self.spoil_header, self.spoil_spare, self.spoil_spare, self.spoil_length)()
         self.call("offer")
         if self.often(0.2):
             self.call("offer")
@@ -214,6 +233,42 @@ class Writer(Choices):
             if self.often(0.2):
                 self.say(f"flip {len(self.run.bytes) - 1 - self.below(4)} {1 + self.below(255)}")
                 self.call("offer")
+
+    def step_edition(self):
+        """A packet in the edition of its place, in the other one or in none; and what else may be wrong with it, too wide a payload or a damaged slot
+        among it."""
+        s = self.any_sender()
+        sent = {**s, "edition": self.pick(s["edition"], 3 - s["edition"], 3 - s["edition"]), "seed": s["seed"] + self.pick(0, 0, 0, 1)}
+        if self.often(0.2):
+            self.say(f"random {self.below(1000)} {min(18 + s['size'] + (255 if s['protection'] else 1), 4095)}")
+            self.say_header(**self.header_fields(sent))
+            self.say("seal")
+        else:
+            self.say_packet(sent, self.below(count_of(s)))
+        if self.often(0.4):
+            self.spoil_spare()
+        number = int.from_bytes(self.run.bytes[5:8].ljust(3, b"\0"), "big") >> 4
+        self.random.choices([self.offer, self.offer_spoilt, self.offer_other_update, lambda: self.offer_to_damaged_slot(s, number)], [3, 2, 1, 2])[0]()
+
+    def offer(self):
+        self.call("offer")
+
+    def offer_spoilt(self):
+        self.pick(self.spoil_row, lambda: self.say(f"flip {max(len(self.run.bytes) - 1, 0)} 1"))()
+        self.call("offer")
+
+    def offer_other_update(self):
+        self.say("flip 7 1")
+        self.say("seal")
+        self.call("offer")
+
+    def offer_to_damaged_slot(self, s, number):
+        at = self.slot_at(s, number)
+        before = self.run.store[at : at + 2]
+        self.say(f"poke {at} ff ff")
+        self.call("offer")
+        if before:
+            self.say(f"poke {at} {hexes(before)}")
 
     def spoil_rows(self):
         self.say(f"damage {self.pick(0, 1, 2, 3, 4, 4, 5)} {self.below(1 << 32)}")
@@ -247,6 +302,14 @@ class Writer(Choices):
 
     def spoil_header(self):
         self.say(f"flip {self.below(14)} {1 << self.below(8)}")
+        if self.often(0.8):
+            self.say("seal")
+
+    def spoil_spare(self):
+        """Into the other edition with protection, or without it; or only M, a part of M, or some of the reserved bits, which is neither edition."""
+        for line in self.pick(["flip 13 15"], ["flip 12 15", "flip 13 255"], ["flip 12 15", "flip 13 240"], [f"flip 13 {16 + 16 * self.below(15)}"],
+                              [f"flip 13 {1 + self.below(14)}"], [f"flip 13 {1 + self.below(14)}"]):
+            self.say(line)
         if self.often(0.8):
             self.say("seal")
 
@@ -287,7 +350,7 @@ class Writer(Choices):
         s = self.any_sender()
         count = count_of(s)
         self.say_file(s)
-        self.say_settings(s)
+        self.say_settings({**s, "edition": 3 - s["edition"]} if self.often(0.1) else s)
         step, turns = self.pick(1, 1, 7, 11, 13), self.pick(count, count, count + 2, count // 2)
         self.call(f"send {self.pick(count, count, count, count, 0, count + 1)} {step} {turns} {self.below(6)} {self.pick(0, 0, 1)} {self.below(1 << 32)}")
         self.call(f"status {words(s)}")
@@ -300,7 +363,7 @@ class Writer(Choices):
     def slot_at(self, s, k):
         """Where slot k of the sender's place begins, or 0 where nothing holds it."""
         for i in range(8):
-            p = place_of(self.run.held[16 * i : 16 * i + 16].ljust(16, b"\0"))
+            p = place_at(self.run.held, i)
             if named(p) == named(s):
                 return p["start"] + k * (p["slot"] + 2)
         return 0
@@ -333,18 +396,31 @@ class Writer(Choices):
     def step_place(self):
         """A place altered, some calls, and the place as it was."""
         i = self.below(8)
-        before = place_of(self.run.held[16 * i : 16 * i + 16].ljust(16, b"\0"))
+        before = place_at(self.run.held, i)
         edges = [0, 1, 2, 3, 15, 16, 253, 254, 255, 256, 510, 3825, 4077, 4080, 65535, 1048575, 1048576, 16777216, 4294967295]
         near, name = self.pick("start", "count", "slot"), self.pick(*before)
         resource, kind = self.random.choice(sorted(self.senders)) if self.senders else (1, 1)
         altered = self.pick({**before, name: self.pick(*edges)}, {**before, near: max(before[near] + self.pick(-1, 1), 0)},
                             {**before, "resource": resource, "type": kind}, {**before, "resource": resource, "type": 3 - kind},
-                            place_of(bytes(self.below(256) for _ in range(16))), place_of(self.run.held[:16].ljust(16, b"\0")))
+                            place_at(bytes(self.below(256) for _ in range(PLACE_LENGTH)), 0), place_at(self.run.held, 0))
         self.say_place(i, altered)
         for _ in range(self.pick(1, 2)):
             self.any_call()
         if altered["resource"] or self.often(0.5):
             self.say_place(i, before)
+
+    def step_held_edition(self):
+        """A place in use whose edition is another or none, some calls, and the place as it was."""
+        used = [i for i in range(8) if place_at(self.run.held, i)["resource"]]
+        if not used:
+            return self.step_open()
+        i = self.pick(*used)
+        before = place_at(self.run.held, i)
+        self.say_place(i, {**before, "edition": self.pick(3 - before["edition"] % 3, *ODD_EDITIONS)})
+        for _ in range(self.pick(1, 2, 3)):
+            self.any_call()
+        self.say_place(i, before)
+        self.refresh_senders()
 
     def say_place(self, i, p):
         self.say(f"place {i} " + " ".join(str(p[name]) for name, _ in PLACE))
@@ -352,12 +428,12 @@ class Writer(Choices):
     def any_call(self):
         """A call that takes the record, with whatever is at hand."""
         it = self.resource_and_type()
-        if self.call(self.pick("offer", f"status {it}", f"hand {it} 5", f"close {it}", "open 1", "open-house 1")):
+        if self.call(self.pick("offer", f"status {it}", f"hand {it} 5", f"close {it}", "open 1", "open-as 1", "open-house 1")):
             self.refresh_senders()
 
     def refresh_senders(self):
         """After a call that may have opened or closed: only what is still held counts."""
-        held = {named(place_of(self.run.held[16 * i : 16 * i + 16].ljust(16, b"\0"))) for i in range(8)}
+        held = {named(place_at(self.run.held, i)) for i in range(8)}
         self.senders = {it: s for it, s in self.senders.items() if it in held}
 
     # ---- steps: packing, fields, rows and the CRC
@@ -372,7 +448,7 @@ class Writer(Choices):
         self.say_settings(self.broken(s) if self.often(0.3) else s)
         self.say(f"out {self.below(256)} {self.pick(0, 18, 19, 272, 273, 4094, 4095, 4095, 4095, 5000)}")
         n = self.pick(0, self.below(count_of(s) + 1), self.below(count_of(s) + 1), count_of(s), 4294967295)
-        self.call(f"{self.pick('pack', 'pack', 'pack', 'pack-house')} {n}")
+        self.call(f"{self.pick('pack', 'pack-as', 'pack-as', 'pack-as', 'pack-house')} {n}")
         self.some_bytes_of_out()
 
     def step_pack_many(self):
@@ -380,17 +456,22 @@ class Writer(Choices):
         self.say(f"file {self.below(2)} {self.pick(1048575, 1048576, 1048577)}")
         self.say("settings 5 1 3 0 0 1")
         self.say("out 0 19")
-        self.call(f"pack {self.pick(0, 1048574, 1048575, 1048577)}")
+        self.call(f"{self.pick('pack', 'pack-as')} {self.pick(0, 1048574, 1048575, 1048577)}")
         self.say("file 0 0")
 
     def step_read(self):
         s = self.sender()
         length = 18 + self.payload_length(s)
         self.say(f"random {self.below(1000)} {length}")
-        self.say_header(**self.edged(self.header_fields(s), length, self.pick(0, 1, 1, 1, 2, 3, 5)))
-        self.say(f"out {self.below(256)} {self.pick(0, 35, 36, 36, 40)}")
-        self.call(f"read {self.pick(9, 9, 9, 10, 8, 0)}")
+        stream = {"type": 0, "count": 0} if self.often(0.3) else {}
+        self.say_header(**self.edged({**self.header_fields(s), **stream}, length, self.pick(0, 0, 0, 1, 1, 1, 2, 3, 5)))
+        self.say(f"out {self.below(256)} {self.pick(0, 36, 39, 40, 40, 44)}")
+        self.call(f"read {self.pick(10, 10, 10, 11, 9, 8, 0)}")
         self.some_bytes_of_out()
+        for _ in range(self.pick(0, 1, 2)):
+            self.spoil_spare()
+            self.call("read 10")
+            self.some_bytes_of_out()
 
     def step_encode(self):
         self.say(f"random {self.below(1 << 32)} {self.pick(239, 239, 239, 238, 240, 0)}")
@@ -477,16 +558,16 @@ class Writer(Choices):
 
     # ---- all together
 
-    WEIGHTS = {"fresh": 3, "open": 16, "close": 5, "offer": 26, "offer_made": 7, "offer_noise": 3, "mend": 6, "status": 5, "hand": 7, "complete": 6,
-               "poke": 5, "fill_slots": 3, "place": 6, "pack": 8, "pack_many": 1, "read": 9, "encode": 2, "repair": 5, "crc": 2, "describe": 12,
-               "edit_lines": 2, "compose": 8}
+    WEIGHTS = {"fresh": 3, "open": 16, "close": 5, "offer": 26, "offer_made": 7, "offer_noise": 3, "edition": 14, "mend": 6, "status": 5, "hand": 7,
+               "complete": 6, "poke": 5, "fill_slots": 3, "place": 6, "held_edition": 5, "pack": 8, "pack_many": 1, "read": 12, "encode": 2, "repair": 5, "crc": 2,
+               "describe": 12, "edit_lines": 2, "compose": 8}
 
     def look(self):
         """Now and then all that is at hand, or a part of it."""
         if self.often(0.1):
             self.case(self.pick("store", "held", "out", "packet"))
         if self.often(0.03):
-            self.say(self.pick("show-held 0 128", f"show-store {self.below(3000)} 100"))
+            self.say(self.pick(f"show-held 0 {RECORD_LENGTH}", f"show-store {self.below(3000)} 100"))
             self.case("out")
 
     def write(self, count):

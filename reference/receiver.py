@@ -7,7 +7,7 @@ description are taken by regular expressions, its texts and dates by the standar
 import datetime, functools, itertools, re
 
 LIMIT = 16_777_216
-REFUSALS = (*range(1, 27), 29, 30)
+REFUSALS = (*range(1, 27), 29, 30, 33)
 GENERATOR = [1, 59, 13, 104, 189, 68, 209, 30, 8, 163, 65, 41, 229, 98, 50, 36, 59]
 
 
@@ -199,7 +199,7 @@ def repair_rows(payload):
 # ---- fields, section 2: one long number, cut into its fields
 
 WIDTHS = [("mark", 24), ("resource", 16), ("number", 20), ("update", 4), ("length", 12), ("count", 20), ("type", 2), ("protection", 2), ("rows", 8), ("reserved", 4)]
-NINE = ["resource", "number", "update", "length", "count", "type", "protection", "rows", "reserved"]
+TEN = ["resource", "number", "update", "length", "count", "type", "protection", "rows", "reserved", "edition"]
 MARK = 0x495969
 
 
@@ -218,6 +218,23 @@ def header_of(fields):
     return bits.to_bytes(14, "big")
 
 
+def spare_ones(protection):
+    """All of the header's last bits that say nothing, as ones: the reserved four, and without protection M before them (document 02, R-9)."""
+    return (1 << (4 if protection else 12)) - 1
+
+
+def in_edition(header, protection, edition):
+    """The header with its spare bits as the edition has them: all one in edition 1, all zero in edition 2."""
+    whole, ones = int.from_bytes(header, "big"), spare_ones(protection)
+    return (whole | ones if edition == 1 else whole & ~ones).to_bytes(14, "big")
+
+
+def edition_of(packet, protection):
+    """1 or 2, or 0 for neither."""
+    whole, ones = int.from_bytes(packet[:14], "big"), spare_ones(protection)
+    return {ones: 1, 0: 2}.get(whole & ones, 0)
+
+
 def number_fits(f):
     if f["type"] == 0:
         return f["count"] == 0 and f["number"] != 1048575
@@ -225,7 +242,7 @@ def number_fits(f):
 
 
 def read_fields(packet):
-    """The fields as sent, or the first refusal of 1 to 8."""
+    """The fields as sent and the packet's edition, or the first refusal of 1 to 8."""
     if len(packet) < 19:
         raise Refused(1)
     f = fields_of(packet)
@@ -243,7 +260,7 @@ def read_fields(packet):
         raise Refused(7)
     if f["resource"] == 0:
         raise Refused(8)
-    return f
+    return {**f, "edition": edition_of(packet, f["protection"])}
 
 
 # ---- packing, sections 3 and 4
@@ -257,11 +274,11 @@ def size_fits(protection, size):
 def settings_fit(s):
     """M is not judged without protection."""
     return (1 <= s["resource"] <= 65535 and s["type"] in (1, 2) and 0 <= s["update"] <= 15 and s["protection"] in (0, 1)
-            and (s["protection"] == 0 or 1 <= s["rows"] <= 255) and size_fits(s["protection"], s["size"]))
+            and (s["protection"] == 0 or 1 <= s["rows"] <= 255) and size_fits(s["protection"], s["size"]) and s["edition"] in (1, 2))
 
 
 def house(resource, kind, update):
-    return {"resource": resource, "type": kind, "update": update, "protection": 1, "rows": 32, "size": 255}
+    return {"resource": resource, "type": kind, "update": update, "protection": 1, "rows": 32, "size": 255, "edition": 2}
 
 
 def up(a, b):
@@ -316,20 +333,28 @@ class Packer:
         if 18 + min(size, length - n * size) > room:
             raise Refused(26)
         payload = self.sent(m, n * size, min((n + 1) * size, length))
-        packet = header_of({**s, "mark": MARK, "number": n, "length": 18 + len(payload), "count": count, "rows": m, "reserved": 0}) + payload
+        header = header_of({**s, "mark": MARK, "number": n, "length": 18 + len(payload), "count": count, "rows": m, "reserved": 0})
+        packet = in_edition(header, m, s["edition"]) + payload
         return packet + crc32(packet).to_bytes(4, "big")
 
 
-# ---- the record, section 5: 128 bytes, a place in sixteen of them, numbers little-endian. A place is in use if its resource is not 0
+# ---- the record, section 5: eight places of equal length, one behind the other, numbers little-endian. A place is in use if its resource is not 0
 
-PLACE = [("resource", 2), ("type", 1), ("update", 1), ("count", 4), ("protection", 1), ("rows", 1), ("slot", 2), ("start", 4)]
+PLACE = [("resource", 2), ("type", 1), ("update", 1), ("count", 4), ("protection", 1), ("rows", 1), ("slot", 2), ("start", 4), ("edition", 2)]
+PLACE_LENGTH = sum(width for _, width in PLACE)
+RECORD_LENGTH = 8 * PLACE_LENGTH
 
 
-def place_of(sixteen):
-    at, p = 0, {}
+def span(i):
+    """Where place i stands in the record."""
+    return slice(PLACE_LENGTH * i, PLACE_LENGTH * (i + 1))
+
+
+def place_at(held, i):
+    """Place i; what a shorter record lacks is 0."""
+    left, p = iter(held[span(i)].ljust(PLACE_LENGTH, b"\0")), {}
     for name, width in PLACE:
-        p[name] = int.from_bytes(sixteen[at : at + width], "little")
-        at += width
+        p[name] = int.from_bytes(bytes(itertools.islice(left, width)), "little")
     return p
 
 
@@ -359,9 +384,9 @@ def place_fits(p, usable):
 @functools.lru_cache(maxsize=64)
 def places_in_use(held, usable):
     """The places in use by their index, or None for a record that is refused. The caller changes nothing in them."""
-    if len(held) != 128:
+    if len(held) != RECORD_LENGTH:
         return None
-    places = {i: place_of(held[16 * i : 16 * i + 16]) for i in range(8)}
+    places = {i: place_at(held, i) for i in range(8)}
     used = {i: p for i, p in places.items() if p["resource"]}
     if not all(place_fits(p, usable) for p in used.values()):
         return None
@@ -405,7 +430,7 @@ class Receiver:
         for at in range(place["start"], end_of(place), place["slot"] + 2):
             self.store[at : at + 2] = b"\0\0"
         i = min(set(range(8)) - set(used))
-        self.held[16 * i : 16 * i + 16] = bytes_of(place)
+        self.held[span(i)] = bytes_of(place)
 
     def lowest_start(self, place, others):
         """0 or the end of another place: below the lowest free start something is in the way, and it ends there."""
@@ -433,6 +458,8 @@ class Receiver:
         _, p = self.find(*named(f))
         if any(f[k] != p[k] for k in ("update", "count", "protection")) or (f["protection"] == 1 and f["rows"] != p["rows"]):
             raise Refused(11)
+        if f["edition"] != p["edition"]:
+            raise Refused(33)
         payload, mended = bytes(packet[14:-4]), 0
         if len(payload) > p["slot"]:
             raise Refused(12)
@@ -474,7 +501,7 @@ class Receiver:
 
     def close(self, resource, kind):
         i, _ = self.find(resource, kind)
-        self.held[16 * i : 16 * i + 16] = bytes(16)
+        self.held[span(i)] = bytes(PLACE_LENGTH)
 
 
 def undo_tables(sent, m, length):

@@ -265,7 +265,7 @@ def test_mended_in_a_packet():
     s = settings(9, 2, 1, 1, 15, 3825)
     one, two = packets_of(s, some(2 * 239 * 15))
     other, _ = packets_of(s, some(2 * 239 * 15))
-    record = r.Receiver(bytearray(128), bytearray(8000))
+    record = r.Receiver(bytearray(r.RECORD_LENGTH), bytearray(8000))
     record.open(s, 2)
     refused(14, 0, record.offer, altered(spoilt(one, [8] * 15), [3842]))
     refused(13, 14, record.offer, spoilt(one, [8] * 14 + [12]))
@@ -281,7 +281,7 @@ def test_mended_in_a_packet():
 def test_mended_without_protection():
     """Also where the payload is a row that could be mended."""
     s = settings(9, 1, 1, 0, 0, 255)
-    record = r.Receiver(bytearray(128), bytearray(257))
+    record = r.Receiver(bytearray(r.RECORD_LENGTH), bytearray(257))
     record.open(s, 1)
     row = altered(coded_row(), range(8))
     same([record.offer(packets_of(s, row)[0]) for _ in range(2)], [("Stored", 0), ("Repeat", 0)])
@@ -291,8 +291,8 @@ def test_mended_without_protection():
 # ---- headers and packing
 
 
-def settings(resource, kind, update, protection, rows, size):
-    return {"resource": resource, "type": kind, "update": update, "protection": protection, "rows": rows, "size": size}
+def settings(resource, kind, update, protection, rows, size, edition=2):
+    return {"resource": resource, "type": kind, "update": update, "protection": protection, "rows": rows, "size": size, "edition": edition}
 
 
 def test_headers():
@@ -300,12 +300,129 @@ def test_headers():
     same(nine[:14].hex(" "), "49 59 69 00 05 00 00 03 01 30 00 01 40 00")
     ten = r.Packer(some(239 * 3)).packet(settings(0x1234, 2, 15, 1, 32, 255), 2, 4095)
     same(ten[:14].hex(" "), "49 59 69 12 34 00 00 2f 11 10 00 20 92 00")
-    fields = {"resource": 0x1234, "number": 2, "update": 15, "length": 273, "count": 3, "type": 2, "protection": 1, "rows": 32, "reserved": 0}
+    fields = {"resource": 0x1234, "number": 2, "update": 15, "length": 273, "count": 3, "type": 2, "protection": 1, "rows": 32, "reserved": 0, "edition": 2}
     head = r.header_of({**fields, "mark": r.MARK})
     same(head.hex(" "), "49 59 69 12 34 00 00 2f 11 10 00 03 92 00")
     read = r.read_fields(head + bytes(259))
-    same({k: read[k] for k in r.NINE}, fields)
+    same({k: read[k] for k in r.TEN}, fields)
     refused(6, 0, r.read_fields, r.header_of({**fields, "mark": r.MARK, "number": 3}) + bytes(259))
+
+
+# ---- editions, document 02, R-9
+
+ODD_EDITIONS = (0, 3, 4, 255, 256, 257, 258, 65535)
+
+
+def edition_by_words(protection, rows, reserved):
+    """As the request says it, sentence by sentence."""
+    if reserved == 15 and (rows == 255 or protection == 1):
+        return 1
+    if reserved == 0 and (rows == 0 or protection == 1):
+        return 2
+    return 0
+
+
+def test_editions_read():
+    """Every M and every value of the reserved bits, with protection and without, of files, descriptions and streams."""
+    fields = {"mark": r.MARK, "resource": 5, "number": 0, "update": 3, "length": 273}
+    for kind, protection, rows in itertools.product(range(3), range(2), range(256)):
+        if protection and not rows:
+            continue
+        told = []
+        for reserved in range(16):
+            head = r.header_of({**fields, "count": kind != 0, "type": kind, "protection": protection, "rows": rows, "reserved": reserved})
+            told.append(r.read_fields(head + bytes(259)))
+        same([(f["edition"], f["rows"], f["reserved"]) for f in told], [(edition_by_words(protection, rows, n), rows, n) for n in range(16)])
+
+
+def test_editions_packed():
+    """The two editions of a packet differ in the spare bits and in the CRC alone; without protection M counts for nothing."""
+    nine = r.Packer(b"\7").packet(settings(5, 1, 3, 0, 7, 1, 1), 0, 19)
+    same(nine[:14].hex(" "), "49 59 69 00 05 00 00 03 01 30 00 01 4f ff")
+    ten = r.Packer(some(239 * 3)).packet(settings(0x1234, 2, 15, 1, 32, 255, 1), 2, 4095)
+    same(ten[:14].hex(" "), "49 59 69 12 34 00 00 2f 11 10 00 20 92 0f")
+    for s, spare in ((settings(9, 1, 1, 0, 0, 50), "0fff"), (settings(9, 1, 1, 0, 255, 50), "0fff"), (settings(9, 2, 1, 1, 3, 510), "000f"), (settings(9, 2, 1, 1, 255, 255), "000f")):
+        file = some(300)
+        for one, two in zip(packets_of({**s, "edition": 1}, file), packets_of(s, file)):
+            same(bytes(a ^ b for a, b in zip(one[:-4], two[:-4])).hex(), "00" * 12 + spare + "00" * (len(two) - 18))
+            same([crc_by_mirror(p[:-4]) == int.from_bytes(p[-4:], "big") for p in (one, two)], [True, True])
+            same([r.read_fields(p)["edition"] for p in (one, two)], [1, 2])
+    same(r.house(9, 1, 2)["edition"], 2)
+    for edition in ODD_EDITIONS:
+        refused(17, 0, r.Packer(b"").packet, settings(9, 1, 1, 0, 0, 50, edition), 9, 0)
+
+
+def test_editions_held():
+    """An unprotected place holds M 0 in either edition; a place in use with no edition spoils the record for every call, an unused one does not."""
+    same((r.PLACE_LENGTH, r.RECORD_LENGTH), (18, 144))
+    for edition, rows in itertools.product((1, 2), (0, 7, 255)):
+        record = r.Receiver(bytearray(144), bytearray(20))
+        record.open(settings(9, 1, 1, 0, rows, 8, edition), 1)
+        same(r.place_at(record.held, 0), {"resource": 9, "type": 1, "update": 1, "count": 1, "protection": 0, "rows": 0, "slot": 8, "start": 0, "edition": edition})
+        same(record.held[16:18], bytes([edition, 0]))
+    for edition in ODD_EDITIONS:
+        refused(17, 0, record.open, settings(9, 1, 1, 0, 0, 8, edition), 1)
+        refused(17, 0, record.open, settings(10, 1, 1, 0, 0, 8, edition), 100)
+    for i, edition in itertools.product(range(8), ODD_EDITIONS):
+        held = bytearray(144)
+        held[r.span(i)] = r.bytes_of({**r.place_at(record.held, 0), "edition": edition})
+        bad, unused = r.Receiver(held, bytearray(20)), r.Receiver(bytearray(held), bytearray(20))
+        for call, *arguments in ((bad.status, 9, 1), (bad.hand_out, 9, 1, 1, 1), (bad.close, 9, 1), (bad.offer, b""), (bad.open, settings(0, 1, 1, 0, 0, 8), 1)):
+            refused(9, 0, call, *arguments)
+        unused.held[18 * i] = 0
+        refused(10, 0, unused.status, 9, 1)
+
+
+def in_spare(packet, rows, reserved):
+    """The packet with these reserved bits and, without protection, this M, under its CRC."""
+    f = r.fields_of(packet)
+    head = r.header_of({**f, "rows": f["rows"] if f["protection"] else rows, "reserved": reserved}) + packet[14:-4]
+    return head + r.crc32(head).to_bytes(4, "big")
+
+
+def test_editions_offered():
+    """A place takes its own edition only: each value of the spare bits, at a place of each edition, with protection and without; nothing else changes."""
+    for s in (settings(9, 1, 1, 0, 0, 8), settings(9, 1, 1, 1, 2, 255)):
+        packet = packets_of(s, b"12345678")[0]
+        count = r.fields_of(packet)["count"]
+        for edition, rows, reserved in itertools.product((1, 2), (0, 1, 15, 240, 254, 255), range(16)):
+            record = r.Receiver(bytearray(144), bytearray(600))
+            record.open({**s, "edition": edition}, count)
+            offered = in_spare(packet, rows, reserved)
+            if edition_by_words(s["protection"], rows, reserved) == edition:
+                same([record.offer(offered)[0] for _ in range(2)], ["Stored", "Repeat"])
+                continue
+            before = bytes(record.held), bytes(record.store)
+            refused(33, 0, record.offer, offered)
+            same((bytes(record.held), bytes(record.store)), before)
+
+
+def test_edition_in_order():
+    """33 straight after 11, and before 12 to 16, whichever of the two is of edition 1."""
+    for edition in (1, 2):
+        s, other = settings(9, 1, 1, 1, 1, 255, edition), settings(9, 1, 1, 1, 1, 255, 3 - edition)
+        record, file = r.Receiver(bytearray(144), bytearray(600)), some(239)
+        record.open(s, 1)
+        own, (packet,) = packets_of(s, file)[0], packets_of(other, file)
+        refused(9, 0, r.Receiver(bytearray(128), bytearray(600)).offer, packet)
+        refused(3, 0, record.offer, packet[:-1])
+        refused(10, 0, record.offer, packets_of({**other, "type": 2}, file)[0])
+        for name, n in (("update", 2), ("rows", 255)):
+            refused(11, 0, record.offer, packets_of({**other, name: n, "size": 3825}, file)[0])
+        refused(11, 0, record.offer, packets_of(settings(9, 1, 1, 0, 0, 300, 3 - edition), file)[0])
+        refused(11, 0, record.offer, packets_of(other, some(500))[0])
+        refused(33, 0, record.offer, packet)
+        wide = r.header_of({**r.fields_of(packet), "length": 528}) + packet[14:-4] * 2 + packet[-4:]
+        refused(33, 0, record.offer, wide)
+        refused(33, 0, record.offer, altered(packet, range(14, 269, 5)))
+        refused(33, 0, record.offer, altered(packet, [272]))
+        record.store[0] = 9
+        refused(33, 0, record.offer, packet)
+        record.store[0] = 0
+        same(record.offer(own), ("Stored", 0))
+        refused(33, 0, record.offer, packet)
+        refused(33, 0, record.offer, packets_of(other, some(239))[0])
+        refused(16, 0, record.offer, packets_of(s, some(239))[0])
 
 
 def test_tables():
@@ -349,49 +466,50 @@ def test_packets_joined():
 
 def test_places():
     """Section 8: a store of 100 bytes."""
-    held, store = bytearray(128), bytearray(b"\xee" * 100)
+    held, store = bytearray(r.RECORD_LENGTH), bytearray(b"\xee" * 100)
     record = r.Receiver(held, store)
     for resource in (1, 2):
         record.open(settings(resource, 1, 0, 0, 5, 8), 5)
-    same([r.place_of(held[i : i + 16])["start"] for i in (0, 16)], [0, 50])
-    same(r.place_of(held[:16])["rows"], 0)
+    same([r.place_at(held, i)["start"] for i in (0, 1)], [0, 50])
+    same(r.place_at(held, 0)["rows"], 0)
     same(store, (b"\0\0" + b"\xee" * 8) * 10)
     before = bytes(held)
     refused(20, 0, record.open, settings(3, 1, 0, 0, 0, 8), 5)
     same(held, before)
     record.close(1, 1)
     record.open(settings(3, 1, 0, 0, 0, 8), 5)
-    same((r.place_of(held[:16])["resource"], r.place_of(held[:16])["start"]), (3, 0))
+    same((r.place_at(held, 0)["resource"], r.place_at(held, 0)["start"]), (3, 0))
 
 
 def test_unused_places():
     """What an unused place holds is not judged and stays; opening writes all of it, closing makes it zero."""
-    held = bytearray(b"\0\0" + b"\xff" * 14) * 8
+    unused = bytes(2) + b"\xff" * 16
+    held = bytearray(unused) * 8
     record = r.Receiver(held, bytearray(100))
     for kind in (0, 1, 255):
         refused(10, 0, record.status, 0, kind)
         refused(10, 0, record.close, 0, kind)
     record.open(settings(3, 2, 1, 0, 0, 8), 1)
-    same(held[:16].hex(), "0300020101000000000008000000" + "0000")
-    same(held[16:], bytearray(b"\0\0" + b"\xff" * 14) * 7)
+    same(held[:18].hex(), "030002010100000000000800000000000200")
+    same(held[18:], unused * 7)
     record.close(3, 2)
-    same(held, bytes(16) + bytes(b"\0\0" + b"\xff" * 14) * 7)
+    same(held, bytes(18) + unused * 7)
 
 
 def test_usable_store():
     """Only the first 16,777,216 bytes."""
-    held, store = bytearray(128), bytearray(r.LIMIT + 100)
+    held, store = bytearray(r.RECORD_LENGTH), bytearray(r.LIMIT + 100)
     record = r.Receiver(held, store)
     record.open(settings(1, 1, 0, 0, 0, 14), 1048575)
     record.open(settings(2, 1, 0, 0, 0, 14), 1)
     refused(20, 0, record.open, settings(3, 1, 0, 0, 0, 1), 1)
-    held[16 * 1 + 12] += 1
+    held[18 + 12] += 1
     refused(9, 0, record.status, 2, 1)
 
 
 def send(s, file, spoil):
     """Packed, each packet spoilt and offered twice in any order, handed out."""
-    packer, held, store = r.Packer(file), bytearray(128), bytearray(200_000)
+    packer, held, store = r.Packer(file), bytearray(r.RECORD_LENGTH), bytearray(200_000)
     record = r.Receiver(held, store)
     count = r.read_fields(packer.packet(s, 0, 4095))["count"]
     record.open(s, count)
@@ -418,7 +536,7 @@ def test_file_and_description():
     """Document 02, R-1: the packets of both under one resource, in any order and mixed; each has the answers it has alone."""
     for first, second in ((settings(9, 1, 1, 1, 2, 255), settings(9, 2, 1, 0, 0, 50)), (settings(9, 2, 3, 0, 0, 7), settings(9, 1, 3, 0, 0, 7))):
         files = {1: some(700), 2: some(320)}
-        record = r.Receiver(bytearray(128), bytearray(5000))
+        record = r.Receiver(bytearray(r.RECORD_LENGTH), bytearray(5000))
         sent = [(s, packet) for s in (first, second) for packet in packets_of(s, files[s["type"]])]
         count = {s["type"]: sum(s is t for t, _ in sent) for s in (first, second)}
         for s in (first, second):
@@ -456,7 +574,7 @@ def stream_packet(resource, update):
 def test_streams():
     """A stream packet is unknown, whatever is open."""
     for kinds in ((), (1,), (2,), (1, 2)):
-        record = r.Receiver(bytearray(128), bytearray(100))
+        record = r.Receiver(bytearray(r.RECORD_LENGTH), bytearray(100))
         for kind in kinds:
             record.open(settings(9, kind, 3, 0, 0, 8), 1)
         refused(10, 0, record.offer, stream_packet(9, 3))
@@ -464,12 +582,12 @@ def test_streams():
 
 def test_shares():
     """Any two places that have both resource and type are refused; that have one of them are not."""
-    place = {"update": 0, "count": 1, "protection": 0, "rows": 0, "slot": 8}
+    place = {"update": 0, "count": 1, "protection": 0, "rows": 0, "slot": 8, "edition": 2}
     for i, j in itertools.combinations(range(8), 2):
         for resource, kind in itertools.product((5, 6), (1, 2)):
-            held = bytearray(128)
-            held[16 * i : 16 * i + 16] = r.bytes_of({**place, "resource": 5, "type": 1, "start": 0})
-            held[16 * j : 16 * j + 16] = r.bytes_of({**place, "resource": resource, "type": kind, "start": 10})
+            held = bytearray(r.RECORD_LENGTH)
+            held[r.span(i)] = r.bytes_of({**place, "resource": 5, "type": 1, "start": 0})
+            held[r.span(j)] = r.bytes_of({**place, "resource": resource, "type": kind, "start": 10})
             record = r.Receiver(held, bytearray(20))
             if (resource, kind) == (5, 1):
                 refused(9, 0, record.status, 5, 1)
@@ -478,10 +596,13 @@ def test_shares():
 
 
 def test_files():
+    """In edition 2 and, the shorter ones, in edition 1."""
     for length, m, size in ((1, 1, 255), (239, 1, 255), (240, 1, 510), (2000, 4, 765), (3000, 255, 3825), (7648, 32, 255)):
-        send(settings(9, 1, 1, 1, m, size), some(length), lambda p: bytes(cases.damaged(p, RANDOM.randrange(6), RANDOM.randrange(1000))))
+        for edition in (1, 2) if length < 2500 else (2,):
+            send(settings(9, 1, 1, 1, m, size, edition), some(length), lambda p: bytes(cases.damaged(p, RANDOM.randrange(6), RANDOM.randrange(1000))))
     for length, size in ((1, 1), (100, 1), (100, 7), (4077, 4077), (10_000, 4077)):
-        send(settings(9, 2, 1, 0, 0, size), some(length), lambda p: p)
+        for edition in (1, 2):
+            send(settings(9, 2, 1, 0, 0, size, edition), some(length), lambda p: p)
 
 
 # ---- description files
@@ -668,55 +789,55 @@ EVERY = """
 # fields: 1 to 8, and 26 for too little room
 out 170 4095
 bytes 49 59 69
-read 9
+read 10
 case short refused 1
 file 1 20
 settings 5 1 3 0 0 8
 pack 0
 case packed accepted 26
 take 26
-read 9
+read 10
 case fields-taken accepted
-case fields bytes 0 00 00 00 05 00 00 00 00 00 00 00 03 00 00 00 1a 00 00 00 03 00 00 00 01 00 00 00 00 00 00 00 00 00 00 00 00
-read 8
+case fields bytes 0 00 00 00 05 00 00 00 00 00 00 00 03 00 00 00 1a 00 00 00 03 00 00 00 01 00 00 00 00 00 00 00 00 00 00 00 00 00 00 00 02
+read 9
 case room refused 26
 put 0 48
-read 9
+read 10
 case mark refused 2
 put 0 49
 cut 25
-read 9
+read 10
 case length refused 3
 grow 26
 put 12 c0
-read 9
+read 10
 case type-3 refused 4
 put 12 60
-read 9
+read 10
 case protection-2 refused 5
 put 12 50 00
-read 9
+read 10
 case protection-without-rows refused 5
 put 12 40 00
 put 7 33
-read 9
+read 10
 case number-3-of-3 refused 6
 put 7 23
-read 9
+read 10
 case number-2-of-3 accepted
 put 12 50 10
-read 9
+read 10
 case rows refused 7
 put 12 40
 put 3 00 00
-read 9
+read 10
 case resource-0 refused 8
 # the record: 9 to 21
 held 127
 store 0 400
 status 5 1
 case held-127 refused 9
-held 128
+held 144
 status 5 1
 case unknown refused 10
 open 3
@@ -730,6 +851,15 @@ pack 0
 take 26
 offer
 case other-update refused 11
+edition 1
+settings 5 1 3 0 0 8
+pack-as 0
+take 26
+offer
+case other-edition refused 33
+edition 0
+pack-as 0
+case no-edition refused 17
 file 1 30
 settings 5 1 3 0 0 10
 pack 0
@@ -817,12 +947,12 @@ status 5 1
 case one-filled accepted 33554433
 # handing out: 22 to 24
 store 0 300
-held 128
-place 0 9 1 1 1 1 2 255 0
+held 144
+place 0 9 1 1 1 1 2 255 0 2
 poke 0 ff 00
 hand 9 1 10
 case one-row-of-two refused 22
-place 0 9 1 1 1 1 1 255 0
+place 0 9 1 1 1 1 1 255 0 2
 hand 9 1 240
 case two-tables refused 23
 poke 3 01
@@ -924,8 +1054,8 @@ def test_commands():
     same(len(at_hand("bytes", "out 1 8000", "take 8000", "append 8000")), 8192)
     same(at_hand("file", "file 1 3", "file-put 2 aa bb")[2:], b"\xaa")
     same(at_hand("store", "store 1 3", "poke 1 02 03 04", "poke 9 01"), b"\1\2\3")
-    same(at_hand("held", "held 20", "place 1 258 1 2 3 1 5 255 9"), bytes(16) + b"\2\1\1\2")
-    same(at_hand("out", "held 128", "place 0 65541 257 2 3 1 5 255 9", "show-held 0 16").hex(), "05000102030000000105ff0009000000")
+    same(at_hand("held", "held 22", "place 1 258 1 2 3 1 5 255 9"), bytes(18) + b"\2\1\1\2")
+    same(at_hand("out", "held 144", "place 7 65541 257 2 3 1 5 255 9 65794", "show-held 126 20").hex(), "05000102030000000105ff00090000000201")
     same(at_hand("out", "store 3 5", "show-store 3 9"), b"\3\3")
     same(at_hand("out", "out 3 2", "nonsense 5", "file_put 1 00"), b"\3\3")
     same(at_hand("bytes", "line", "line ", "line a  b ", "bytes 41", "line c", "line caf\xe9"), b"Ac\ncaf\xe9\n")
@@ -938,6 +1068,19 @@ def test_commands():
     same(at_hand("file", "file 1 257", "value 31 258 1", "value 99 511")[240:], at_hand("file", "file 1 248")[240:] + bytes(6) + b"\1\2\0")
 
 
+def test_edition_commands():
+    """What `edition` sets is taken by the calls that name it and by `send`; it begins as 2, and settings leave it."""
+    start = ["file 1 8", "out 0 26", "held 144", "store 0 20", "settings 5 1 3 0 7 8"]
+    spare = lambda *lines: at_hand("out", *start, *lines)[12:14].hex()
+    same([spare("pack 0"), spare("pack-as 0")], ["4000", "4000"])
+    same([spare("edition 1", "pack 0"), spare("edition 1", "pack-as 0"), spare("edition 65537", "settings 5 1 3 0 0 8", "pack-as 0")], ["4000", "4fff", "4fff"])
+    same([spare("edition 9", "pack 0"), spare("edition 9", "pack-as 0"), spare("edition", "pack-as 0")], ["4000", "0000", "0000"])
+    same(at_hand("out", *start, "out 0 273", "edition 1", "pack-house 0")[12:14].hex(), "5200")
+    same([at_hand("held", *start, "edition 1", call)[16] for call in ("open 1", "open-as 1")], [2, 1])
+    same(at_hand("held", *start, "store 0 257", "edition 1", "open-house 1")[16], 2)
+    same([at_hand("store", *start, *lines, "send 1 1 1 0 0 0")[0] for lines in (["open 1"], ["edition 1", "open 1"], ["edition 1", "open-as 1"])], [8, 0, 8])
+
+
 def test_damage():
     row = bytes(14 + 2 * 255 + 4)
     same([i - 14 for i, b in enumerate(cases.damaged(row, 1, 5)) if b], [*range(8), *range(255, 263)])
@@ -948,7 +1091,7 @@ def test_damage():
 
 
 def test_send():
-    start = ["file 3 2000", "held 128", "store 0 20000", "settings 9 1 1 1 4 255", "open 12"]
+    start = ["file 3 2000", "held 144", "store 0 20000", "settings 9 1 1 1 4 255", "open 12"]
     for line, answer in (("send 12 1 12 4 1 5", "accepted 12"), ("send 12 5 7 3 0 5", "accepted 7"), ("send 12 1 30 0 0 5", "accepted 12"),
                          ("send 0 1 30 0 0 5", "accepted"), ("send 13 1 13 0 0 5", "refused 6"), ("send 13 1 12 2 1 4294967295", "accepted 12")):
         run = cases.Run()
@@ -961,8 +1104,7 @@ def test_send():
 
 
 def used_places(run):
-    places = [r.place_of(run.held[at : at + 16].ljust(16, b"\0")) for at in range(0, 128, 16)]
-    return [p for p in places if p["resource"]]
+    return [p for p in (r.place_at(run.held, i) for i in range(8)) if p["resource"]]
 
 
 def told_of_types(run, words, places):
@@ -975,7 +1117,7 @@ def told_of_types(run, words, places):
         f = r.fields_of(run.bytes)
         kinds = [k for k in (1, 2) if (f["resource"], k) in beside]
         return f"offer of type {f['type']} beside {kinds}: 10" if number == 10 and kinds else f"offer beside both: {number}" if kinds == [1, 2] else None
-    if words[0] in ("open", "open-house") and number in (0, 18):
+    if words[0] in ("open", "open-as", "open-house") and number in (0, 18):
         kinds = [k for k in (1, 2) if (run.settings["resource"], k) in beside]
         return f"open of type {run.settings['type']} beside {kinds}: {number}" if kinds else None
     return None
@@ -984,7 +1126,7 @@ def told_of_types(run, words, places):
 def told_of_shares(run, places):
     """What a call that takes the record shows of a share, where nothing else is wrong with the record."""
     pairs = list(itertools.combinations(places, 2))
-    if len(run.held) != 128 or not all(r.place_fits(p, len(run.store)) for p in places) or any(r.meet(p, q) for p, q in pairs):
+    if len(run.held) != r.RECORD_LENGTH or not all(r.place_fits(p, len(run.store)) for p in places) or any(r.meet(p, q) for p, q in pairs):
         return None
     both, one = (any([p["resource"] == q["resource"], p["type"] == q["type"]] == want for p, q in pairs) for want in ([True, True], [True, False]))
     return f"share of both: {run.answer.number}" if both else f"share of the resource: {run.answer.number}" if one else None
@@ -1002,8 +1144,53 @@ def told_of_mended(run, call):
     return None
 
 
+def told_of_an_offer(run):
+    """How the edition of an offered packet, whose fields were taken, stands to that of its place; and what 33 came before."""
+    number, f = run.answer.number, r.read_fields(run.bytes)
+    _, p = r.Receiver(run.held, run.store).find(f["resource"], f["type"])
+    apart = "its own" if f["edition"] == p["edition"] else f"edition {f['edition']}"
+    told = {f"{apart} at a place of edition {p['edition']}, protection {p['protection']}: {number}"}
+    if number == 33 and f["edition"]:
+        told.add(f"33 before {number_in_edition(run, f)}")
+    return told
+
+
+def number_in_edition(run, f):
+    """What is told of the packet at hand where the place of its resource and type has its edition."""
+    held = bytearray(run.held)
+    i, p = r.Receiver(held, run.store).find(f["resource"], f["type"])
+    held[r.span(i)] = r.bytes_of({**p, "edition": f["edition"]})
+    try:
+        return int(r.Receiver(held, bytearray(run.store)).offer(run.bytes) is None)
+    except r.Refused as no:
+        return no.number
+
+
+def told_of_editions(run, words):
+    """What a call's answer shows of the edition; its words."""
+    number, odd = run.answer.number, run.settings["edition"] not in (1, 2)
+    if words[0] == "offer" and number in (0, 11, 12, 13, 14, 15, 16, 33):
+        return told_of_an_offer(run)
+    if words[0] == "read" and number == 0:
+        f = r.read_fields(run.bytes)
+        return {f"read edition {f['edition']} of type {f['type']}, protection {f['protection']}"}
+    if words[0] == "read" and words[1] == "9" and number == 26:
+        return {"read 9: 26"}
+    if words[0] in ("open", "open-as", "pack", "pack-as") and odd and r.settings_fit({**run.settings, "edition": 1}):
+        return {f"{words[0]} in an odd edition: {number}"}
+    return set()
+
+
+def told_of_held_editions(run, words, places):
+    """A call that takes the record, in which a place in use has no edition, and nothing else is wrong."""
+    if len(run.held) != r.RECORD_LENGTH or all(p["edition"] in (1, 2) for p in places):
+        return set()
+    held = b"".join(r.bytes_of({**p, "edition": 1}) for p in places).ljust(r.RECORD_LENGTH, b"\0")
+    return {f"{words[0]} with an odd edition held: {run.answer.number}"} if r.places_in_use(held, len(run.store)) else set()
+
+
 class Watched(random_cases.Writer):
-    """Writes a random file, and keeps what its answers show of resource and type together, and of what was mended."""
+    """Writes a random file, and keeps what its answers show of resource and type together, of what was mended, and of editions."""
 
     def __init__(self, seed):
         super().__init__(seed)
@@ -1012,9 +1199,9 @@ class Watched(random_cases.Writer):
     def say(self, line):
         words, places = line.split(" "), used_places(self.run)
         super().say(line)
-        if words[0] in ("status", "hand", "close", "offer", "open", "open-house"):
-            self.told |= {told_of_types(self.run, words, places), told_of_shares(self.run, places)}
-        self.told |= {told_of_mended(self.run, words[0])}
+        if words[0] in ("status", "hand", "close", "offer", "open", "open-as", "open-house"):
+            self.told |= {told_of_types(self.run, words, places), told_of_shares(self.run, places)} | told_of_held_editions(self.run, words, places)
+        self.told |= {told_of_mended(self.run, words[0])} | told_of_editions(self.run, words)
 
 
 def every_way(told):
@@ -1037,11 +1224,25 @@ def every_number(told):
     same(wanted - told, set())
 
 
+def every_edition(told):
+    """33 in each way that it can come, both editions taken and refused otherwise, 17 and 9 by the edition alone, each edition read, and room for nine numbers."""
+    pairs = list(itertools.product((1, 2), (0, 1)))
+    wanted = {f"its own at a place of edition {e}, protection {p}: {number}" for e, p in pairs for number in (0, 11, 14, 15, 16)}
+    wanted |= {f"edition {n} at a place of edition {e}, protection {p}: {number}" for e, p in pairs for n in {0, 3 - e} for number in (11, 33)}
+    wanted |= {f"33 before {number}" for number in (0, 12, 13, 14, 15, 16)}
+    wanted |= {f"{call} in an odd edition: {number}" for call, number in (("open", 0), ("open-as", 17), ("pack", 0), ("pack-as", 17))}
+    wanted |= {f"{call} with an odd edition held: 9" for call in ("status", "hand", "close", "offer", "open", "open-as", "open-house")}
+    wanted |= {f"read edition {e} of type {kind}, protection {p}" for e in range(3) for kind in range(3) for p in range(2)} | {"read 9: 26"}
+    same(wanted - told, set())
+    same([t for t in told if t and (t.startswith("edition") and not t.endswith((": 11", ": 33")) or t.startswith("its own") and t.endswith(": 33"))], [])
+
+
 def test_random_files():
-    writer = Watched(2)
-    lines = writer.write(2000)
+    writer = Watched(3)
+    lines = writer.write(2500)
     every_way(writer.told)
     every_number(writer.told)
+    every_edition(writer.told)
     same([n for n in r.REFUSALS if not any(f" refused {n} " in line + " " for line in lines)], [])
     for call in ("describe", "compose"):
         answers = {answer.split(" ", 2)[2] for line, answer in zip(lines, lines[1:]) if line.startswith(call + " ")}
