@@ -113,11 +113,10 @@ void say_record(void)
     if (transcript == NULL)
         return;
     fprintf(transcript, "held %zu\n", record.n);
-    for (size_t i = 0; i < record.n / 16; i++) {
-        const uint8_t *p = record.at + 16 * i;
-        fprintf(transcript, "place %zu %u %u %u %lu %u %u %u %lu\n", i, p[0] | p[1] << 8, p[2], p[3],
-                p[4] | (unsigned long)p[5] << 8 | (unsigned long)p[6] << 16 | (unsigned long)p[7] << 24, p[8], p[9], p[10] | p[11] << 8,
-                p[12] | (unsigned long)p[13] << 8 | (unsigned long)p[14] << 16 | (unsigned long)p[15] << 24);
+    for (unsigned i = 0; i < BH_PLACES && i < record.n / BH_PLACE; i++) {
+        struct bh_place p = bh_place_at(record.at, i);
+        fprintf(transcript, "place %u %u %u %u %" PRIu32 " %u %u %u %" PRIu32 " %u\n", i, p.resource, p.type, p.update, p.count, p.protection, p.rows, p.slot,
+                p.start, p.edition);
     }
 }
 
