@@ -1,5 +1,5 @@
 /* The cases that need more memory than the program `cases` has: the largest file, stores longer than their usable part, and long descriptions; and what the
-   header's own functions tell of an answer.
+   header's own functions tell of an answer and of a record.
    limits packets: writes every packet of the largest protected file to standard output instead, for reference/largest.py. */
 #include "brithelva.h"
 
@@ -28,6 +28,9 @@ static void packing(uint8_t *file)
     expect("a byte more, at the house setting", BH_SIZE, bh_pack_house(file, BH_LARGEST_FILE + 1, 1, 1, 0, 0, packet, sizeof packet));
     expect("size before count", BH_SIZE, bh_pack(file, BH_LARGEST_FILE + 1, 1, 1, 0, 0, 0, 1, 0, packet, sizeof packet));
     expect("field before size", BH_FIELD, bh_pack(file, BH_LARGEST_FILE + 1, 0, 1, 0, 0, 0, 1, 0, packet, sizeof packet));
+    expect("edition before size", BH_FIELD, bh_pack_as(file, BH_LARGEST_FILE + 1, 1, 1, 0, 1, 255, 255, 3, 0, packet, sizeof packet));
+    expect("a byte more, in edition 1", BH_SIZE, bh_pack_as(file, BH_LARGEST_FILE + 1, 1, 1, 0, 1, 255, 255, 1, 0, packet, sizeof packet));
+    expect("the largest file in edition 1", 256 * 273, bh_pack_as(file, BH_LARGEST_FILE, 1, 1, 0, 1, 255, 255, 1, 276 * 255 - 1, packet, sizeof packet));
     expect("count: 16 bytes a packet are too small", BH_COUNT, bh_pack(file, BH_LARGEST_FILE, 1, 1, 0, 0, 0, 16, 0, packet, sizeof packet));
     expect("count: 17 bytes a packet", 256 * 35, bh_pack(file, BH_LARGEST_FILE, 1, 1, 0, 0, 0, 17, 0, packet, sizeof packet));
 }
@@ -43,9 +46,10 @@ static void stores(uint8_t *store)
     expect("status over the whole part", (uint64_t)256 << 24, bh_status(record, BH_RECORD, store, more, 1, 1));
     expect("room behind the usable part is none", BH_ROOM, bh_open(record, BH_RECORD, store, more, 2, 1, 0, 100, 0, 0, 8));
     expect("the rest of the usable part", 0, bh_open(record, BH_RECORD, store, more, 2, 1, 0, 96, 0, 0, 1));
-    record[28] = (uint8_t)(record[28] + 1);
+    uint8_t *start = record + BH_PLACE + 12;
+    *start = (uint8_t)(*start + 1);
     expect("to its last byte", (uint64_t)256 << 24, bh_status(record, BH_RECORD, store, more, 1, 1));
-    record[28] = (uint8_t)(record[28] + 1);
+    *start = (uint8_t)(*start + 1);
     expect("past the usable part", BH_RECORD_BAD, bh_status(record, BH_RECORD, store, more, 1, 1));
 }
 
@@ -167,6 +171,38 @@ static void mended(const uint8_t *file, uint8_t *store)
     expect_told("all can, and the CRC is wrong", BH_CRC_BAD, 0, 0, bh_offer(record, BH_RECORD, store, room, packet, n));
 }
 
+/* so many bytes of a record from `at` on, the lowest first */
+static uint64_t little(const uint8_t *record, unsigned at, unsigned n)
+{
+    return n == 0 ? 0 : record[at] + 256 * little(record, at + 1, n - 1);
+}
+
+/* each place as its bytes have it; behind the last there is none */
+static void places(void)
+{
+    uint8_t record[BH_RECORD];
+    for (unsigned i = 0; i < BH_RECORD; i++)
+        record[i] = (uint8_t)(0xFF - i);
+    for (unsigned i = 0; i < BH_PLACES; i++) {
+        struct bh_place p = bh_place_at(record, i);
+        unsigned at = BH_PLACE * i;
+        expect("a place's resource", little(record, at, 2), p.resource);
+        expect("its type", little(record, at + 2, 1), p.type);
+        expect("its update", little(record, at + 3, 1), p.update);
+        expect("its count", little(record, at + 4, 4), p.count);
+        expect("its protection", little(record, at + 8, 1), p.protection);
+        expect("its rows", little(record, at + 9, 1), p.rows);
+        expect("its slots", little(record, at + 10, 2), p.slot);
+        expect("its start", little(record, at + 12, 4), p.start);
+        expect("its edition", little(record, at + 16, 2), p.edition);
+    }
+    static const unsigned none[] = {BH_PLACES, BH_PLACES + 1, 15, 255, 256, 1u << 31, UINT32_MAX};
+    for (size_t k = 0; k < sizeof none / sizeof *none; k++) {
+        struct bh_place p = bh_place_at(record, none[k]);
+        expect("no place", 0, (uint64_t)p.resource + p.type + p.update + p.count + p.protection + p.rows + p.slot + p.start + p.edition);
+    }
+}
+
 /* one row a packet, in 276 tables of 255 */
 static int packets(const uint8_t *file)
 {
@@ -198,6 +234,7 @@ int main(int count, char **words)
     stores(store);
     largest(file, store, out);
     mended(file, store);
+    places();
     descriptions(file, store, out);
     nothing();
     printf("limits: %d cases, %d wrong\n", told, wrong);
