@@ -691,9 +691,12 @@ static void disturb(void)
     unsigned way = pick() % 8;
     size_t place = BH_PLACE * (pick() % BH_PLACES);
     if (way == 0) {
-        size_of(&record, pick() % 8 == 0 ? 16u * (pick() % 17) : BH_RECORD);
+        /* a fresh record but for its length, or one with bytes in it */
+        static const uint8_t lengths[] = {0, 128, BH_RECORD - 1, BH_RECORD + 1, BH_RECORD + 16, 255};
+        int other = pick() % 4 == 0;
+        size_of(&record, other ? lengths[pick() % sizeof lengths] : BH_RECORD);
         for (size_t i = 0; i < record.n; i++)
-            record.at[i] = (uint8_t)(pick() % 4 ? 0 : pick());
+            record.at[i] = (uint8_t)(other || pick() % 4 ? 0 : pick());
     } else if (record.n == BH_RECORD && way < 3) {
         /* a place of the other type, so that two may share both */
         record.at[place + 2] ^= 3;
