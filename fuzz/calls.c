@@ -609,6 +609,15 @@ static void hand_one(void)
     only_unknown(a, type);
 }
 
+/* whatever changed in the record is a place that is all 0 now */
+static void judge_closed(void)
+{
+    static const uint8_t unused[BH_PLACE];
+    for (size_t at = 0; at < BH_RECORD; at += BH_PLACE)
+        if (memcmp(record.at + at, record.copy + at, BH_PLACE) != 0 && memcmp(record.at + at, unused, BH_PLACE) != 0)
+            fail("what was closed is not all 0");
+}
+
 static void close_one(void)
 {
     uint8_t type = some_type();
@@ -620,6 +629,8 @@ static void close_one(void)
     judge_record(a);
     only_unknown(a, type);
     ask_after(type);
+    if (bh_number(a) == 0)
+        judge_closed();
     if (bh_number(a) == 0 && stands(type) != BH_UNKNOWN)
         fail("what was closed is still known");
 }

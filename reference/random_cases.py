@@ -410,17 +410,16 @@ class Writer(Choices):
             self.say_place(i, before)
 
     def step_held_edition(self):
-        """A place in use whose edition is another or none, some calls, and the place as it was."""
+        """A place, mostly one in use, whose edition is another or none, some calls, and the place as it was."""
         used = [i for i in range(8) if place_at(self.run.held, i)["resource"]]
-        if not used:
-            return self.step_open()
-        i = self.pick(*used)
+        i = self.pick(*used) if used and self.often(0.7) else self.below(8)
         before = place_at(self.run.held, i)
         self.say_place(i, {**before, "edition": self.pick(3 - before["edition"] % 3, *ODD_EDITIONS)})
         for _ in range(self.pick(1, 2, 3)):
             self.any_call()
-        self.say_place(i, before)
-        self.refresh_senders()
+        if i in used:
+            self.say_place(i, before)
+            self.refresh_senders()
 
     def say_place(self, i, p):
         self.say(f"place {i} " + " ".join(str(p[name]) for name, _ in PLACE))

@@ -1182,9 +1182,10 @@ def told_of_editions(run, words):
 
 
 def told_of_held_editions(run, words, places):
-    """A call that takes the record, in which a place in use has no edition, and nothing else is wrong."""
+    """A call that takes the record, in which a place in use has no edition, and nothing else is wrong; or only an unused one has a number there."""
     if len(run.held) != r.RECORD_LENGTH or all(p["edition"] in (1, 2) for p in places):
-        return set()
+        odd = any(p["edition"] > 2 for p in (r.place_at(run.held, i) for i in range(8)) if not p["resource"])
+        return {f"{words[0]} beside an unused place with a number: taken"} if odd and run.answer.number != 9 else set()
     held = b"".join(r.bytes_of({**p, "edition": 1}) for p in places).ljust(r.RECORD_LENGTH, b"\0")
     return {f"{words[0]} with an odd edition held: {run.answer.number}"} if r.places_in_use(held, len(run.store)) else set()
 
@@ -1232,13 +1233,14 @@ def every_edition(told):
     wanted |= {f"33 before {number}" for number in (0, 12, 13, 14, 15, 16)}
     wanted |= {f"{call} in an odd edition: {number}" for call, number in (("open", 0), ("open-as", 17), ("pack", 0), ("pack-as", 17))}
     wanted |= {f"{call} with an odd edition held: 9" for call in ("status", "hand", "close", "offer", "open", "open-as", "open-house")}
+    wanted |= {f"{call} beside an unused place with a number: taken" for call in ("status", "offer", "open-as")}
     wanted |= {f"read edition {e} of type {kind}, protection {p}" for e in range(3) for kind in range(3) for p in range(2)} | {"read 9: 26"}
     same(wanted - told, set())
     same([t for t in told if t and (t.startswith("edition") and not t.endswith((": 11", ": 33")) or t.startswith("its own") and t.endswith(": 33"))], [])
 
 
 def test_random_files():
-    writer = Watched(3)
+    writer = Watched(6)
     lines = writer.write(2500)
     every_way(writer.told)
     every_number(writer.told)
