@@ -1074,7 +1074,7 @@ def test_edition_commands():
     spare = lambda *lines: at_hand("out", *start, *lines)[12:14].hex()
     same([spare("pack 0"), spare("pack-as 0")], ["4000", "4000"])
     same([spare("edition 1", "pack 0"), spare("edition 1", "pack-as 0"), spare("edition 65537", "settings 5 1 3 0 0 8", "pack-as 0")], ["4000", "4fff", "4fff"])
-    same([spare("edition 9", "pack 0"), spare("edition 9", "pack-as 0"), spare("edition", "pack-as 0")], ["4000", "0000", "0000"])
+    same([spare("edition 9", "pack 0"), spare("edition 9", "pack-as 0"), spare("edition", "pack-as 0"), spare("edition 257", "pack-as 0")], ["4000"] + ["0000"] * 3)
     same(at_hand("out", *start, "out 0 273", "edition 1", "pack-house 0")[12:14].hex(), "5200")
     same([at_hand("held", *start, "edition 1", call)[16] for call in ("open 1", "open-as 1")], [2, 1])
     same(at_hand("held", *start, "store 0 257", "edition 1", "open-house 1")[16], 2)
