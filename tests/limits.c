@@ -180,8 +180,9 @@ static uint64_t little(const uint8_t *record, unsigned at, unsigned n)
 /* each place as its bytes have it; behind the last there is none */
 static void places(void)
 {
-    uint8_t record[BH_RECORD];
-    for (unsigned i = 0; i < BH_RECORD; i++)
+    /* with bytes behind it that belong to no place */
+    uint8_t record[BH_RECORD + 2 * BH_PLACE];
+    for (unsigned i = 0; i < sizeof record; i++)
         record[i] = (uint8_t)(0xFF - i);
     for (unsigned i = 0; i < BH_PLACES; i++) {
         struct bh_place p = bh_place_at(record, i);
