@@ -1,15 +1,13 @@
 -- Status and offers by the slots: the status of an open place is what its slots say; an offer that is accepted found its slot empty, and the slot then holds the payload, or
 -- found the payload there; no other slot changes. Assumes nothing.
-use mathlib.Core.Path.{_≡_, refl, sym, ap, ap₂, _∙_}
+use mathlib.Core.Path.{_≡_, refl, sym, ap, _∙_}
 use mathlib.Core.Logic.{⊎-elim}
-use mathlib.Core.Bool.{Bool, true, false, cond, not}
+use mathlib.Core.Bool.{Bool, true, false, cond}
 use mathlib.Core.List.{List, [], _∷_}
 use Prim.Native.Nat.{ℕ, zero, suc, _+_, _%_, _<_, _≤_}
 use native.Mathlib.Omega.{arith}
-use borrow.Author.Tests.{eqb-true}
-use lib.Dec.{eqb, ltb}
 use lib.ListN.{length, getD, List·getD-eq-default}
-use Rattle.refusals.specs.declared.Refusal.the-variants.{Other, Edition, Wide, Crc, Slot, Conflict}
+use Rattle.refusals.specs.declared.Refusal.the-variants.{Other, Slot, Conflict}
 use Rattle.refusals.specs.Told.{refusedAs}
 use Rattle.refusals.proofs.Told.{number-not-0}
 use Rattle.ground.proofs.Numbers.{lt-or-ge, same-or-not}
@@ -18,7 +16,6 @@ use Rattle.words.proofs.SameLaws.{same-equal}
 use Rattle.packet.specs.declared.Packet.{Packet}
 use Rattle.packet.specs.declared.Reading.the-variants.{Sent}
 use Rattle.packet.specs.Packet.{readOf}
-use Rattle.packet.specs.Edition.{editionOf}
 use Rattle.places.specs.declared.Place.{Place}
 use Rattle.places.specs.declared.Found.{Found}
 use Rattle.places.specs.declared.Found.the-variants.{At, Nothing}
@@ -35,12 +32,11 @@ use Rattle.contents.proofs.Slots.{slot-within, slots-off, slot-stored, slot-agr
 use Rattle.contents.proofs.Places.{reading-slots, storing-leaves, apart-meets}
 use Rattle.record.specs.declared.Offered.{Offered}
 use Rattle.record.specs.declared.Offered.the-variants.{Repeat}
-use Rattle.code.specs.Mend.{Mended, whole, broken}
+use Rattle.code.specs.Mend.{whole}
 use Rattle.record.specs.Mend.{payloadIn, mendedIn}
-use Rattle.sealing.specs.Sealing.{agrees}
-use Rattle.record.specs.Offer.{packetName, differs, Judged, refuse, put, judgeMended, judge, judgeBy, putInto, Offering, storing, offerJudged, offerOf}
+use Rattle.record.specs.Offer.{packetName, Judged, refuse, put, judge, putInto, Offering, storing, offerJudged, offerOf}
 use Rattle.record.specs.Told.{offeredTold}
-use Rattle.record.proofs.OfferCases.{payload-length, mended-plain, mended-rows}
+use Rattle.record.proofs.OfferCases.{payload-length, mended-plain, mended-rows, puts-known}
 use Rattle.record.proofs.OfferFacts.{Read, read-known}
 use Rattle.record.proofs.OfferLaws.{Placed, Sound, Case, refused, placed, offer-case, offer-sound}
 use Rattle.standing.specs.declared.Standing.{Standing}
@@ -90,44 +86,6 @@ status-by-slots x r i h =
 
 -- ---- a packet that puts a payload
 
-record Puts (p : Place) (f : Packet) (q b : List ℕ) (m : ℕ) : Type 0 where
-  serves : differs p f ≡ false
-  edition : editionOf f ≡ p .edition
-  mended : mendedIn (f .protection) q ≡ whole b m
-  crc : agrees q b ≡ true
-
-module _ (p : Place) (f : Packet) (q : List ℕ) (k : ℕ) (b : List ℕ) (m : ℕ) where
-  module _ (d : differs p f ≡ false) (v : editionOf f ≡ p .edition) where
-    puts-agreed : (c : List ℕ) (n : ℕ) → mendedIn (f .protection) q ≡ whole c n → (t : Bool) → agrees q c ≡ t → cond t (put (f .number) c n) (refuse Crc) ≡ put k b m → Puts p f q b m
-    puts-agreed c n e true a z =
-        let w : c ≡ b = cc in
-        let u : n ≡ m = cc in
-        record { serves = d; edition = v; mended = e ∙ ap₂ whole w u; crc = ap (agrees q) (sym w) ∙ a }
-    puts-agreed c n e false a z = let o : _≡_ {A = ℕ} 0 1 = cc in absurd (omega arith)
-
-    puts-mended : (x : Mended) → mendedIn (f .protection) q ≡ x → judgeMended (f .number) q x ≡ put k b m → Puts p f q b m
-    puts-mended (broken i) e z = let o : _≡_ {A = ℕ} 0 1 = cc in absurd (omega arith)
-    puts-mended (whole c n) e z = puts-agreed c n e (agrees q c) refl z
-
-    puts-narrow : (t : Bool) → cond t (refuse Wide) (judgeMended (f .number) q (mendedIn (f .protection) q)) ≡ put k b m → Puts p f q b m
-    puts-narrow true z = let o : _≡_ {A = ℕ} 0 1 = cc in absurd (omega arith)
-    puts-narrow false z = puts-mended (mendedIn (f .protection) q) refl z
-
-  puts-known : judge p f q ≡ put k b m → Puts p f q b m
-  unfolding judgeBy
-  puts-known = other (differs p f) refl
-    where
-      edition : differs p f ≡ false → (t : Bool) → eqb (editionOf f) (p .edition) ≡ t
-          → cond (not t) (refuse Edition) (cond (ltb (p .slot) (length (payloadIn q))) (refuse Wide) (judgeMended (f .number) q (mendedIn (f .protection) q))) ≡ put k b m → Puts p f q b m
-      edition d true e z = puts-narrow d (eqb-true _ _ e) (ltb (p .slot) (length (payloadIn q))) z
-      edition d false e z = let o : _≡_ {A = ℕ} 0 1 = cc in absurd (omega arith)
-
-      other : (t : Bool) → differs p f ≡ t
-          → cond t (refuse Other) (cond (not (eqb (editionOf f) (p .edition))) (refuse Edition) (cond (ltb (p .slot) (length (payloadIn q))) (refuse Wide) (judgeMended (f .number) q (mendedIn (f .protection) q)))) ≡ put k b m
-          → Puts p f q b m
-      other true e z = let o : _≡_ {A = ℕ} 0 1 = cc in absurd (omega arith)
-      other false e z = edition e (eqb (editionOf f) (p .edition)) refl z
-
 -- rows that were repaired are near, and what was mended is counted
 mended-near : (q b : List ℕ) (m : ℕ) (f : Packet) → Read q f → (f .protection ≡ 0 → ⊥) → mendedIn (f .protection) q ≡ whole b m → RowsNear q b × (m ≡ bytesAltered q b)
 mended-near q b m f r d e =
@@ -176,7 +134,7 @@ module _ (x : State) (q : List ℕ) where
   module _ (g : good (length (x .store)) (x .held .places) ≡ true) (f : Packet) (read : readOf q ≡ Sent f) (i : ℕ) (found : placeNamed (x .held .places) (packetName f) ≡ At i) where
     carried : (n : ℕ) (b : List ℕ) (m : ℕ) → judge (placeAt x i) f q ≡ put n b m → Placed (placeAt x i) f n b → Carried x q i n b m
     carried n b m e w =
-        let k = puts-known (placeAt x i) f q n b m e in
+        let k = puts-known n b m (placeAt x i) f q e in
         record {
           fields = f;
           read = read;

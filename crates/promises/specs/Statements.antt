@@ -85,7 +85,7 @@ pub record Copy (g : Settings) (file : List ℕ) (n : ℕ) (q : List ℕ) : Type
   pub rows : (i : ℕ) → distance (rowIn q i) (rowIn (packetOf g file n) i) ≤ 8
 
 -- q brings the file's own place no payload but the file's: there it is refused, whatever the store holds, or what it puts is what the file has under that number. Noise is
--- such an offer, with the resource and type in it or not: its fields are refused or differ from the place's, a row has no coded row within eight bytes, or the CRC differs
+-- such an offer, with the resource and type in it or not: its fields are refused or differ from the place's, it is of another edition, a row has no coded row within eight bytes, or the CRC differs
 abbrev pub BringsNoOther : Settings → List ℕ → List ℕ → Type 0
 BringsNoOther g file q =
     (f : Packet) → readOf q ≡ Sent f → (n : ℕ) (b : List ℕ) (m : ℕ) → judge (placeOf g (countOf g (length file)) 0) f q ≡ put n b m → b ≡ payloadOf g file n

@@ -1,11 +1,12 @@
 -- What an offer comes to, each case with its condition: document 01, sections 5 and 6.
 -- Assumes nothing.
 use mathlib.Core.Path.{_≡_, refl, sym, ap, ap₂, _∙_}
-use mathlib.Core.Bool.{Bool, true, false, cond}
+use mathlib.Core.Bool.{Bool, true, false, cond, not}
 use mathlib.Core.List.{List}
 use Prim.Native.Nat.{ℕ, zero, suc, _+_, _-_, _/_, _%_, _<_, _≤_}
 use native.Mathlib.Omega.{arith}
-use borrow.Author.Tests.{lt-ltb, le-ltb, eq-eqb, ne-eqb}
+use borrow.Author.Tests.{lt-ltb, le-ltb, ltb-false, eq-eqb, ne-eqb, eqb-true, not-false}
+use lib.Dec.{eqb, ltb}
 use lib.ListN.{length, getD, take, drop, replicate, length-drop, length-replicate}
 use lib.Seq.{sets, take-at, length-take-le}
 use Rattle.ground.proofs.Writing.{sets-front}
@@ -31,10 +32,10 @@ use Rattle.contents.proofs.Bytes.{bytes-part}
 use Rattle.contents.proofs.Slots.{slot-holds, slot-wrong, slot-empty}
 use Rattle.record.specs.declared.Offered.{Offered}
 use Rattle.record.specs.declared.Offered.the-variants.{Stored, Repeat, Refused}
-use Rattle.code.specs.Mend.{Mended, whole, mendRows}
+use Rattle.code.specs.Mend.{Mended, whole, broken, mendRows}
 use Rattle.record.specs.Mend.{payloadIn, mendedIn}
 use Rattle.sealing.specs.Sealing.{agrees}
-use Rattle.record.specs.Offer.{packetName, differs, refuse, put, judgeMended, judge, Offering, storing, offerJudged, offerOf, judgeBy, offerBy}
+use Rattle.record.specs.Offer.{packetName, differs, Judged, refuse, put, judgeMended, judge, Offering, storing, offerJudged, offerOf, judgeBy, offerBy}
 use Rattle.record.specs.InnerOffer.{Comes, judgeCrc, refusalIn}
 
 abbrev pub said : Offered → List ℕ → Offering
@@ -171,6 +172,41 @@ module _ (p : Place) (f : Packet) (q : List ℕ) where
       offer-repaired z =
           ap (offerJudged p s) (judge-mended h ∙ ap (judgeMended (f .number) q) (mended-rows (f .protection) q z))
           ∙ ap (λ (b : List ℕ). offerJudged p s (judgeMended (f .number) q (mendRows (length b / 255) 0 b))) (sym (payload-cut q))
+
+-- ---- what is put, and what it comes from: the cases of the judgement are walked through here alone
+
+pub record Puts (p : Place) (f : Packet) (q : List ℕ) (k : ℕ) (b : List ℕ) (m : ℕ) : Type 0 where
+  pub number : k ≡ f .number
+  pub serves : differs p f ≡ false
+  pub edition : editionOf f ≡ p .edition
+  pub narrow : length (payloadIn q) ≤ p .slot
+  pub mended : mendedIn (f .protection) q ≡ whole b m
+  pub crc : agrees q b ≡ true
+
+module _ (k : ℕ) (b : List ℕ) (m : ℕ) where
+  passed : (t : Bool) (r : Refusal) (y : Judged) → cond t (refuse r) y ≡ put k b m → (t ≡ false) × (y ≡ put k b m)
+  passed true r y e = absurd (let z : _≡_ {A = ℕ} 0 1 = cc in omega arith)
+  passed false r y e = (refl, e)
+
+  mended-put : (i : ℕ) (q : List ℕ) (x : Mended) → judgeMended i q x ≡ put k b m → (k ≡ i) × (x ≡ whole b m) × (agrees q b ≡ true)
+  mended-put i q (broken j) e = absurd (let z : _≡_ {A = ℕ} 0 1 = cc in omega arith)
+  mended-put i q (whole c n) e = by (agrees q c) refl e
+    where
+      by : (t : Bool) → agrees q c ≡ t → cond t (put i c n) (refuse Crc) ≡ put k b m → (k ≡ i) × (whole c n ≡ whole b m) × (agrees q b ≡ true)
+      by true a z =
+          let w : c ≡ b = cc in
+          let u : n ≡ m = cc in
+          (cc, ap₂ whole w u, ap (agrees q) (sym w) ∙ a)
+      by false a z = absurd (let z : _≡_ {A = ℕ} 0 1 = cc in omega arith)
+
+  pub puts-known : (p : Place) (f : Packet) (q : List ℕ) → judge p f q ≡ put k b m → Puts p f q k b m
+  unfolding judgeBy
+  puts-known p f q e =
+      let o = passed (differs p f) Other _ e in
+      let v = passed (not (eqb (editionOf f) (p .edition))) Edition _ (o .1) in
+      let w = passed (ltb (p .slot) (length (payloadIn q))) Wide _ (v .1) in
+      let x = mended-put (f .number) q (mendedIn (f .protection) q) (w .1) in
+      record { number = x .0; serves = o .0; edition = eqb-true _ _ (not-false _ (v .0)); narrow = ltb-false _ _ (w .0); mended = x .1; crc = x .2 }
 
 -- ---- an offer to a record
 

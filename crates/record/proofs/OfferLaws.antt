@@ -2,18 +2,18 @@
 -- to the payload; and it depends on nothing else of the store but its length. The packet may be any list. Assumes nothing.
 use mathlib.Core.Path.{_≡_, refl, sym, ap, subst, _∙_}
 use mathlib.Core.Logic.{_⊎_, inl, inr, ⊎-map}
-use mathlib.Core.Bool.{Bool, true, false, cond, not}
+use mathlib.Core.Bool.{Bool, true, false}
 use mathlib.Core.List.{List, [], _∷_}
 use Prim.Native.Nat.{ℕ, _-_, _/_, _%_, _<_, _≤_}
 use native.Mathlib.Omega.{arith}
-use borrow.Author.Tests.{eqb-true, eqb-false, ltb-false}
-use lib.Dec.{eqb, ltb}
+use borrow.Author.Tests.{eqb-true, eqb-false}
+use lib.Dec.{eqb}
 use lib.ListN.{length, getD, set}
 use lib.Seq.{getD-set-same, getD-set-other}
 use Rattle.words.specs.Words.{same}
 use Rattle.words.proofs.SameLaws.{same-self}
 use Rattle.refusals.specs.declared.Refusal.{Refusal}
-use Rattle.refusals.specs.declared.Refusal.the-variants.{Unknown, Other, Edition, Wide, Crc}
+use Rattle.refusals.specs.declared.Refusal.the-variants.{Unknown}
 use Rattle.packet.specs.declared.Packet.{Packet}
 use Rattle.packet.specs.declared.Reading.{Reading}
 use Rattle.packet.specs.declared.Reading.the-variants.{Sent}
@@ -33,11 +33,11 @@ use Rattle.contents.proofs.Slots.{fits-made, fits-room}
 use Rattle.contents.proofs.Places.{reading-slots, storing-sets, storing-leaves, apart-meets}
 use Rattle.record.specs.declared.Offered.{Offered}
 use Rattle.record.specs.declared.Offered.the-variants.{Stored, Repeat, Refused}
-use Rattle.code.specs.Mend.{Mended, whole, broken, alteredIn}
-use Rattle.record.specs.Mend.{payloadIn, mendedIn}
+use Rattle.code.specs.Mend.{alteredIn}
+use Rattle.record.specs.Mend.{payloadIn}
 use Rattle.sealing.specs.Sealing.{agrees}
-use Rattle.record.specs.Offer.{packetName, nameIn, differs, Judged, refuse, put, judgeMended, judge, putInto, Offering, storing, offerJudged, offerOf, judgeBy}
-use Rattle.record.proofs.OfferCases.{said, payload-length, judge-puts, offer-bad, offer-unread, offer-unknown, offer-placed}
+use Rattle.record.specs.Offer.{packetName, nameIn, Judged, refuse, put, judge, putInto, Offering, storing, offerJudged, offerOf}
+use Rattle.record.proofs.OfferCases.{said, payload-length, judge-puts, Puts, puts-known, offer-bad, offer-unread, offer-unknown, offer-placed}
 use Rattle.record.proofs.OfferFacts.{Read, read-known, read-name, SameFile, same-file, same-serves, no-stream, slot-below}
 use Rattle.record.proofs.MendLaws.{mended-length, Altered, Intact, agrees-copy, mended-copy}
 
@@ -61,45 +61,24 @@ module _ (n : ℕ) (p : Place) (f : Packet) (q : List ℕ) (w : PlaceFacts n p) 
       by true t = inl (eqb-true _ _ t)
       by false t = let z : f .protection ≡ 0 → ⊥ = eqb-false _ _ t in inr (r .multiple (omega (arith, r .protection)))
 
-  module _ (d : differs p f ≡ false) (l : length (payloadIn q) ≤ p .slot) where
-    payload-placed : (b : List ℕ) (k : ℕ) → mendedIn (f .protection) q ≡ whole b k → Placed p f (f .number) b
-    payload-placed b k m =
-        let h : 18 ≤ length q = omega (arith, r .least) in
-        let e : length b ≡ length q - 18 = mended-length (f .protection) q b k h rows-read m in
-        let s = same-file p f d in
-        record {
-          number = refl;
-          below = slot-below p f (r .below (no-stream n p f w named)) d;
-          fits = fits-made p (length b) (omega (arith, payload-length q h))
-              (⊎-map (λ z. sym (s .protection) ∙ z) (λ z. ap (λ (x : ℕ). x % 255) e ∙ z) rows-read);
-        }
-
-    mended-sound : (m : Mended) → mendedIn (f .protection) q ≡ m → Sound p f (judgeMended (f .number) q m)
-    mended-sound (broken i) e = tt
-    mended-sound (whole b k) e = by (agrees q b)
-      where
-        by : (a : Bool) → Sound p f (cond a (put (f .number) b k) (refuse Crc))
-        by true = payload-placed b k e
-        by false = tt
+  put-placed : (k : ℕ) (b : List ℕ) (m : ℕ) → Puts p f q k b m → Placed p f k b
+  put-placed k b m x =
+      let h : 18 ≤ length q = omega (arith, r .least) in
+      let e : length b ≡ length q - 18 = mended-length (f .protection) q b m h rows-read (x .mended) in
+      let s = same-file p f (x .serves) in
+      record {
+        number = x .number;
+        below = omega (arith, x .number, slot-below p f (r .below (no-stream n p f w named)) (x .serves));
+        fits = fits-made p (length b) (omega (arith, x .narrow, payload-length q h))
+            (⊎-map (λ z. sym (s .protection) ∙ z) (λ z. ap (λ (y : ℕ). y % 255) e ∙ z) rows-read);
+      }
 
   pub judge-sound : Sound p f (judge p f q)
-  unfolding judgeBy
-  judge-sound = other (differs p f) refl
+  judge-sound = by (judge p f q) refl
     where
-      wide : differs p f ≡ false → (t : Bool) → ltb (p .slot) (length (payloadIn q)) ≡ t
-          → Sound p f (cond t (refuse Wide) (judgeMended (f .number) q (mendedIn (f .protection) q)))
-      wide d true t = tt
-      wide d false t = mended-sound d (ltb-false _ _ t) (mendedIn (f .protection) q) refl
-
-      edition : differs p f ≡ false → (t : Bool)
-          → Sound p f (cond t (refuse Edition) (cond (ltb (p .slot) (length (payloadIn q))) (refuse Wide) (judgeMended (f .number) q (mendedIn (f .protection) q))))
-      edition d true = tt
-      edition d false = wide d (ltb (p .slot) (length (payloadIn q))) refl
-
-      other : (t : Bool) → differs p f ≡ t
-          → Sound p f (cond t (refuse Other) (cond (not (eqb (editionOf f) (p .edition))) (refuse Edition) (cond (ltb (p .slot) (length (payloadIn q))) (refuse Wide) (judgeMended (f .number) q (mendedIn (f .protection) q)))))
-      other true t = tt
-      other false t = edition t (not (eqb (editionOf f) (p .edition)))
+      by : (j : Judged) → judge p f q ≡ j → Sound p f j
+      by (refuse x) e = tt
+      by (put k b m) e = put-placed k b m (puts-known k b m p f q e)
 
 -- what an altered copy of a packet of the place's file and edition puts is that packet's own payload, mended where the copy was altered
 pub judge-copy : (o : Place) (f : Packet) (q p : List ℕ) → Altered q p → Intact p → SameFile o f → editionOf f ≡ o .edition → (f .protection ≡ 0 → ⊥) → length (payloadIn p) ≤ o .slot
