@@ -19,7 +19,7 @@ CFLAGS = -std=gnu11 -O2 -Wall -Wextra -Wconversion -Iinclude
 sources = crates.txt $(shell find crates -path '*/must-fail' -prune -o -type f -print)
 command = $(wildcard command/*.c command/*.h) include/brithelva.h
 
-.PHONY: all test quick left-out style reference reference-itself reference-cases cases demo library command safety checked kill steps limits largest example bench fuzz install uninstall clean
+.PHONY: all test quick left-out style reference reference-itself reference-cases cases demo library command safety checked checked-command checked-safety kill steps limits largest example bench fuzz install uninstall clean
 
 all: build/run
 
@@ -98,7 +98,10 @@ safety: build/run
 	@tests/safety build/run
 
 checked: build/checked
+	@$(MAKE) --no-print-directory -j2 checked-command checked-safety
+checked-command:
 	@ASAN_OPTIONS=detect_leaks=0 tests/command build/checked
+checked-safety:
 	@ASAN_OPTIONS=detect_leaks=0 tests/safety build/checked
 
 # the command with its own faults looked for at run time
