@@ -39,7 +39,7 @@ use Rattle.promises.proofs.Judged.{copy-names}
 use Rattle.promises.proofs.Own.{fair-each, whole-copy, own, own-before, own-behind}
 use Rattle.promises.proofs.Sequences.{two-sequences}
 use Rattle.promises.proofs.Demand.{demand-3}
-use Rattle.promises.proofs.Fresh.{within-usable, counted, takes, opens}
+use Rattle.promises.proofs.Fresh.{within-usable, counted, takes, taken, opens}
 
 -- a packet names one resource and type alone
 one-name : (o r : Name) (q : List ℕ) → (o ≡ r → ⊥) → names o q ≡ true → names r q ≡ false
@@ -150,7 +150,7 @@ module _ (g d : Settings) (file text : List ℕ) (pg : Protected g file) (pd : P
   opens-beside =
       let n : ℕ = countOf d (length text) in
       let done : openOf freshRecord s g (countOf g (length file)) ≡ carriedOut freshRecord s g (countOf g (length file)) (take 0 0) =
-      open-by freshRecord s g (countOf g (length file)) (take 0 0) (taking-plan freshRecord (length s) g (countOf g (length file)) 0 0 taking-first) in
+      taken g file pg s (omega (arith, fits)) (omega (arith, limit)) in
       let after : List ℕ = carriedOut freshRecord s g (countOf g (length file)) (take 0 0) .store in
       let sized : length after ≡ length s = sym (ap (λ (o : Opening). length (o .store)) done) ∙ open-keeps-length freshRecord s g (countOf g (length file)) in
       let plan : planOf (record { places = one-open }) (length after) d n ≡ take 1 (second .0) =

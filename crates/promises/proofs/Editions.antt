@@ -18,9 +18,8 @@ use Rattle.pack.specs.Pack.{countOf, packetOf}
 use Rattle.pack.proofs.Laws.{fieldsOf, packet-sent, packet-reads, packet-edition}
 use Rattle.places.specs.declared.Place.{Place}
 use Rattle.places.specs.declared.Record.{Record}
-use Rattle.places.specs.Places.{freshRecord, placeOf}
-use Rattle.opening.specs.Open.{take as take-plan, Opening, carriedOut, openOf}
-use Rattle.opening.proofs.PlanLaws.{taking-plan, open-by}
+use Rattle.places.specs.Places.{placeOf}
+use Rattle.opening.specs.Open.{Opening}
 use Rattle.record.specs.Offer.{packetName, Offering, differs, offerJudged, offerOf}
 use Rattle.record.specs.Told.{offeredTold}
 use Rattle.record.proofs.OfferCases.{judge-other, judge-edition, offer-placed}
@@ -31,10 +30,10 @@ use Rattle.promises.specs.Wrong.{allIn, takingEither}
 use Rattle.promises.proofs.Judged.{not-different}
 use Rattle.promises.proofs.Noise.{refused-is-noise}
 use Rattle.promises.proofs.Own.{fair-each, whole-copy, own, own-before, own-behind}
-use Rattle.promises.proofs.Fresh.{takes}
+use Rattle.promises.proofs.Fresh.{taken}
 use Rattle.promises.proofs.Graded.{graded-from-fresh}
 use Rattle.promises.proofs.Slots.{held-found}
-use Rattle.promises.proofs.Turned.{one, byte, protected, room, taking-one, opened, begun, held}
+use Rattle.promises.proofs.Turned.{one, byte, protected, room, opened, begun, held}
 
 pub shows-edition : ShowsEdition
 shows-edition g file n fit few below = (fieldsOf g file n, packet-reads g file n fit few below, packet-edition g file n fit few below)
@@ -92,22 +91,14 @@ shown =
 abbrev opened-first : State
 opened-first = step (opening first 1) (fresh room) .state
 
-opens-first : openOf freshRecord room first 1 ≡ carriedOut freshRecord room first 1 (take-plan 0 0)
-opens-first =
-    open-by freshRecord room first 1 (take-plan 0 0)
-    (taking-plan freshRecord (length room) first 1 0 0 (takes first byte protected-first room (omega arith) (omega arith)))
-
-opens-one : openOf freshRecord room one 1 ≡ carriedOut freshRecord room one 1 (take-plan 0 0)
-opens-one = open-by freshRecord room one 1 (take-plan 0 0) (taking-plan freshRecord (length room) one 1 0 0 taking-one)
-
 -- the record taken for that edition, and the store, are what they are there
 same-held : allIn 1 (opened .held) ≡ opened-first .held
 unfolding step
-same-held = ap (λ (o : Opening). allIn 1 (o .kept .«record»)) opens-one ∙ sym (ap (λ (o : Opening). o .kept .«record») opens-first)
+same-held = ap (λ (o : Opening). allIn 1 (o .kept .«record»)) (taken one byte protected room (omega arith) (omega arith)) ∙ sym (ap (λ (o : Opening). o .kept .«record») (taken first byte protected-first room (omega arith) (omega arith)))
 
 same-store : opened .store ≡ opened-first .store
 unfolding step
-same-store = ap (λ (o : Opening). o .store) opens-one ∙ sym (ap (λ (o : Opening). o .store) opens-first)
+same-store = ap (λ (o : Opening). o .store) (taken one byte protected room (omega arith) (omega arith)) ∙ sym (ap (λ (o : Opening). o .store) (taken first byte protected-first room (omega arith) (omega arith)))
 
 -- where the packet is accepted
 accepted : offeredTold (offerOf (opened-first .held) (opened-first .store) sent .answer) .number ≡ 0

@@ -35,8 +35,8 @@ use Rattle.handing.specs.Hand.{Handing, handRows, handJoined, handContents, han
 use Rattle.refusals.specs.declared.Verdict.{Verdict}
 use Rattle.refusals.specs.Told.{acceptedWith, verdictTold}
 use Rattle.code.specs.Mend.{whole, behind, alteredIn}
-use Rattle.opening.specs.Open.{take as take-plan, Opening, openOf}
-use Rattle.opening.proofs.PlanLaws.{Taking, taking-plan, open-by}
+use Rattle.opening.specs.Open.{Opening, openOf}
+use Rattle.opening.proofs.PlanLaws.{Taking}
 use Rattle.opening.proofs.OpenLaws.{open-empty}
 use Rattle.promises.specs.Calls.{Answer, telling, State, fresh, step}
 use Rattle.promises.specs.Calls.Call.{opening, offering}
@@ -49,7 +49,7 @@ use Rattle.record.specs.Offer.{Offering, storing, putInto, put, refuse, judgeMe
 use Rattle.promises.specs.Wrong.{firstRowOnly, mendingFirst, hushed, silent}
 use Rattle.promises.proofs.Judged.{not-different, copy-reads}
 use Rattle.promises.proofs.Demand.{Collecting, opened-collecting}
-use Rattle.promises.proofs.Fresh.{takes, opens}
+use Rattle.promises.proofs.Fresh.{takes, taken, opens}
 use Rattle.promises.proofs.Turned.{zero-row, wrong-row, wrong-bytes, zero-coded}
 
 abbrev two : Settings
@@ -197,7 +197,7 @@ begun = opened-collecting two zeros protected (fresh room) 0 0 opens-there
 
 empty : contents (placeOf two 1 0) store ≡ holding [] ∷ []
 empty =
-    ap (λ (o : Opening). contents (placeOf two 1 0) (o .store)) (open-by freshRecord room two 1 (take-plan 0 0) (taking-plan freshRecord (length room) two 1 0 0 opens-there))
+    ap (λ (o : Opening). contents (placeOf two 1 0) (o .store)) (taken two zeros protected room (omega arith) (omega arith))
     ∙ open-empty freshRecord room two 1 0 0 opens-there
 
 first-mended : firstRowOnly 1 altered ≡ whole body 0

@@ -22,7 +22,7 @@ use Rattle.layout.proofs.Coded.{tables-reach}
 use Rattle.places.specs.Places.{usable, countFits, freshRecord, firstFrom}
 use Rattle.places.proofs.Keeping.{fresh-good}
 use Rattle.places.proofs.Opened.{fresh-lowest}
-use Rattle.opening.specs.Open.{take, Opening}
+use Rattle.opening.specs.Open.{take, Opening, carriedOut, openOf}
 use Rattle.opening.proofs.PlanLaws.{Taking, taking-plan, open-by}
 use Rattle.promises.specs.Calls.{Answer, telling, State, step, fresh}
 use Rattle.promises.specs.Calls.Call.{packing, opening}
@@ -62,9 +62,13 @@ module _ (g : Settings) (file : List ℕ) (p : Protected g file) where
       lowest = fresh-lowest (length s) (roomOf g file) (within-usable (roomOf g file) (length s) fits limit);
     }
 
+    -- and what opening comes to
+    pub taken : openOf freshRecord s g (countOf g (length file)) ≡ carriedOut freshRecord s g (countOf g (length file)) (take 0 0)
+    taken = open-by freshRecord s g (countOf g (length file)) (take 0 0) (taking-plan freshRecord (length s) g (countOf g (length file)) 0 0 takes)
+
     pub opens : step (opening g (countOf g (length file))) (fresh s) .answer ≡ telling (acceptedWith [])
     unfolding step
-    opens = ap (λ (o : Opening). telling (verdictTold (o .kept .verdict))) (open-by freshRecord s g (countOf g (length file)) (take 0 0) (taking-plan freshRecord (length s) g (countOf g (length file)) 0 0 takes))
+    opens = ap (λ (o : Opening). telling (verdictTold (o .kept .verdict))) taken
 
 pub from-fresh : FromFresh step
 unfolding step

@@ -27,8 +27,8 @@ use Rattle.places.specs.declared.Place.{Place}
 use Rattle.places.specs.declared.Found.the-variants.{At, Nothing}
 use Rattle.places.specs.Places.{Name, settingsName, firstFrom, freshRecord, placeOf}
 use Rattle.contents.specs.Contents.{Slot as Content, holding, contents}
-use Rattle.opening.specs.Open.{take as take-plan, Opening}
-use Rattle.opening.proofs.PlanLaws.{Taking, taking-plan, open-by}
+use Rattle.opening.specs.Open.{Opening}
+use Rattle.opening.proofs.PlanLaws.{Taking}
 use Rattle.opening.proofs.OpenLaws.{open-empty}
 use Rattle.record.specs.Offer.{packetName}
 use Rattle.record.proofs.OfferCases.{payload-length}
@@ -41,7 +41,7 @@ use Rattle.promises.specs.Statements.{WholeRows, MendsEachRow, Protected
 use Rattle.promises.specs.Wrong.{refusing, losing, boasting, invented, inventing, firstRowOnly}
 use Rattle.promises.proofs.Own.{some-carry}
 use Rattle.promises.proofs.Demand.{Collecting, opened-collecting}
-use Rattle.promises.proofs.Fresh.{takes}
+use Rattle.promises.proofs.Fresh.{takes, taken}
 use Rattle.promises.proofs.Slots.{held-found, found-held, status-by-slots}
 
 -- ---- the example
@@ -65,7 +65,7 @@ carried = some-carry one byte protected
 abbrev pub room : List ℕ
 room = replicate 257 0
 
-pub taking-one : Taking freshRecord (length room) one 1 0 0
+taking-one : Taking freshRecord (length room) one 1 0 0
 taking-one = takes one byte protected room (omega arith) (omega arith)
 
 -- its place, just opened
@@ -82,7 +82,7 @@ empty : contents (placeAt opened 0) (opened .store) ≡ holding [] ∷ []
 unfolding step
 empty =
     ap (λ (p : Place). contents p (opened .store)) (begun .place)
-    ∙ ap (λ (o : Opening). contents (placeOf one 1 0) (o .store)) (open-by freshRecord room one 1 (take-plan 0 0) (taking-plan freshRecord (length room) one 1 0 0 taking-one))
+    ∙ ap (λ (o : Opening). contents (placeOf one 1 0) (o .store)) (taken one byte protected room (omega arith) (omega arith))
     ∙ open-empty freshRecord room one 1 0 0 taking-one
 
 -- ---- one that refuses everything
