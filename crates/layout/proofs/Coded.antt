@@ -60,59 +60,61 @@ info-from m file t r i =
     listed-ext (λ c. getD file (fileByteAt m (record { table = t; row = r + i; column = c })) 0) (λ c. getD file (t * (239 * m) + r + i + c * m) 0) 239 0
     (λ c a b. let e : t * (239 * m) + c * m + (r + i) ≡ t * (239 * m) + r + i + c * m = omega arith in ap (λ (x : ℕ). getD file x 0) e)
 
--- ---- all rows
+-- ---- all bytes, in every order
 
-pub length-coded : (m : ℕ) (file : List ℕ) → length (codedFile m file) ≡ 255 * m * tablesOf m (length file)
+pub length-coded : (order m : ℕ) (file : List ℕ) → length (codedFile order m file) ≡ 255 * m * tablesOf m (length file)
 unfolding codedFile
-length-coded m file = length-listed (λ j. codedAt m file (sentSpot m j)) (255 * m * tablesOf m (length file)) 0
+length-coded order m file = length-listed (λ j. codedAt m file (sentSpot order m j)) (255 * m * tablesOf m (length file)) 0
 
 -- whole tables, as many as the file needs
-pub coded-shape : (m : ℕ) (file : List ℕ) → 0 < m → length (codedFile m file) / 255 % m ≡ 0
-coded-shape m file h =
-    ap (λ (x : ℕ). x / 255 % m) (length-coded m file ∙ mul-assoc 255 m (tablesOf m (length file)))
+pub coded-shape : (order m : ℕ) (file : List ℕ) → 0 < m → length (codedFile order m file) / 255 % m ≡ 0
+coded-shape order m file h =
+    ap (λ (x : ℕ). x / 255 % m) (length-coded order m file ∙ mul-assoc 255 m (tablesOf m (length file)))
     ∙ ap (λ (x : ℕ). x % m) (mul-div-cancel-left (m * tablesOf m (length file)) {n = 255} (zero-lt-suc 254)) ∙ mul-mod-right m (tablesOf m (length file))
 
-pub coded-tables : (m : ℕ) (file : List ℕ) → 0 < m → length (codedFile m file) / (255 * m) ≡ tablesOf m (length file)
-coded-tables m file h =
-    ap (λ (x : ℕ). x / (255 * m)) (length-coded m file) ∙ mul-div-cancel-left (tablesOf m (length file)) {n = 255 * m} (mul-pos (zero-lt-suc 254) h)
+pub coded-tables : (order m : ℕ) (file : List ℕ) → 0 < m → length (codedFile order m file) / (255 * m) ≡ tablesOf m (length file)
+coded-tables order m file h =
+    ap (λ (x : ℕ). x / (255 * m)) (length-coded order m file) ∙ mul-div-cancel-left (tablesOf m (length file)) {n = 255 * m} (mul-pos (zero-lt-suc 254) h)
 
-pub coded-bytes : (m : ℕ) (file : List ℕ) → Bytes file → Bytes (codedFile m file)
+pub coded-bytes : (order m : ℕ) (file : List ℕ) → Bytes file → Bytes (codedFile order m file)
 unfolding codedFile
-coded-bytes m file b =
+coded-bytes order m file b =
     let n : ℕ = 255 * m * tablesOf m (length file) in
-    bytes-of (codedFile m file)
+    bytes-of (codedFile order m file)
     (λ j. ⊎-elim
-    (λ (l : n ≤ j). omega (arith, List·getD-eq-default (codedFile m file) 0 {n = j} (omega (arith, length-coded m file))))
+    (λ (l : n ≤ j). omega (arith, List·getD-eq-default (codedFile order m file) 0 {n = j} (omega (arith, length-coded order m file))))
     (λ (l : j < n).
-    let s : Spot = sentSpot m j in
+    let s : Spot = sentSpot order m j in
     omega (
       arith,
-      getD-listed-0 (λ j. codedAt m file (sentSpot m j)) n j 0 l,
+      getD-listed-0 (λ j. codedAt m file (sentSpot order m j)) n j 0 l,
       bytes-at (rowOf m file (s .table) (s .row)) (row-coded m file (s .table) (s .row) b .bytes) (s .column),
     ))
     (le-or-lt n j))
 
+-- ---- row order: the rows of all tables, one behind the other
+
 module _ (m : ℕ) (h : 0 < m) (file : List ℕ) where
   -- byte c of row q
-  spot-at : (q c : ℕ) → c < 255 → sentSpot m (q * 255 + c) ≡ record { table = q / m; row = q % m; column = c }
+  spot-at : (q c : ℕ) → c < 255 → sentSpot 0 m (q * 255 + c) ≡ record { table = q / m; row = q % m; column = c }
   spot-at q c l =
       let s : Spot = record { table = q / m; row = q % m; column = c } in
-      ap (λ (x : ℕ). sentSpot m (x * 255 + c)) (sym (div-add-mod' q m)) ∙ sent-rule m h .spot-of-byte s (mod-lt q h) l
+      ap (λ (x : ℕ). sentSpot 0 m (x * 255 + c)) (sym (div-add-mod' q m)) ∙ sent-rule 0 m h .spot-of-byte s (mod-lt q h) l
 
   whole-rows : (q : ℕ) → q < m * tablesOf m (length file) → q * 255 + 255 ≤ 255 * m * tablesOf m (length file)
   whole-rows q l = let e : 255 * m * tablesOf m (length file) ≡ 255 * (m * tablesOf m (length file)) = mul-assoc 255 m (tablesOf m (length file)) in omega arith
 
   -- row q of the coded file
-  pub coded-row : (q : ℕ) → q < m * tablesOf m (length file) → take 255 (drop (q * 255) (codedFile m file)) ≡ rowOf m file (q / m) (q % m)
+  pub coded-row : (q : ℕ) → q < m * tablesOf m (length file) → take 255 (drop (q * 255) (codedFile 0 m file)) ≡ rowOf m file (q / m) (q % m)
   unfolding codedFile
   coded-row q l =
       let row : List ℕ = rowOf m file (q / m) (q % m) in
       let n : length row ≡ 255 = length-row m file (q / m) (q % m) in
-      slice-listed (λ j. codedAt m file (sentSpot m j)) (255 * m * tablesOf m (length file)) 0 (q * 255) 255 (whole-rows q l)
-      ∙ listed-same (λ j. codedAt m file (sentSpot m j)) (λ c. getD row c 0) 255 (0 + q * 255) 0 (λ c k.
+      slice-listed (λ j. codedAt m file (sentSpot 0 m j)) (255 * m * tablesOf m (length file)) 0 (q * 255) 255 (whole-rows q l)
+      ∙ listed-same (λ j. codedAt m file (sentSpot 0 m j)) (λ c. getD row c 0) 255 (0 + q * 255) 0 (λ c k.
       let e : 0 + q * 255 + c ≡ q * 255 + c = omega arith in
       let z : c ≡ 0 + c = omega arith in
-      ap (λ (x : ℕ). codedAt m file (sentSpot m x)) e ∙ ap (codedAt m file) (spot-at q c k) ∙ ap (λ (x : ℕ). getD row x 0) z)
+      ap (λ (x : ℕ). codedAt m file (sentSpot 0 m x)) e ∙ ap (codedAt m file) (spot-at q c k) ∙ ap (λ (x : ℕ). getD row x 0) z)
       ∙ ap (λ (x : ℕ). listed (λ c. getD row c 0) x 0) (sym n) ∙ listed-whole row 0
 
   -- the rows behind row q, as long as they lie in its table
@@ -123,20 +125,20 @@ module _ (m : ℕ) (h : 0 < m) (file : List ℕ) where
 
   -- k rows of it, from row q on
   pub coded-rows : (q k : ℕ) → q + k ≤ m * tablesOf m (length file)
-      → take (k * 255) (drop (q * 255) (codedFile m file)) ≡ flatten (listed (λ i. rowOf m file (i / m) (i % m)) k q)
+      → take (k * 255) (drop (q * 255) (codedFile 0 m file)) ≡ flatten (listed (λ i. rowOf m file (i / m) (i % m)) k q)
   coded-rows q k l =
       sym
       (ap flatten
-      (listed-ext (λ i. rowOf m file (i / m) (i % m)) (λ i. take 255 (drop (i * 255) (codedFile m file))) k q (λ i a b. sym (coded-row i (omega arith))))
-      ∙ joined-pieces (codedFile m file) 255 k q)
+      (listed-ext (λ i. rowOf m file (i / m) (i % m)) (λ i. take 255 (drop (i * 255) (codedFile 0 m file))) k q (λ i a b. sym (coded-row i (omega arith))))
+      ∙ joined-pieces (codedFile 0 m file) 255 k q)
 
   -- its rows joined
-  pub coded-joined : flatten (listed (λ q. rowOf m file (q / m) (q % m)) (m * tablesOf m (length file)) 0) ≡ codedFile m file
+  pub coded-joined : flatten (listed (λ q. rowOf m file (q / m) (q % m)) (m * tablesOf m (length file)) 0) ≡ codedFile 0 m file
   coded-joined =
       let n : ℕ = m * tablesOf m (length file) in
       let e : 255 * m * tablesOf m (length file) ≡ 255 * n = mul-assoc 255 m (tablesOf m (length file)) in
-      ap flatten (listed-ext (λ q. rowOf m file (q / m) (q % m)) (λ q. take 255 (drop (q * 255) (codedFile m file))) n 0 (λ q a b. sym (coded-row q (omega arith))))
-      ∙ joined-all (codedFile m file) 255 n (omega (arith, length-coded m file))
+      ap flatten (listed-ext (λ q. rowOf m file (q / m) (q % m)) (λ q. take 255 (drop (q * 255) (codedFile 0 m file))) n 0 (λ q a b. sym (coded-row q (omega arith))))
+      ∙ joined-all (codedFile 0 m file) 255 n (omega (arith, length-coded 0 m file))
 
 -- ---- the tables undone
 
@@ -169,23 +171,23 @@ module _ (m : ℕ) (h : 0 < m) (byteAt : Spot → ℕ) (spotAt : ℕ → Spot) (
   laid-undone n i l =
       listed-ext (λ k. getD laid (byteAt (spotOf m k)) 0) (λ k. getD file k 0) n i (λ k a b. laid-at k (omega arith))
 
-module _ (m : ℕ) (h : 0 < m) (file : List ℕ) where
-  pub undone-part : (n i : ℕ) → i + n ≤ 239 * m * tablesOf m (length file) → undone m (codedFile m file) n i ≡ listed (λ k. getD file k 0) n i
+module _ (order m : ℕ) (h : 0 < m) (file : List ℕ) where
+  pub undone-part : (n i : ℕ) → i + n ≤ 239 * m * tablesOf m (length file) → undone order m (codedFile order m file) n i ≡ listed (λ k. getD file k 0) n i
   unfolding codedFile
-  undone-part n i l = laid-undone m h (sentByteAt m) (sentSpot m) (sent-rule m h) file n i l
+  undone-part n i l = laid-undone m h (sentByteAt order m) (sentSpot order m) (sent-rule order m h) file n i l
 
   -- all of it: the file followed by zeros
-  pub undone-coded : undone m (codedFile m file) (239 * m * tablesOf m (length file)) 0
+  pub undone-coded : undone order m (codedFile order m file) (239 * m * tablesOf m (length file)) 0
       ≡ file ++ replicate (239 * m * tablesOf m (length file) - length file) 0
   undone-coded =
       undone-part (239 * m * tablesOf m (length file)) 0 (omega arith)
       ∙ listed-padded file 0 (239 * m * tablesOf m (length file)) (tables-reach m (length file) h)
 
-  pub undone-file : undone m (codedFile m file) (length file) 0 ≡ file
+  pub undone-file : undone order m (codedFile order m file) (length file) 0 ≡ file
   undone-file = undone-part (length file) 0 (omega (arith, tables-reach m (length file) h)) ∙ listed-whole file 0
 
   -- every padding position holds 0
-  pub undone-padding : (n : ℕ) → length file + n ≤ 239 * m * tablesOf m (length file) → undone m (codedFile m file) n (length file) ≡ replicate n 0
+  pub undone-padding : (n : ℕ) → length file + n ≤ 239 * m * tablesOf m (length file) → undone order m (codedFile order m file) n (length file) ≡ replicate n 0
   undone-padding n l =
       undone-part n (length file) l
       ∙ listed-same (λ k. getD file k 0) (λ k. 0) n (length file) 0 (λ k p. List·getD-eq-default file 0 (omega arith))

@@ -1,23 +1,19 @@
--- Where the bytes of a file stand in its tables, and where the bytes of the tables stand in what is sent: each of the two is a position rule, with its inverse
--- and its bounds. Column order at any width is one rule, so that what is sent could go by columns too. Assumes nothing.
+-- Where the bytes of a file stand in its tables, and where the bytes of the tables stand in what is sent, by rows or by columns: all three are the one position rule, which has its
+-- inverse and its bounds in every order and at every width. Assumes nothing.
 use mathlib.Core.Path.{_≡_, refl, sym, ap, ap₂, _∙_, subst}
+use mathlib.Core.Bool.{Bool, true, false, cond}
 use Prim.Native.Nat.{ℕ, _+_, _*_, _/_, _%_, _<_}
 use native.Mathlib.Nat.{mul-assoc, mul-comm, add-mul, mod-lt, div-add-mod', mul-pos, div-div-eq-div-mul, div-lt-iff-lt-mul, zero-lt-suc}
 use lib.Arith.{digits-div, digits-mod, mod-mul}
-use Rattle.layout.specs.Layout.{Spot, fileByteAt, spotOf, sentByteAt, sentSpot}
+use lib.Dec.{eqb}
+use Rattle.layout.specs.Layout.{Spot, byteAt, spotAt, fileByteAt, spotOf, sentByteAt, sentSpot}
 use Rattle.layout.specs.Rule.{Rule}
 
 -- two spots are one where their numbers are
 spot-ext : (a b : Spot) → a .table ≡ b .table → a .row ≡ b .row → a .column ≡ b .column → a ≡ b
 spot-ext a b t r c = λ i. record { table = t i; row = r i; column = c i }
 
--- ---- column order: byte i of tables with m rows and w columns
-
-abbrev pub columnByteAt : ℕ → ℕ → Spot → ℕ
-columnByteAt m w s = s .table * (w * m) + s .column * m + s .row
-
-abbrev pub columnSpot : ℕ → ℕ → ℕ → Spot
-columnSpot m w i = record { table = i / (w * m); row = i % m; column = i % (w * m) / m }
+-- ---- column order
 
 module _ (m w : ℕ) (h : 0 < m) (hw : 0 < w) where
   -- the columns of all tables counted through: table t, column c is column t · w + c
@@ -30,7 +26,7 @@ module _ (m w : ℕ) (h : 0 < m) (hw : 0 < w) where
   column-as : (i : ℕ) → i % (w * m) / m ≡ i / m % w
   column-as i = ap (λ (x : ℕ). x / m) (mod-mul i {m = w} {c = m} hw h) ∙ digits-div (i / m % w) (mod-lt i h)
 
-  pub by-columns : Rule m w (columnByteAt m w) (columnSpot m w)
+  by-columns : Rule m w (byteAt 1 m w) (spotAt 1 m w)
   by-columns = record {
     row-below = λ i. mod-lt i h;
     column-below = λ i. subst (λ (x : ℕ). x < w) (sym (column-as i)) (mod-lt (i / m) hw);
@@ -39,27 +35,21 @@ module _ (m w : ℕ) (h : 0 < m) (hw : 0 < w) where
         ∙ ap₂ (λ (x y : ℕ). (x * w + y) * m + i % m) (table-as i) (column-as i)
         ∙ ap (λ (x : ℕ). x * m + i % m) (div-add-mod' (i / m) w) ∙ div-add-mod' i m;
     spot-of-byte = λ s hr hc.
-        let b : columnByteAt m w s ≡ (s .table * w + s .column) * m + s .row = byte-is (s .table) (s .row) (s .column) in
-        spot-ext (columnSpot m w (columnByteAt m w s)) s
-        (table-as (columnByteAt m w s) ∙ ap (λ (x : ℕ). x / m / w) b ∙ ap (λ (x : ℕ). x / w) (digits-div (s .table * w + s .column) hr)
+        let b : byteAt 1 m w s ≡ (s .table * w + s .column) * m + s .row = byte-is (s .table) (s .row) (s .column) in
+        spot-ext (spotAt 1 m w (byteAt 1 m w s)) s
+        (table-as (byteAt 1 m w s) ∙ ap (λ (x : ℕ). x / m / w) b ∙ ap (λ (x : ℕ). x / w) (digits-div (s .table * w + s .column) hr)
         ∙ digits-div (s .table) hc)
         (ap (λ (x : ℕ). x % m) b ∙ digits-mod (s .table * w + s .column) hr)
-        (column-as (columnByteAt m w s) ∙ ap (λ (x : ℕ). x / m % w) b
+        (column-as (byteAt 1 m w s) ∙ ap (λ (x : ℕ). x / m % w) b
         ∙ ap (λ (x : ℕ). x % w) (digits-div (s .table * w + s .column) hr) ∙ digits-mod (s .table) hc);
   }
 
--- ---- row order: rows of w bytes, one after the other
-
-abbrev pub rowByteAt : ℕ → ℕ → Spot → ℕ
-rowByteAt m w s = (s .table * m + s .row) * w + s .column
-
-abbrev pub rowSpot : ℕ → ℕ → ℕ → Spot
-rowSpot m w j = record { table = j / (w * m); row = j / w % m; column = j % w }
+-- ---- row order
 
 row-table : (m w i : ℕ) → i / (w * m) ≡ i / w / m
 row-table m w i = sym (div-div-eq-div-mul i w m)
 
-pub by-rows : (m w : ℕ) → 0 < m → 0 < w → Rule m w (rowByteAt m w) (rowSpot m w)
+by-rows : (m w : ℕ) → 0 < m → 0 < w → Rule m w (byteAt 0 m w) (spotAt 0 m w)
 by-rows m w h hw = record {
   row-below = λ j. mod-lt (j / w) h;
   column-below = λ j. mod-lt j hw;
@@ -67,22 +57,28 @@ by-rows m w h hw = record {
   byte-of-spot = λ j. ap (λ (x : ℕ). (x * m + j / w % m) * w + j % w) (row-table m w j)
       ∙ ap (λ (x : ℕ). x * w + j % w) (div-add-mod' (j / w) m) ∙ div-add-mod' j w;
   spot-of-byte = λ s hr hc.
-      let d : rowByteAt m w s / w ≡ s .table * m + s .row = digits-div (s .table * m + s .row) hc in
-      spot-ext (rowSpot m w (rowByteAt m w s)) s
-      (row-table m w (rowByteAt m w s) ∙ ap (λ (x : ℕ). x / m) d ∙ digits-div (s .table) hr)
+      let d : byteAt 0 m w s / w ≡ s .table * m + s .row = digits-div (s .table * m + s .row) hc in
+      spot-ext (spotAt 0 m w (byteAt 0 m w s)) s
+      (row-table m w (byteAt 0 m w s) ∙ ap (λ (x : ℕ). x / m) d ∙ digits-div (s .table) hr)
       (ap (λ (x : ℕ). x % m) d ∙ digits-mod (s .table) hr)
       (digits-mod (s .table * m + s .row) hc);
 }
 
--- ---- the two that are used
+-- ---- in every order
 
--- the bytes of the file: column order at 239
+pub position-rule : (order m w : ℕ) → 0 < m → 0 < w → Rule m w (byteAt order m w) (spotAt order m w)
+position-rule order m w h hw = by (eqb order 1)
+  where
+    by : (t : Bool) → Rule m w (λ s. cond t (byteAt 1 m w s) (byteAt 0 m w s)) (λ i. cond t (spotAt 1 m w i) (spotAt 0 m w i))
+    by true = by-columns m w h hw
+    by false = by-rows m w h hw
+
+-- the bytes of the file, and what is sent
 pub file-rule : (m : ℕ) → 0 < m → Rule m 239 (fileByteAt m) (spotOf m)
-file-rule m h = by-columns m 239 h (zero-lt-suc 238)
+file-rule m h = position-rule 1 m 239 h (zero-lt-suc 238)
 
--- what is sent: row order at 255
-pub sent-rule : (m : ℕ) → 0 < m → Rule m 255 (sentByteAt m) (sentSpot m)
-sent-rule m h = by-rows m 255 h (zero-lt-suc 254)
+pub sent-rule : (order m : ℕ) → 0 < m → Rule m 255 (sentByteAt order m) (sentSpot order m)
+sent-rule order m h = position-rule order m 255 h (zero-lt-suc 254)
 
 -- ---- what every rule gives
 

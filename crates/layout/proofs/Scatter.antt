@@ -128,29 +128,29 @@ module _ (m n : ℕ) where
 
 -- all rows of t tables, which stand end to end: the file's first n bytes, and what the output held behind them
 pub scattered-all : (m n t : ℕ) (sent out : List ℕ) → 0 < m → n ≤ 239 * m * t → n ≤ length out
-    → scattered m n (λ q. listed (λ c. getD sent (q * 255 + c) 0) 239 0) (m * t) out ≡ undone m sent n 0 ++ drop n out
+    → scattered m n (λ q. listed (λ c. getD sent (q * 255 + c) 0) 239 0) (m * t) out ≡ undone 0 m sent n 0 ++ drop n out
 unfolding number
 scattered-all m n t sent out h f l =
     let row : ℕ → List ℕ = λ q. listed (λ c. getD sent (q * 255 + c) 0) 239 0 in
     let wide : (q : ℕ) → length (row q) ≡ 239 = λ q. length-listed (λ c. getD sent (q * 255 + c) 0) 239 0 in
     let done : List ℕ = scattered m n row (m * t) out in
-    let u : length (undone m sent n 0) ≡ n = length-listed (readBack m sent) n 0 in
+    let u : length (undone 0 m sent n 0) ≡ n = length-listed (readBack 0 m sent) n 0 in
     let v : length done ≡ length out = length-scattered m n row (m * t) out in
-    ext-getD 0 done (undone m sent n 0 ++ drop n out) (v ∙ sym (length-append (undone m sent n 0) (drop n out) ∙ omega (arith, length-drop n out)))
+    ext-getD 0 done (undone 0 m sent n 0 ++ drop n out) (v ∙ sym (length-append (undone 0 m sent n 0) (drop n out) ∙ omega (arith, length-drop n out)))
     (λ i k. ⊎-elim
     (λ (b : n ≤ i).
     let z : n + (i - n) ≡ i = omega arith in
-    let y : length (undone m sent n 0) + (i - n) ≡ i = omega arith in
+    let y : length (undone 0 m sent n 0) + (i - n) ≡ i = omega arith in
     scattered-beyond m n row wide h out l (m * t) i b
-    ∙ ap (λ (x : ℕ). getD out x 0) (sym z) ∙ sym (getD-drop n out (i - n) 0) ∙ sym (getD-append-add (undone m sent n 0) (drop n out) (i - n) 0)
-    ∙ ap (λ (x : ℕ). getD (undone m sent n 0 ++ drop n out) x 0) y)
+    ∙ ap (λ (x : ℕ). getD out x 0) (sym z) ∙ sym (getD-drop n out (i - n) 0) ∙ sym (getD-append-add (undone 0 m sent n 0) (drop n out) (i - n) 0)
+    ∙ ap (λ (x : ℕ). getD (undone 0 m sent n 0 ++ drop n out) x 0) y)
     (λ (b : i < n).
     let g : spotOf m i .table < t = table-below m 239 (fileByteAt m) (spotOf m) h (zero-lt-suc 238) (file-rule m h) t i (omega arith) in
     let q : spotOf m i .table * m + spotOf m i .row < m * t = omega (arith, digits-lt g (mod-lt i h), mul-comm t m) in
     scattered-at m n row wide h out l (m * t) i b q
     ∙ getD-listed-0 (λ c. getD sent ((spotOf m i .table * m + spotOf m i .row) * 255 + c) 0) 239 (spotOf m i .column) 0 (file-rule m h .column-below i)
-    ∙ sym (getD-listed-0 (readBack m sent) n i 0 b)
-    ∙ sym (List·getD-append (undone m sent n 0) (drop n out) 0 i (omega arith)))
+    ∙ sym (getD-listed-0 (readBack 0 m sent) n i 0 b)
+    ∙ sym (List·getD-append (undone 0 m sent n 0) (drop n out) 0 i (omega arith)))
     (le-or-lt n i))
 
 -- ---- the loop over a row: what is left to write makes what the whole row makes

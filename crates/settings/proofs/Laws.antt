@@ -1,21 +1,21 @@
 -- The laws of the settings: what settings that fit satisfy, and the other way round (document 01, sections 2 and 4; document 02, R-9).
 -- Assumes nothing.
 use mathlib.Core.Path.{_≡_, refl, sym, _∙_}
-use mathlib.Core.Bool.{Bool, true, false, cond, _&&_, _||_, true≢false, and-eq-true-iff}
+use mathlib.Core.Bool.{Bool, true, false, cond, not, _&&_, _||_, true≢false, and-eq-true-iff}
 use Prim.Native.Nat.{ℕ, _-_, _%_, _^_, _≤_, _<_}
 use native.Mathlib.Omega.{arith}
 use borrow.Author.Tests.{leb-true, eqb-true, eqb-false, le-leb, eq-eqb, ne-eqb}
 use lib.Dec.{eqb, leb}
 use Rattle.settings.specs.declared.Settings.{Settings}
-use Rattle.settings.specs.Settings.{sizeFits, settingsFit}
+use Rattle.settings.specs.Settings.{rowWise, sizeFits, orderFits, settingsFit}
 
--- what a size that fits is: 1 to 4077, and whole rows with protection
-pub record SizeFacts (p n : ℕ) : Type 0 where
+-- what a size that fits is: 1 to 4077, and whole rows with protection in row order
+pub record SizeFacts (p o n : ℕ) : Type 0 where
   pub least : 0 < n
   pub most : n ≤ 4077
-  pub multiple : 0 < p → n % 255 ≡ 0
+  pub multiple : rowWise p o ≡ true → n % 255 ≡ 0
 
--- what settings that fit are: document 01, sections 2 and 4, and an edition of document 02, R-9
+-- what settings that fit are: document 01, sections 2 and 4, an edition of document 02, R-9, and an order of R-8
 pub record SettingsFacts (g : Settings) : Type 0 where
   pub resource : 0 < g .resource
   pub resource-most : g .resource < 2 ^ 16
@@ -27,33 +27,52 @@ pub record SettingsFacts (g : Settings) : Type 0 where
   pub rows-most : g .protection ≡ 1 → g .rows < 2 ^ 8
   pub edition : 0 < g .edition
   pub edition-most : g .edition < 3
-  pub size : SizeFacts (g .protection) (g .size)
+  pub order-most : g .order < 2
+  pub ordered : g .order ≡ 1 → g .protection ≡ 1
+  pub size : SizeFacts (g .protection) (g .order) (g .size)
 
-module _ (p n : ℕ) where
-  pub size-facts : sizeFits p n ≡ true → SizeFacts p n
-  size-facts e = by (eqb p 0) refl e
+module _ (p o n : ℕ) where
+  pub size-facts : sizeFits p o n ≡ true → SizeFacts p o n
+  size-facts e = by (rowWise p o) refl e
     where
-      by : (t : Bool) → eqb p 0 ≡ t → cond t (leb 1 n && leb n 4077) (eqb (n % 255) 0 && (leb 255 n && leb n 3825)) ≡ true → SizeFacts p n
+      by : (t : Bool) → rowWise p o ≡ t → cond t (eqb (n % 255) 0 && (leb 255 n && leb n 3825)) (leb 1 n && leb n 4077) ≡ true → SizeFacts p o n
       by true k e =
-          let w = and-eq-true-iff (leb 1 n) (leb n 4077) .0 e in
-          let z = eqb-true p 0 k in
-          record { least = leb-true 1 n (w .0); most = leb-true n 4077 (w .1); multiple = λ (h : 0 < p). omega arith }
-      by false k e =
           let w = and-eq-true-iff (eqb (n % 255) 0) (leb 255 n && leb n 3825) .0 e in
           let v = and-eq-true-iff (leb 255 n) (leb n 3825) .0 (w .1) in
           let l = leb-true 255 n (v .0) in
           let m = leb-true n 3825 (v .1) in
-          record { least = omega arith; most = omega arith; multiple = λ (h : 0 < p). eqb-true _ _ (w .0) }
+          record { least = omega arith; most = omega arith; multiple = λ h. eqb-true _ _ (w .0) }
+      by false k e =
+          let w = and-eq-true-iff (leb 1 n) (leb n 4077) .0 e in
+          record { least = leb-true 1 n (w .0); most = leb-true n 4077 (w .1); multiple = λ h. absurd (true≢false (sym h ∙ k)) }
 
-  pub size-fit : SizeFacts p n → sizeFits p n ≡ true
-  size-fit s = by (eqb p 0) refl
+  pub size-fit : SizeFacts p o n → sizeFits p o n ≡ true
+  size-fit s = by (rowWise p o) refl
     where
-      by : (t : Bool) → eqb p 0 ≡ t → cond t (leb 1 n && leb n 4077) (eqb (n % 255) 0 && (leb 255 n && leb n 3825)) ≡ true
-      by true k = rw (le-leb 1 n (omega arith), le-leb n 4077 (s .most))
-      by false k =
-          let z : p ≡ 0 → ⊥ = eqb-false _ _ k in
-          let m = s .multiple (omega arith) in
+      by : (t : Bool) → rowWise p o ≡ t → cond t (eqb (n % 255) 0 && (leb 255 n && leb n 3825)) (leb 1 n && leb n 4077) ≡ true
+      by true k =
+          let m = s .multiple k in
           rw (eq-eqb (n % 255) 0 m, le-leb 255 n (omega arith), le-leb n 3825 (omega arith))
+      by false k = rw (le-leb 1 n (omega arith), le-leb n 4077 (s .most))
+
+pub order-facts : (p o : ℕ) → orderFits p o ≡ true → (o < 2) × (o ≡ 1 → p ≡ 0 → ⊥)
+order-facts p o e = by (eqb o 0) (eqb o 1) (eqb p 0) refl refl refl e
+  where
+    by : (a b c : Bool) → eqb o 0 ≡ a → eqb o 1 ≡ b → eqb p 0 ≡ c → a || (b && not c) ≡ true → (o < 2) × (o ≡ 1 → p ≡ 0 → ⊥)
+    by true b c x y z e = let w = eqb-true o 0 x in (omega arith, λ v u. omega arith)
+    by false true false x y z e = let w = eqb-true o 1 y in let n : p ≡ 0 → ⊥ = eqb-false p 0 z in (omega arith, λ v u. n u)
+    by false true true x y z e = absurd (true≢false (sym e))
+    by false false c x y z e = absurd (true≢false (sym e))
+
+is-order : (p o : ℕ) → o < 2 → (o ≡ 1 → p ≡ 0 → ⊥) → orderFits p o ≡ true
+is-order p o l h = by (eqb o 0) refl
+  where
+    by : (t : Bool) → eqb o 0 ≡ t → t || (eqb o 1 && not (eqb p 0)) ≡ true
+    by true k = refl
+    by false k =
+        let z : o ≡ 0 → ⊥ = eqb-false o 0 k in
+        let w : o ≡ 1 = omega arith in
+        rw (eq-eqb o 1 w, ne-eqb p 0 (h w))
 
 one-or-two : (k : ℕ) → eqb k 1 || eqb k 2 ≡ true → (0 < k) × (k < 3)
 one-or-two k e = by (eqb k 1) refl e
@@ -86,6 +105,10 @@ rows-fit p m l h = by (eqb p 0) refl
         let w = h (omega arith) in
         rw (le-leb 1 m (omega arith), le-leb m 255 (omega arith))
 
+-- a protection that is one and not 0
+pub by-one : (p : ℕ) → p < 2 → (p ≡ 0 → ⊥) → p ≡ 1
+by-one p l h = omega arith
+
 module _ (g : Settings) where
   pub settings-facts : settingsFit g ≡ true → SettingsFacts g
   unfolding settingsFit
@@ -97,6 +120,8 @@ module _ (g : Settings) where
       let h = and-eq-true-iff (leb (g .protection) 1) _ .0 (d .1) in
       let i = and-eq-true-iff (eqb (g .protection) 0 || (leb 1 (g .rows) && leb (g .rows) 255)) _ .0 (h .1) in
       let j = and-eq-true-iff (eqb (g .edition) 1 || eqb (g .edition) 2) _ .0 (i .1) in
+      let q = and-eq-true-iff (orderFits (g .protection) (g .order)) _ .0 (j .1) in
+      let v = order-facts (g .protection) (g .order) (q .0) in
       let l = leb-true (g .resource) 65535 (b .0) in
       let u = leb-true (g .update) 15 (d .0) in
       let p = leb-true (g .protection) 1 (h .0) in
@@ -111,8 +136,13 @@ module _ (g : Settings) where
         rows-most = λ (o : g .protection ≡ 1). rows-told (g .protection) (g .rows) (i .0) o .1;
         edition = one-or-two (g .edition) (j .0) .0;
         edition-most = one-or-two (g .edition) (j .0) .1;
-        size = size-facts (g .protection) (g .size) (j .1);
+        order-most = v .0;
+        ordered = λ (o : g .order ≡ 1). let z = v .1 o in by-one (g .protection) (omega arith) z;
+        size = size-facts (g .protection) (g .order) (g .size) (q .1);
       }
+
+  pub order-fit : SettingsFacts g → orderFits (g .protection) (g .order) ≡ true
+  order-fit s = is-order (g .protection) (g .order) (s .order-most) (λ o z. let w = s .ordered o in omega arith)
 
   pub settings-fit : SettingsFacts g → settingsFit g ≡ true
   unfolding settingsFit
@@ -125,7 +155,8 @@ module _ (g : Settings) where
         le-leb (g .protection) 1 (omega arith),
         rows-fit (g .protection) (g .rows) (s .protection) (λ o. (s .rows o, s .rows-most o)),
         is-one-or-two (g .edition) (s .edition) (s .edition-most),
-        size-fit (g .protection) (g .size) (s .size),
+        order-fit s,
+        size-fit (g .protection) (g .order) (g .size) (s .size),
       )
 
   -- where one of the facts fails
@@ -137,9 +168,9 @@ module _ (g : Settings) where
       by false e = refl
 
   -- where nothing but the size is left to judge
-  pub settings-by-size : (SizeFacts (g .protection) (g .size) → SettingsFacts g) → settingsFit g ≡ sizeFits (g .protection) (g .size)
-  settings-by-size h = by (sizeFits (g .protection) (g .size)) refl
+  pub settings-by-size : (SizeFacts (g .protection) (g .order) (g .size) → SettingsFacts g) → settingsFit g ≡ sizeFits (g .protection) (g .order) (g .size)
+  settings-by-size h = by (sizeFits (g .protection) (g .order) (g .size)) refl
     where
-      by : (t : Bool) → sizeFits (g .protection) (g .size) ≡ t → settingsFit g ≡ t
-      by true e = settings-fit (h (size-facts (g .protection) (g .size) e))
-      by false e = settings-unfit (λ s. true≢false (sym (size-fit (g .protection) (g .size) (s .size)) ∙ e))
+      by : (t : Bool) → sizeFits (g .protection) (g .order) (g .size) ≡ t → settingsFit g ≡ t
+      by true e = settings-fit (h (size-facts (g .protection) (g .order) (g .size) e))
+      by false e = settings-unfit (λ s. true≢false (sym (size-fit (g .protection) (g .order) (g .size) (s .size)) ∙ e))

@@ -1,10 +1,10 @@
 // The settings under which a file is packed and collected: document 01, sections 2 and 4, and the house setting.
 ghost use mathlib.Core.Path.{_≡_};
-ghost use Rattle.settings.specs.Settings.{sizeFits, settingsFit, rowsHeld, rowsSent, house as houseOf};
+ghost use Rattle.settings.specs.Settings.{rowWise, sizeFits, orderFits, settingsFit, rowsHeld, rowsSent, house as houseOf};
 use packet::Packet;
 
 // What a file is packed and collected under, besides its packets' count. `size` is the payload size P of packing and the slot size S of a
-// place, `edition` that of the packets' spare bits.
+// place, `edition` that of the packets' spare bits, `order` that in which the tables are sent: 0 by rows, 1 by columns.
 pub struct Settings {
     pub resource: u16,
     pub kind: u8,
@@ -13,24 +13,44 @@ pub struct Settings {
     pub rows: u8,
     pub size: u16,
     pub edition: u16,
+    pub order: u16,
 }
 
 impl Settings {
     // The edition that is meant where none is named.
     pub const EDITION: u16 = 2;
+    // And the order: by rows.
+    pub const ORDER: u16 = 0;
 }
 
-// Whether payloads and slots may have this size. A protection other than 0 asks for whole rows.
-pub fn size_fits(protection: u8, size: u16) -> bool
-    ensures { λ r. ⌜ r ≡ sizeFits protection size ⌝ }
+// Whether a payload is whole rows: with protection, in row order.
+pub fn row_wise(protection: u8, order: u16) -> bool
+    ensures { λ r. ⌜ r ≡ rowWise protection order ⌝ }
 {
-    if protection == 0 {
+    protection != 0 && order == 0
+}
+
+// Whether payloads and slots may have this size.
+pub fn size_fits(protection: u8, order: u16, size: u16) -> bool
+    ensures { λ r. ⌜ r ≡ sizeFits protection order size ⌝ }
+{
+    if !row_wise(protection, order) {
         return 1 <= size && size as usize <= Packet::LARGEST;
     }
     if size % 255 != 0 {
         return false;
     }
     255 <= size && size as usize <= Packet::PROTECTED
+}
+
+// Whether a file may be sent in this order. Columns are sent of tables alone, so under protection.
+fn order_fits(protection: u8, order: u16) -> bool
+    ensures { λ r. ⌜ r ≡ orderFits protection order ⌝ }
+{
+    if order == 0 {
+        return true;
+    }
+    order == 1 && protection != 0
 }
 
 // Whether every setting is within its range, type 0 being outside. Without protection any M is taken.
@@ -52,7 +72,10 @@ pub fn settings_fit(settings: Settings) -> bool
     if settings.edition == 0 || 2 < settings.edition {
         return false;
     }
-    size_fits(settings.protection, settings.size)
+    if !order_fits(settings.protection, settings.order) {
+        return false;
+    }
+    size_fits(settings.protection, settings.order, settings.size)
 }
 
 // M as it is held: 0 without protection.
@@ -88,5 +111,6 @@ pub fn house(resource: u16, kind: u8, update: u8) -> Settings
         rows: 32,
         size: 255,
         edition: Settings::EDITION,
+        order: Settings::ORDER,
     }
 }
