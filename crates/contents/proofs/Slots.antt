@@ -1,7 +1,7 @@
 -- One slot of a place: where it stands, and what of the store it is read from.
 -- Assumes nothing.
 use mathlib.Core.Path.{_≡_, refl, sym, ap, _∙_}
-use mathlib.Core.Bool.{Bool, true, false, true≢false, _&&_, _||_}
+use mathlib.Core.Bool.{Bool, true, false, true≢false, not, _&&_, _||_}
 use mathlib.Core.List.{List, []}
 use mathlib.Core.Logic.{_⊎_, inl, inr}
 use Prim.Native.Nat.{ℕ, suc, _+_, _*_, _%_, _<_, _≤_}
@@ -11,7 +11,7 @@ use borrow.Author.Tests.{le-leb, leb-true, leb-false, eq-eqb}
 use lib.Dec.{eqb, leb}
 use lib.ListN.{length, getD}
 use Rattle.places.specs.declared.Place.{Place}
-use Rattle.places.specs.Places.{endOf}
+use Rattle.places.specs.Places.{endOf, inRows}
 use Rattle.places.proofs.Facts.{slot-within as place-holds}
 use Rattle.contents.specs.Slots.{lengthAt, stored}
 use Rattle.contents.specs.Contents.{wrong, holding, bytesAt, slotAt, lengthFits, slotOf}
@@ -49,16 +49,16 @@ slots-off p j k i m d a b l = side (leb k j) refl
 
 -- ---- which lengths fit a slot
 
-pub fits-made : (p : Place) (n : ℕ) → n ≤ p .slot → (p .protection ≡ 0) ⊎ (n % 255 ≡ 0) → lengthFits p n ≡ true
-fits-made p n h (inl e) = rw (le-leb n (p .slot) h, eq-eqb (p .protection) 0 e)
-fits-made p n h (inr e) = rw (le-leb n (p .slot) h, eq-eqb (n % 255) 0 e) (either (eqb (p .protection) 0))
+pub fits-made : (p : Place) (n : ℕ) → n ≤ p .slot → (inRows p ≡ false) ⊎ (n % 255 ≡ 0) → lengthFits p n ≡ true
+fits-made p n h (inl e) = rw (le-leb n (p .slot) h, e)
+fits-made p n h (inr e) = rw (le-leb n (p .slot) h, eq-eqb (n % 255) 0 e) (either (not (inRows p)))
   where
     either : (x : Bool) → (x || true) ≡ true
     either true = refl
     either false = refl
 
 pub fits-room : (p : Place) (n : ℕ) → lengthFits p n ≡ true → n ≤ p .slot
-fits-room p n e = by (leb n (p .slot)) (eqb (p .protection) 0 || eqb (n % 255) 0) refl e
+fits-room p n e = by (leb n (p .slot)) (not (inRows p) || eqb (n % 255) 0) refl e
   where
     by : (x y : Bool) → leb n (p .slot) ≡ x → (x && y) ≡ true → n ≤ p .slot
     by true y t h = leb-true n (p .slot) t

@@ -1,6 +1,6 @@
 -- What a place holds: the payload in each of its slots (document 01, section 5), and what refusal 15 sees.
 -- Assumes nothing.
-use mathlib.Core.Bool.{Bool, true, false, cond, _&&_, _||_}
+use mathlib.Core.Bool.{Bool, true, false, cond, not, _&&_, _||_}
 use mathlib.Core.List.{List, [], _∷_, _++_}
 use Prim.Native.Nat.{ℕ, suc, _+_, _*_, _%_}
 use lib.Dec.{eqb, leb}
@@ -9,6 +9,7 @@ use Rattle.ground.specs.Lists.{listed}
 use Rattle.places.specs.declared.Place.{Place}
 use Rattle.places.specs.declared.Found.{Found}
 use Rattle.places.specs.declared.Found.the-variants.{At, Nothing}
+use Rattle.places.specs.Places.{inRows}
 use Rattle.contents.specs.Slots.{lengthAt}
 
 -- a slot holds a payload, [] where it is empty; or its length is wrong
@@ -24,9 +25,9 @@ bytesAt s at n = listed (λ i. getD s i 0) n at
 unfoldable pub slotAt : Place → ℕ → ℕ
 slotAt p k = p .start + k * (p .slot + 2)
 
--- at most S, and a multiple of 255 under protection
+-- at most S, and a multiple of 255 where payloads are whole rows
 abbrev pub lengthFits : Place → ℕ → Bool
-lengthFits p n = leb n (p .slot) && (eqb (p .protection) 0 || eqb (n % 255) 0)
+lengthFits p n = leb n (p .slot) && (not (inRows p) || eqb (n % 255) 0)
 
 -- slot k of a place
 unfoldable pub slotOf : Place → List ℕ → ℕ → Slot

@@ -38,7 +38,10 @@ fn low_byte(store: &[u8], at: usize) -> usize
 pub fn length_fits(p: Place, n: usize) -> bool
     ensures { λ r. ⌜ r ≡ lengthFits p n ⌝ }
 {
-    n <= p.slot as usize && (p.protection == 0 || n % 255 == 0)
+    if (p.slot as usize) < n {
+        return false;
+    }
+    !settings::row_wise(p.protection, p.order) || n % 255 == 0
 }
 
 // Puts a payload into the slot at `at`. Its length is written last: a process that is killed before leaves the slot empty. Refused, and nothing written: 26 where

@@ -138,6 +138,7 @@ pub fn close(held: Record, store: &[u8], resource: u16, kind: u8) -> Kept
         slot: 0,
         start: 0,
         edition: 0,
+        order: 0,
     };
     Kept {
         record: next,

@@ -15,7 +15,7 @@ use Rattle.refusals.specs.declared.Refusal.the-variants.{Short, Mark, Length, �
 use Rattle.packet.specs.declared.Packet.{Packet}
 use Rattle.packet.specs.declared.Reading.{Reading}
 use Rattle.packet.specs.declared.Reading.the-variants.{Sent, Refused}
-use Rattle.packet.specs.Packet.{resourceIn, kindIn, fieldsIn, marked, badProtection, badNumber, badRows, judged, readOf, headerOf}
+use Rattle.packet.specs.Packet.{resourceIn, kindIn, fieldsIn, marked, badProtection, badNumber, badRows, judged, readBy, headerOf}
 use Rattle.packet.specs.Range.{InRange}
 
 -- ---- a header that was written
@@ -166,8 +166,8 @@ module _ (q : List ℕ) (b : (i : ℕ) → getD q i 0 < 256) where
 
 -- ---- reading
 
--- what an accepted packet is: document 01, section 2, with the refusals 1 to 8 of section 6 turned round
-pub record SentFacts (q : List ℕ) (f : Packet) : Type 0 where
+-- what an accepted packet is: document 01, section 2, with the refusals 1 to 8 of section 6 turned round; its rows only where they are judged
+pub record SentFacts (judging : Bool) (q : List ℕ) (f : Packet) : Type 0 where
   pub fields : f ≡ fieldsIn q
   pub mark : marked q ≡ true
   pub least : 19 ≤ length q
@@ -179,7 +179,7 @@ pub record SentFacts (q : List ℕ) (f : Packet) : Type 0 where
   pub number : f .number < 1048575
   pub below : 0 < f .kind → f .number < f .count
   pub stream : f .kind ≡ 0 → f .count ≡ 0
-  pub multiple : f .protection ≡ 1 → (length q - 18) % 255 ≡ 0
+  pub multiple : judging ≡ true → f .protection ≡ 1 → (length q - 18) % 255 ≡ 0
   pub resource : 0 < f .resource
 
 passed : (t : Bool) (r : Refusal) (y : Reading) (f : Packet) → cond t (Refused r) y ≡ Sent f → (t ≡ false) × (y ≡ Sent f)
@@ -199,24 +199,24 @@ not-if true t h = h refl
 not-if false t h = refl
 
 -- the tests of a packet of n bytes all failed, and its fields are what is answered
-record Passed (g f : Packet) (n : ℕ) : Type 0 where
+record Passed (rows : Bool) (g f : Packet) (n : ℕ) : Type 0 where
   kind : eqb (g .kind) 3 ≡ false
   protection : badProtection g ≡ false
   number : badNumber g ≡ false
-  rows : badRows g n ≡ false
+  whole : rows && badRows g n ≡ false
   resource : eqb (g .resource) 0 ≡ false
   same : g ≡ f
 
-judged-sent : (g f : Packet) (n : ℕ) → judged g n ≡ Sent f → Passed g f n
+judged-sent : (rows : Bool) (g f : Packet) (n : ℕ) → judged rows g n ≡ Sent f → Passed rows g f n
 unfolding judged
-judged-sent g f n e =
+judged-sent rows g f n e =
     let t4 = passed (eqb (g .kind) 3) «Type» _ f e in
     let t5 = passed (badProtection g) Protection _ f (t4 .1) in
     let t6 = passed (badNumber g) Number _ f (t5 .1) in
-    let t7 = passed (badRows g n) Rows _ f (t6 .1) in
+    let t7 = passed (rows && badRows g n) Rows _ f (t6 .1) in
     let t8 = passed (eqb (g .resource) 0) Resource _ f (t7 .1) in
     let e : Sent g ≡ Sent f = t8 .1 in
-    record { kind = t4 .0; protection = t5 .0; number = t6 .0; rows = t7 .0; resource = t8 .0; same = cc }
+    record { kind = t4 .0; protection = t5 .0; number = t6 .0; whole = t7 .0; resource = t8 .0; same = cc }
 
 module _ (f : Packet) where
   no-protection : badProtection f ≡ false → (f .protection < 2) × (f .protection ≡ 1 → 0 < f .rows)
@@ -252,19 +252,19 @@ module _ (f : Packet) where
           omega arith
 
 -- what the fields of an accepted packet satisfy
-pub read-sent : (q : List ℕ) (f : Packet) → ((i : ℕ) → getD q i 0 < 256) → readOf q ≡ Sent f → SentFacts q f
-unfolding readOf
-read-sent q f b e =
+pub read-sent : (rows : Bool) (q : List ℕ) (f : Packet) → ((i : ℕ) → getD q i 0 < 256) → readBy rows q ≡ Sent f → SentFacts rows q f
+unfolding readBy
+read-sent rows q f b e =
     let t1 = passed (ltb (length q) 19) Short _ f e in
     let t2 = passed (not (marked q)) Mark _ f (t1 .1) in
     let t3 = passed (not (eqb (fieldsIn q .length) (length q))) Length _ f (t2 .1) in
-    let j = judged-sent (fieldsIn q) f (length q) (t3 .1) in
+    let j = judged-sent rows (fieldsIn q) f (length q) (t3 .1) in
     let g = fieldsIn q in
     let r = fields-in-range q b in
     let w : g .length ≡ length q = eqb-true _ _ (not-false _ (t3 .0)) in
     let k : g .kind ≡ 3 → ⊥ = eqb-false _ _ (j .kind) in
     let o : g .resource ≡ 0 → ⊥ = eqb-false _ _ (j .resource) in
-    subst (SentFacts q) (j .same) (record {
+    subst (SentFacts rows q) (j .same) (record {
       fields = refl;
       mark = not-false _ (t2 .0);
       least = ltb-false _ _ (t1 .0);
@@ -276,11 +276,11 @@ read-sent q f b e =
       number = number-below g (r .number) (r .count) (j .number);
       below = file-number g (j .number);
       stream = λ (s : g .kind ≡ 0). stream-number g (j .number) s .0;
-      multiple = whole-rows g (length q) (j .rows);
+      multiple = λ t. whole-rows g (length q) (not-both rows _ (j .whole) t);
       resource = omega arith;
     })
 
-module _ (q : List ℕ) (f : Packet) (s : SentFacts q f) where
+module _ (rows : Bool) (q : List ℕ) (f : Packet) (s : SentFacts rows q f) where
   good-protection : badProtection f ≡ false
   good-protection =
       rw (le-ltb 1 (f .protection) (omega arith))
@@ -293,10 +293,10 @@ module _ (q : List ℕ) (f : Packet) (s : SentFacts q f) where
       by true k = rw (eq-eqb _ _ (s .stream (eqb-true _ _ k))) (ne-eqb _ _ (λ (z : f .number ≡ 1048575). omega arith))
       by false k = let z : f .kind ≡ 0 → ⊥ = eqb-false _ _ k in lt-leb _ _ (s .below (omega arith))
 
-  good-rows : badRows f (length q) ≡ false
-  good-rows = not-if (eqb (f .protection) 1) _ (λ t. rw (eq-eqb _ _ (s .multiple (eqb-true _ _ t))) refl)
+  good-rows : rows && badRows f (length q) ≡ false
+  good-rows = not-if rows (badRows f (length q)) (λ j. not-if (eqb (f .protection) 1) _ (λ t. rw (eq-eqb _ _ (s .multiple j (eqb-true _ _ t))) refl))
 
-  judged-accepts : judged f (length q) ≡ Sent f
+  judged-accepts : judged rows f (length q) ≡ Sent f
   unfolding judged
   judged-accepts =
       rw (
@@ -308,7 +308,7 @@ module _ (q : List ℕ) (f : Packet) (s : SentFacts q f) where
       )
 
   -- a packet whose fields satisfy all that is accepted
-  pub read-accepts : readOf q ≡ Sent f
-  unfolding readOf
+  pub read-accepts : readBy rows q ≡ Sent f
+  unfolding readBy
   read-accepts =
       rw (le-ltb _ _ (s .least), s .mark, ← s .fields, eq-eqb _ _ (s .whole)) judged-accepts

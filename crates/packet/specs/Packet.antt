@@ -1,6 +1,6 @@
 -- The packet's header: document 01, section 2 (source document 001, table 1), most significant bit first; and reading it, in the order of section 6.
 -- Assumes nothing.
-use mathlib.Core.Bool.{Bool, cond, not, _&&_, _||_}
+use mathlib.Core.Bool.{Bool, true, false, cond, not, _&&_, _||_}
 use mathlib.Core.List.{List, [], _∷_}
 use Prim.Native.Nat.{ℕ, _+_, _-_, _*_, _/_, _%_}
 use lib.Dec.{eqb, leb, ltb}
@@ -49,21 +49,28 @@ badNumber f =
 abbrev pub badRows : Packet → ℕ → Bool
 badRows f n = eqb (f .protection) 1 && not (eqb ((n - 18) % 255) 0)
 
--- refusals 4 to 8 of the fields of a packet of n bytes, or the fields
-unfoldable pub judged : Packet → ℕ → Reading
-judged f n =
+-- refusals 4 to 8 of the fields of a packet of n bytes, or the fields; refusal 7 only where rows are judged
+unfoldable pub judged : Bool → Packet → ℕ → Reading
+judged rows f n =
     cond (eqb (f .kind) 3) (Refused «Type»)
     (cond (badProtection f) (Refused Protection)
     (cond (badNumber f) (Refused Number)
-    (cond (badRows f n) (Refused Rows)
+    (cond (rows && badRows f n) (Refused Rows)
     (cond (eqb (f .resource) 0) (Refused Resource) (Sent f)))))
 
--- the fields as sent, or the first refusal of 1 to 8
-unfoldable pub readOf : List ℕ → Reading
-readOf q =
+-- the fields as sent, or the first refusal
+unfoldable pub readBy : Bool → List ℕ → Reading
+readBy rows q =
     cond (ltb (length q) 19) (Refused Short)
     (cond (not (marked q)) (Refused Mark)
-    (cond (not (eqb (fieldsIn q .length) (length q))) (Refused Length) (judged (fieldsIn q) (length q))))
+    (cond (not (eqb (fieldsIn q .length) (length q))) (Refused Length) (judged rows (fieldsIn q) (length q))))
+
+-- by the refusals 1 to 8; and by those but 7, which a packet in column order has not to pass (document 02, R-8)
+abbrev pub readOf : List ℕ → Reading
+readOf = readBy true
+
+abbrev pub readHeaderOf : List ℕ → Reading
+readHeaderOf = readBy false
 
 -- the fourteen bytes of a header; of a field the bits for which the table has room
 unfoldable pub headerOf : Packet → List ℕ

@@ -1,8 +1,9 @@
 // The packet of document 01, section 2: its fields, read and written.
 ghost use mathlib.Core.Path.{_≡_};
+ghost use mathlib.Core.Bool.{_&&_};
 ghost use Prim.Native.Nat.{_+_, _*_, _/_, _%_, _≤_};
 ghost use lib.ListN.{length};
-ghost use Rattle.packet.specs.Packet.{fieldsIn, marked, badProtection, badNumber, badRows, judged, readOf, headerOf};
+ghost use Rattle.packet.specs.Packet.{fieldsIn, marked, badProtection, badNumber, badRows, judged, readBy, readOf, readHeaderOf, headerOf};
 use refusals::Refusal;
 
 mod edition;
@@ -127,18 +128,21 @@ fn bad_number(fields: Packet) -> bool
     fields.count <= fields.number
 }
 
-// Refusal 7: with protection, the payload of a packet of n bytes is not whole rows.
-fn bad_rows(fields: Packet, n: usize) -> bool
+// Refusal 7, where rows are judged: with protection, the payload of a packet of n bytes is not whole rows.
+fn bad_rows(rows: bool, fields: Packet, n: usize) -> bool
     requires { ⌜ 19 ≤ n ⌝ }
-    ensures { λ r. ⌜ r ≡ badRows fields n ⌝ }
+    ensures { λ r. ⌜ r ≡ rows && badRows fields n ⌝ }
 {
+    if !rows {
+        return false;
+    }
     fields.protection == 1 && (n - (Packet::HEADER + Packet::CRC)) % 255 != 0
 }
 
-// The fields of a packet of n bytes, or the first of the refusals 4 to 8.
-fn judge(fields: Packet, n: usize) -> Reading
+// The fields of a packet of n bytes, or the first of the refusals 4 to 8; 7 only where rows are judged.
+fn judge(rows: bool, fields: Packet, n: usize) -> Reading
     requires { ⌜ 19 ≤ n ⌝ }
-    ensures { λ r. ⌜ r ≡ judged fields n ⌝ }
+    ensures { λ r. ⌜ r ≡ judged rows fields n ⌝ }
 {
     if fields.kind == 3 {
         return Reading::Refused(Refusal::Type);
@@ -149,7 +153,7 @@ fn judge(fields: Packet, n: usize) -> Reading
     if bad_number(fields) {
         return Reading::Refused(Refusal::Number);
     }
-    if bad_rows(fields, n) {
+    if bad_rows(rows, fields, n) {
         return Reading::Refused(Refusal::Rows);
     }
     if fields.resource == 0 {
@@ -162,6 +166,20 @@ fn judge(fields: Packet, n: usize) -> Reading
 pub fn read_fields(packet: &[u8]) -> Reading
     ensures { λ r. ⌜ r ≡ readOf (now (packet .entry)) ⌝ }
 {
+    read_by(true, packet)
+}
+
+// The same without refusal 7, for packets of either order: in column order a protected payload may have any length.
+pub fn read_header(packet: &[u8]) -> Reading
+    ensures { λ r. ⌜ r ≡ readHeaderOf (now (packet .entry)) ⌝ }
+{
+    read_by(false, packet)
+}
+
+// The fields, or the first refusal; 7 only where rows are judged.
+fn read_by(rows: bool, packet: &[u8]) -> Reading
+    ensures { λ r. ⌜ r ≡ readBy rows (now (packet .entry)) ⌝ }
+{
     if packet.len() < Packet::HEADER + 1 + Packet::CRC {
         return Reading::Refused(Refusal::Short);
     }
@@ -172,7 +190,7 @@ pub fn read_fields(packet: &[u8]) -> Reading
     if fields.length as usize != packet.len() {
         return Reading::Refused(Refusal::Length);
     }
-    judge(fields, packet.len())
+    judge(rows, fields, packet.len())
 }
 
 // The fourteen bytes before a payload. Of a field that is too wide for the header its low bits are written.

@@ -15,7 +15,7 @@ use Rattle.places.specs.Places.{unused, freshRecord, Name, sameName, cov
 use Rattle.places.specs.Room.{clear, free, lowestFrom, lowestStart}
 
 abbrev asked : ℕ → Settings
-asked resource = record { resource = resource; kind = 1; update = 0; protection = 0; rows = 0; size = 8; edition = 2 }
+asked resource = record { resource = resource; kind = 1; update = 0; protection = 0; rows = 0; size = 8; edition = 2; order = 0 }
 
 abbrev file : ℕ → Name
 file resource = record { resource = resource; kind = 1 }

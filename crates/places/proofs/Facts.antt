@@ -55,9 +55,9 @@ pub record PlaceFacts (n : ℕ) (p : Place) : Type 0 where
   pub rows-most : p .rows ≤ 255
   pub slot-least : 1 ≤ p .slot
   pub slot-most : p .slot ≤ 4077
-  pub slot-rows : p .protection ≡ 1 → p .slot % 255 ≡ 0
-  pub slot-row : p .protection ≡ 1 → 255 ≤ p .slot
   pub edition-either : (p .edition ≡ 1) ⊎ (p .edition ≡ 2)
+  pub order-most : p .order < 2
+  pub ordered : p .order ≡ 1 → p .protection ≡ 1
   pub ends : endOf p ≤ usable n
   pub ends-within : endOf p ≤ n
   pub ends-limit : endOf p ≤ 16777216
@@ -95,9 +95,9 @@ place-facts n p f u =
       rows-most = most s m;
       slot-least = s .size .least;
       slot-most = s .size .most;
-      slot-rows = λ o. s .size .multiple (omega arith);
-      slot-row = λ o. omega (arith, s .size .least, s .size .multiple (omega arith));
       edition-either = one-or-two (p .edition) (s .edition) (s .edition-most);
+      order-most = s .order-most;
+      ordered = s .ordered;
       ends = z;
       ends-within = omega (arith, usable-within n);
       ends-limit = omega (arith, usable-limit n);

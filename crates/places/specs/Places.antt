@@ -1,4 +1,4 @@
--- The record of eight places: document 01, section 5, and when refusal 9 is given (section 6). A place is found by resource and type: document 02, R-1; it holds an edition: R-9.
+-- The record of eight places: document 01, section 5, and when refusal 9 is given (section 6). A place is found by resource and type: document 02, R-1; it holds an edition, R-9, and an order, R-8.
 -- Assumes nothing.
 use mathlib.Core.Bool.{Bool, true, cond, not, _&&_, _||_}
 use mathlib.Core.List.{List, [], _∷_}
@@ -6,7 +6,7 @@ use Prim.Native.Nat.{ℕ, suc, _+_, _*_}
 use lib.Dec.{eqb, leb}
 use lib.ListN.{replicate}
 use Rattle.settings.specs.declared.Settings.{Settings}
-use Rattle.settings.specs.Settings.{settingsFit, rowsHeld}
+use Rattle.settings.specs.Settings.{rowWise, settingsFit, rowsHeld}
 use Rattle.places.specs.declared.Place.{Place}
 use Rattle.places.specs.declared.Record.{Record}
 use Rattle.places.specs.declared.Found.{Found}
@@ -14,7 +14,7 @@ use Rattle.places.specs.declared.Found.the-variants.{At, Nothing}
 
 -- an unused place, as in a fresh record
 abbrev pub unused : Place
-unused = record { resource = 0; kind = 0; update = 0; count = 0; protection = 0; rows = 0; slot = 0; start = 0; edition = 0 }
+unused = record { resource = 0; kind = 0; update = 0; count = 0; protection = 0; rows = 0; slot = 0; start = 0; edition = 0; order = 0 }
 
 abbrev pub freshRecord : Record
 freshRecord = record { places = replicate 8 unused }
@@ -59,7 +59,11 @@ meets p q = not (leb (endOf p) (q .start) || leb (endOf q) (p .start))
 -- the settings that a place holds, and the place that settings, a count and a start ask for
 abbrev pub settingsIn : Place → Settings
 settingsIn p =
-    record { resource = p .resource; kind = p .kind; update = p .update; protection = p .protection; rows = p .rows; size = p .slot; edition = p .edition }
+    record { resource = p .resource; kind = p .kind; update = p .update; protection = p .protection; rows = p .rows; size = p .slot; edition = p .edition; order = p .order }
+
+-- its payloads are whole rows
+abbrev pub inRows : Place → Bool
+inRows p = rowWise (p .protection) (p .order)
 
 abbrev pub placeOf : Settings → ℕ → ℕ → Place
 placeOf g count start = record {
@@ -72,12 +76,13 @@ placeOf g count start = record {
   slot = g .size;
   start = start;
   edition = g .edition;
+  order = g .order;
 }
 
 abbrev pub countFits : ℕ → Bool
 countFits count = leb 1 count && leb count 1048575
 
--- every range of sections 2, 4 and 5, and of the edition; M is held as 0 without protection
+-- every range of sections 2, 4 and 5, and of edition and order; M is held as 0 without protection
 unfoldable pub rangesFit : Place → Bool
 rangesFit p = settingsFit (settingsIn p) && (eqb (p .rows) (rowsHeld (settingsIn p)) && countFits (p .count))
 

@@ -15,6 +15,7 @@ pub struct Place {
     pub slot: u16,
     pub start: u32,
     pub edition: u16,
+    pub order: u16,
 }
 
 pub struct Record {
@@ -41,6 +42,7 @@ pub fn fresh() -> Record
         slot: 0,
         start: 0,
         edition: 0,
+        order: 0,
     };
     Record {
         places: [unused; 8],
@@ -116,5 +118,6 @@ pub fn place_of(settings: Settings, count: u32, start: u32) -> Place
         slot: settings.size,
         start: start,
         edition: settings.edition,
+        order: settings.order,
     }
 }

@@ -7,15 +7,15 @@ use Prim.Native.Nat.{ℕ, _≤_}
 use native.Mathlib.Omega.{arith}
 use lib.ListN.{length, getD}
 use Rattle.refusals.specs.declared.Refusal.{Refusal}
-use Rattle.refusals.specs.declared.Refusal.the-variants.{Short, Mark, Length, «Type», Protection, Number, Rows, Resource, Record, Unknown, Other, Wide, Repair, Crc, Slot, Conflict, Field, Held, Full, Room, Missing, Shape, Size, Padding, Count, Output, Line, Extra, Edition}
+use Rattle.refusals.specs.declared.Refusal.the-variants.{Short, Mark, Length, «Type», Protection, Number, Rows, Resource, Record, Unknown, Other, Wide, Repair, Crc, Slot, Conflict, Field, Held, Full, Room, Missing, Shape, Size, Padding, Count, Output, Line, Extra, Lost, Code, Edition}
 use Rattle.refusals.specs.declared.Verdict.{Verdict}
 use Rattle.refusals.specs.declared.Verdict.the-variants.{Accepted, Refused}
 use Rattle.refusals.specs.Refusals.{numberOf, valuesOf, valueOf}
 use Rattle.refusals.specs.Told.{Told, refusedAs, verdictTold}
 
--- the verdicts in the order of their numbers, from 0, where v is the value of those that have one; no refusal has 27, 28, 31 or 32
+-- the verdicts in the order of their numbers, from 0, where v is the value of those that have one; no refusal has 27 or 28
 abbrev verdicts : ℕ → List Verdict
-verdicts v = Accepted ∷ Refused Short ∷ Refused Mark ∷ Refused Length ∷ Refused «Type» ∷ Refused Protection ∷ Refused Number ∷ Refused Rows ∷ Refused Resource ∷ Refused Record ∷ Refused Unknown ∷ Refused Other ∷ Refused Wide ∷ Refused (Repair v) ∷ Refused Crc ∷ Refused Slot ∷ Refused Conflict ∷ Refused Field ∷ Refused Held ∷ Refused Full ∷ Refused Room ∷ Refused (Missing v) ∷ Refused Shape ∷ Refused Size ∷ Refused Padding ∷ Refused Count ∷ Refused Output ∷ Accepted ∷ Accepted ∷ Refused (Line v) ∷ Refused Extra ∷ Accepted ∷ Accepted ∷ Refused Edition ∷ []
+verdicts v = Accepted ∷ Refused Short ∷ Refused Mark ∷ Refused Length ∷ Refused «Type» ∷ Refused Protection ∷ Refused Number ∷ Refused Rows ∷ Refused Resource ∷ Refused Record ∷ Refused Unknown ∷ Refused Other ∷ Refused Wide ∷ Refused (Repair v) ∷ Refused Crc ∷ Refused Slot ∷ Refused Conflict ∷ Refused Field ∷ Refused Held ∷ Refused Full ∷ Refused Room ∷ Refused (Missing v) ∷ Refused Shape ∷ Refused Size ∷ Refused Padding ∷ Refused Count ∷ Refused Output ∷ Accepted ∷ Accepted ∷ Refused (Line v) ∷ Refused Extra ∷ Refused (Lost v) ∷ Refused Code ∷ Refused Edition ∷ []
 
 record Reads (r : Refusal) : Type 0 where
   back : getD (verdicts (valueOf r)) (numberOf r) Accepted ≡ Refused r
@@ -50,6 +50,8 @@ reads Count = record { back = refl; lone = omega arith }
 reads Output = record { back = refl; lone = omega arith }
 reads (Line v) = record { back = refl; lone = omega arith }
 reads Extra = record { back = refl; lone = omega arith }
+reads (Lost v) = record { back = refl; lone = omega arith }
+reads Code = record { back = refl; lone = omega arith }
 reads Edition = record { back = refl; lone = omega arith }
 
 pub values-lone : (r : Refusal) → length (valuesOf r) ≤ 1

@@ -1,10 +1,10 @@
--- Each refusal's number and values, and what a verdict tells: document 01, section 6, and document 02, R-4 and R-9.
+-- Each refusal's number and values, and what a verdict tells: document 01, section 6, and document 02, R-4, R-8 and R-9.
 -- Assumes nothing.
 use mathlib.Core.List.{List, [], _∷_}
 use Prim.Native.Nat.{ℕ}
 use lib.ListN.{getD}
 use Rattle.refusals.specs.declared.Refusal.{Refusal}
-use Rattle.refusals.specs.declared.Refusal.the-variants.{Short, Mark, Length, «Type», Protection, Number, Rows, Resource, Record, Unknown, Other, Wide, Repair, Crc, Slot, Conflict, Field, Held, Full, Room, Missing, Shape, Size, Padding, Count, Output, Line, Extra, Edition}
+use Rattle.refusals.specs.declared.Refusal.the-variants.{Short, Mark, Length, «Type», Protection, Number, Rows, Resource, Record, Unknown, Other, Wide, Repair, Crc, Slot, Conflict, Field, Held, Full, Room, Missing, Shape, Size, Padding, Count, Output, Line, Extra, Lost, Code, Edition}
 
 -- the number of a refusal
 abbrev pub numberOf : Refusal → ℕ
@@ -36,9 +36,11 @@ numberOf Count = 25
 numberOf Output = 26
 numberOf (Line v) = 29
 numberOf Extra = 30
+numberOf (Lost v) = 31
+numberOf Code = 32
 numberOf Edition = 33
 
--- the values that it returns beside its number: of Repair the first row that has no coded row within eight bytes, of Missing the lowest empty slot, of Line the line that has a fault; the others have none
+-- the values that it returns beside its number: of Repair the first row that has no coded row within eight bytes, of Missing the lowest empty slot, of Line the line that has a fault, of Lost the first row that lacks more than sixteen bytes; the others have none
 abbrev pub valuesOf : Refusal → List ℕ
 valuesOf Short = []
 valuesOf Mark = []
@@ -68,6 +70,8 @@ valuesOf Count = []
 valuesOf Output = []
 valuesOf (Line v) = v ∷ []
 valuesOf Extra = []
+valuesOf (Lost v) = v ∷ []
+valuesOf Code = []
 valuesOf Edition = []
 
 -- its extra value, 0 where none is named

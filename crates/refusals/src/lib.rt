@@ -3,7 +3,7 @@ ghost use mathlib.Core.Path.{_≡_};
 ghost use Rattle.refusals.specs.Refusals.{numberOf, valueOf};
 
 // By the documents' names; the extra value where one is named: of Repair the first row that has no coded row within eight bytes, of
-// Missing the lowest empty slot, of Line the line that has a fault.
+// Missing the lowest empty slot, of Line the line that has a fault, of Lost the first row that lacks more than sixteen bytes.
 pub enum Refusal {
     Short,
     Mark,
@@ -33,6 +33,8 @@ pub enum Refusal {
     Output,
     Line(u32),
     Extra,
+    Lost(u32),
+    Code,
     Edition,
 }
 
@@ -75,6 +77,8 @@ pub fn number(r: Refusal) -> u8
         Refusal::Output => 26,
         Refusal::Line(_) => 29,
         Refusal::Extra => 30,
+        Refusal::Lost(_) => 31,
+        Refusal::Code => 32,
         Refusal::Edition => 33,
     }
 }
@@ -87,6 +91,7 @@ pub fn value(r: Refusal) -> u32
         Refusal::Repair(row) => row,
         Refusal::Missing(slot) => slot,
         Refusal::Line(line) => line,
+        Refusal::Lost(row) => row,
         _ => 0,
     }
 }

@@ -32,6 +32,7 @@ fn settings_in(p: Place) -> Settings
         rows: p.rows,
         size: p.slot,
         edition: p.edition,
+        order: p.order,
     }
 }
 

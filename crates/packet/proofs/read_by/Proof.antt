@@ -1,12 +1,12 @@
--- `packet::read_fields` meets its contract: it asks for length, mark and length field in the definition's order, and the rest is `judge`.
+-- `packet::read_by` meets its contract: it asks for length, mark and length field in the definition's order, and the rest is `judge`.
 -- Assumes nothing.
 use mathlib.Core.Path.{sym, ap, _∙_}
 use mathlib.Core.Bool.{not}
 use native.Mathlib.Omega.{arith}
 use borrow.Author.Tests.{lt-ltb, le-ltb, eq-eqb, ne-eqb}
-use Rattle.packet.specs.Packet.{readOf}
-use Rattle.packet.proofs.read_fields.Statement.{statement}
-use Rattle.packet.proofs.read_fields.Tie as tie
+use Rattle.packet.specs.Packet.{readBy}
+use Rattle.packet.proofs.read_by.Statement.{statement}
+use Rattle.packet.proofs.read_by.Tie as tie
 
 add-if1 : tie.Need-add-if1
 add-if1 c = omega arith
@@ -15,14 +15,14 @@ add-if1-2 : tie.Need-add-if1-2
 add-if1-2 c = omega arith
 
 returns : tie.Need-returns
-unfolding readOf
+unfolding readBy
 returns c = rw (lt-ltb _ _ (c .if1 .taken))
 
 marked-requires : tie.Need-marked-requires
 marked-requires c κs = omega arith
 
 returns-2 : tie.Need-returns-2
-unfolding readOf
+unfolding readBy
 returns-2 c = rw (le-ltb _ _ (c .before .before .if1 .left), sym (ap not (c .before .marked .ensures)) ∙ c .if2 .taken)
 
 fields-in-requires : tie.Need-fields-in-requires
@@ -32,7 +32,7 @@ cast-if3 : tie.Need-cast-if3
 cast-if3 c = omega arith
 
 returns-3 : tie.Need-returns-3
-unfolding readOf
+unfolding readBy
 returns-3 c =
     rw (
       le-ltb _ _ (c .before .before .before .before .before .if1 .left),
@@ -45,7 +45,7 @@ judge-requires : tie.Need-judge-requires
 judge-requires c κs = omega arith
 
 returns-4 : tie.Need-returns-4
-unfolding readOf
+unfolding readBy
 returns-4 c =
     rw (
       le-ltb _ _ (c .before .before .before .before .before .before .if1 .left),
@@ -55,8 +55,8 @@ returns-4 c =
     )
     (c .judge .ensures)
 
-pub read-fields-spec : {M : Type 1} → statement M
-read-fields-spec =
+pub read-by-spec : {M : Type 1} → statement M
+read-by-spec =
     tie.close
     (tie.spec
     add-if1
