@@ -87,7 +87,7 @@ seek-some (suc n) l f p e b q =
 
 -- ---- the test
 
-all-zeros : (l : List ℕ) → allZero l ≡ true → l ≡ zeros (length l)
+pub all-zeros : (l : List ℕ) → allZero l ≡ true → l ≡ zeros (length l)
 all-zeros [] e = refl
 all-zeros (x ∷ l) e = at (eqb x 0) refl e (all-zeros l)
   where
@@ -95,7 +95,7 @@ all-zeros (x ∷ l) e = at (eqb x 0) refl e (all-zeros l)
     at true p q ih = ap₂ _∷_ (eqb-true x 0 p) (ih q)
     at false p q ih = let z : _≡_ {A = ℕ} 0 1 = cc in absurd (omega arith)
 
-zeros-all : (n : ℕ) → allZero (zeros n) ≡ true
+pub zeros-all : (n : ℕ) → allZero (zeros n) ≡ true
 zeros-all zero = refl
 zeros-all (suc n) = zeros-all n
 

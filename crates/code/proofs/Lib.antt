@@ -7,5 +7,6 @@ pub mod Roots
 pub mod Locate
 pub mod Errata
 pub mod Exact
+pub mod Restored
 pub mod Mend
 pub mod Cases
