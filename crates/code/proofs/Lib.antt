@@ -7,6 +7,7 @@ pub mod Roots
 pub mod Locate
 pub mod Errata
 pub mod Exact
+pub mod Lost
 pub mod Restored
 pub mod Mend
 pub mod Cases

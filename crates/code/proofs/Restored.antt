@@ -4,13 +4,13 @@
 use mathlib.Core.Path.{_≡_, refl, sym, ap, ap₂, subst, _∙_}
 use mathlib.Core.Logic.{⊎-elim}
 use mathlib.Core.Bool.{Bool, true, false, cond}
-use mathlib.Core.List.{List, [], _∷_, append-nil}
-use Prim.Native.Nat.{ℕ, zero, suc, _≤_, _<_, zero-le, suc-le-suc}
-use native.Mathlib.Nat.{le-refl, le-trans, le-suc, not-suc-le-zero, zero-lt-suc}
+use mathlib.Core.List.{List, [], append-nil}
+use Prim.Native.Nat.{ℕ, zero, suc, _≤_, _<_}
+use native.Mathlib.Nat.{le-refl, le-trans, le-suc, not-suc-le-zero}
 use native.Mathlib.Omega.{arith}
 use lib.Dec.{eqb}
 use lib.ListN.{length, getD}
-use borrow.Author.Tests.{eqb-true, eqb-false, eq-eqb}
+use borrow.Author.Tests.{eqb-true, eq-eqb}
 use Rattle.ground.proofs.Numbers.{below-suc}
 use Rattle.ground.proofs.Truth.{differ}
 use Rattle.code.specs.Code.{Bytes, Coded, distance}
@@ -20,40 +20,10 @@ use Rattle.code.specs.Restore.{Fits, lostOf, hasKnown, isFit, restoreOf,
 use Rattle.code.proofs.Lists.{zeros}
 use Rattle.code.proofs.Division.{length-remainder, coded-remainder, remainder-coded}
 use Rattle.code.proofs.Distance.{coded-unique}
+use Rattle.code.proofs.Lost.{distance-lost}
 use Rattle.code.proofs.Exact.{Sought, seek-found, seek-some, all-zeros, zeros-all}
 
--- ---- how many are lost
-
-abbrev more : Bool → ℕ → ℕ
-more b n = cond b (suc n) n
-
--- counted from the front
-pub lost-first : (f : ℕ → Bool) (n : ℕ) → lostOf f (suc n) ≡ more (f 0) (lostOf (λ k. f (suc k)) n)
-unfolding lostOf
-lost-first f zero = refl
-lost-first f (suc n) = ap (more (f (suc n))) (lost-first f n) ∙ swap (f (suc n)) (f 0) (lostOf (λ k. f (suc k)) n)
-  where
-    swap : (a b : Bool) (k : ℕ) → more a (more b k) ≡ more b (more a k)
-    swap true true k = refl
-    swap true false k = refl
-    swap false true k = refl
-    swap false false k = refl
-
--- rows that agree wherever nothing is lost
-pub distance-lost : (a b : List ℕ) (f : ℕ → Bool) → ((c : ℕ) → c < length a → f c ≡ false → getD a c 0 ≡ getD b c 0) → distance a b ≤ lostOf f (length a)
-unfolding distance
-distance-lost [] b f same = zero-le
-distance-lost (x ∷ a) [] f same = zero-le
-distance-lost (x ∷ a) (y ∷ b) f same =
-    subst (λ (n : ℕ). distance (x ∷ a) (y ∷ b) ≤ n) (sym (lost-first f (length a)))
-    (at (eqb x y) refl (f 0) refl (distance-lost a b (λ k. f (suc k)) (λ c h. same (suc c) (suc-le-suc h))))
-  where
-    at : (t : Bool) → eqb x y ≡ t → (u : Bool) → f 0 ≡ u → distance a b ≤ lostOf (λ k. f (suc k)) (length a)
-        → cond t (distance a b) (suc (distance a b)) ≤ more u (lostOf (λ k. f (suc k)) (length a))
-    at true p true q h = le-trans h (le-suc (lostOf (λ k. f (suc k)) (length a)))
-    at true p false q h = h
-    at false p true q h = suc-le-suc h
-    at false p false q h = absurd (eqb-false x y p (same 0 (zero-lt-suc (length a)) q))
+-- ---- one row at most
 
 pub only-one : OnlyOne
 only-one lost r s s' few p q =
