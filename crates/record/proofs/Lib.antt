@@ -3,3 +3,4 @@ pub mod OfferCases
 pub mod OfferFacts
 pub mod OfferLaws
 pub mod Apart
+pub mod OfferReads

@@ -12,7 +12,7 @@ use lib.ListN.{length, getD, take, drop}
 use lib.Seq.{getD-drop, getD-take}
 use Rattle.code.specs.Code.{Bytes, Coded, distance}
 use Rattle.code.proofs.Mend.{rowOf, bytes-split, mend-whole, mend-length}
-use Rattle.packet.specs.Packet.{readOf}
+use Rattle.packet.specs.Packet.{readBy}
 use Rattle.packet.proofs.Laws.{fields-first}
 use Rattle.code.specs.Mend.{whole, alteredIn}
 use Rattle.record.specs.Mend.{payloadIn, mendedIn}
@@ -55,9 +55,9 @@ module _ (q p : List ℕ) (a : Altered q p) where
       sym (getD-take 14 q j 0 l) ∙ ap (λ (x : List ℕ). getD x j 0) (a .header) ∙ getD-take 14 p j 0 l
 
   -- its fields are read as the packet's
-  pub read-copy : readOf q ≡ readOf p
-  unfolding readOf
-  read-copy = rw (fields-first q p (a .header), a .sized, first-same 0 refl, first-same 1 refl, first-same 2 refl)
+  pub read-copy : (rows : Bool) → readBy rows q ≡ readBy rows p
+  unfolding readBy
+  read-copy rows = rw (fields-first q p (a .header), a .sized, first-same 0 refl, first-same 1 refl, first-same 2 refl)
 
   module _ (w : Intact p) where
     last-same : (k : ℕ) → 1 ≤ k → k ≤ 4 → getD q (length q - k) 0 ≡ getD p (length p - k) 0

@@ -20,7 +20,6 @@ use Rattle.repair.proofs.AllRows.{mend-refused}
 use Rattle.packet.specs.declared.Packet.{Packet}
 use Rattle.packet.specs.declared.Reading.{Reading}
 use Rattle.packet.specs.declared.Reading.the-variants.{Sent}
-use Rattle.packet.specs.Packet.{readOf}
 use Rattle.packet.specs.Edition.{editionOf}
 use Rattle.places.specs.declared.Place.{Place}
 use Rattle.places.specs.declared.Record.{Record}
@@ -35,7 +34,7 @@ use Rattle.record.specs.declared.Offered.the-variants.{Stored, Repeat, R
 use Rattle.code.specs.Mend.{Mended, whole, broken, mendRows}
 use Rattle.record.specs.Mend.{payloadIn, mendedIn}
 use Rattle.sealing.specs.Sealing.{agrees}
-use Rattle.record.specs.Offer.{packetName, differs, Judged, refuse, put, judgeMended, judge, Offering, storing, offerJudged, offerOf, judgeBy, offerBy}
+use Rattle.record.specs.Offer.{packetName, readFor, differs, Judged, refuse, put, judgeMended, mendAs, judge, Offering, storing, offerJudged, offerOf, judgeBy, offerBy}
 use Rattle.record.specs.InnerOffer.{Comes, judgeCrc, refusalIn}
 
 abbrev pub said : Offered → List ℕ → Offering
@@ -153,24 +152,24 @@ module _ (p : Place) (f : Packet) (q : List ℕ) where
     unfolding judgeBy
     judge-wide h = rw (d, eq-eqb _ _ o, lt-ltb (p .slot) (length (payloadIn q)) h) refl
 
-    pub judge-mended : length (payloadIn q) ≤ p .slot → judge p f q ≡ judgeMended (f .number) q (mendedIn (f .protection) q)
+    pub judge-mended : length (payloadIn q) ≤ p .slot → judge p f q ≡ judgeMended (f .number) q (mendedIn (mendAs p f) q)
     unfolding judgeBy
     judge-mended h = rw (d, eq-eqb _ _ o, le-ltb (p .slot) (length (payloadIn q)) h) refl
 
     -- what is put is the repaired payload, where its CRC agrees
-    pub judge-puts : (b : List ℕ) (n : ℕ) → length (payloadIn q) ≤ p .slot → mendedIn (f .protection) q ≡ whole b n → agrees q b ≡ true → judge p f q ≡ put (f .number) b n
-    judge-puts b n h m a = judge-mended h ∙ mended-crc (f .number) q b n (mendedIn (f .protection) q) m true (sym a)
+    pub judge-puts : (b : List ℕ) (n : ℕ) → length (payloadIn q) ≤ p .slot → mendedIn (mendAs p f) q ≡ whole b n → agrees q b ≡ true → judge p f q ≡ put (f .number) b n
+    judge-puts b n h m a = judge-mended h ∙ mended-crc (f .number) q b n (mendedIn (mendAs p f) q) m true (sym a)
 
     -- the payload goes on as it came, or to be repaired
     module _ (s : List ℕ) (h : length (payloadIn q) ≤ p .slot) where
-      pub offer-as-it-came : f .protection ≡ 0 → (r : Bool) → r ≡ agrees q (cut q) → offerJudged p s (judge p f q) ≡ offerJudged p s (judgeCrc (f .number) (cut q) 0 r)
+      pub offer-as-it-came : mendAs p f ≡ 0 → (r : Bool) → r ≡ agrees q (cut q) → offerJudged p s (judge p f q) ≡ offerJudged p s (judgeCrc (f .number) (cut q) 0 r)
       offer-as-it-came z r a =
-          ap (offerJudged p s) (judge-mended h ∙ mended-crc (f .number) q (cut q) 0 (mendedIn (f .protection) q) (mended-plain (f .protection) q z ∙ ap (λ (b : List ℕ). whole b 0) (sym (payload-cut q))) r a)
+          ap (offerJudged p s) (judge-mended h ∙ mended-crc (f .number) q (cut q) 0 (mendedIn (mendAs p f) q) (mended-plain (mendAs p f) q z ∙ ap (λ (b : List ℕ). whole b 0) (sym (payload-cut q))) r a)
 
-      pub offer-repaired : (f .protection ≡ 0 → ⊥)
+      pub offer-repaired : (mendAs p f ≡ 0 → ⊥)
           → offerJudged p s (judge p f q) ≡ offerJudged p s (judgeMended (f .number) q (mendRows (length (cut q) / 255) 0 (cut q)))
       offer-repaired z =
-          ap (offerJudged p s) (judge-mended h ∙ ap (judgeMended (f .number) q) (mended-rows (f .protection) q z))
+          ap (offerJudged p s) (judge-mended h ∙ ap (judgeMended (f .number) q) (mended-rows (mendAs p f) q z))
           ∙ ap (λ (b : List ℕ). offerJudged p s (judgeMended (f .number) q (mendRows (length b / 255) 0 b))) (sym (payload-cut q))
 
 -- ---- what is put, and what it comes from: the cases of the judgement are walked through here alone
@@ -180,7 +179,7 @@ pub record Puts (p : Place) (f : Packet) (q : List ℕ) (k : ℕ) (b : List ℕ)
   pub serves : differs p f ≡ false
   pub edition : editionOf f ≡ p .edition
   pub narrow : length (payloadIn q) ≤ p .slot
-  pub mended : mendedIn (f .protection) q ≡ whole b m
+  pub mended : mendedIn (mendAs p f) q ≡ whole b m
   pub crc : agrees q b ≡ true
 
 module _ (k : ℕ) (b : List ℕ) (m : ℕ) where
@@ -205,7 +204,7 @@ module _ (k : ℕ) (b : List ℕ) (m : ℕ) where
       let o = passed (differs p f) Other _ e in
       let v = passed (not (eqb (editionOf f) (p .edition))) Edition _ (o .1) in
       let w = passed (ltb (p .slot) (length (payloadIn q))) Wide _ (v .1) in
-      let x = mended-put (f .number) q (mendedIn (f .protection) q) (w .1) in
+      let x = mended-put (f .number) q (mendedIn (mendAs p f) q) (w .1) in
       record { number = x .0; serves = o .0; edition = eqb-true _ _ (not-false _ (v .0)); narrow = ltb-false _ _ (w .0); mended = x .1; crc = x .2 }
 
 -- ---- an offer to a record
@@ -220,11 +219,11 @@ module _ (h : Record) (s q : List ℕ) where
   offer-bad g = rw g refl
 
   module _ (g : good (length s) (h .places) ≡ true) where
-    pub offer-unread : (r : Refusal) → readOf q ≡ Reading.Refused r → offerOf h s q ≡ said (Refused r) s
+    pub offer-unread : (r : Refusal) → readFor h q ≡ Reading.Refused r → offerOf h s q ≡ said (Refused r) s
     unfolding offerBy
     offer-unread r e = rw (g, e) refl
 
-    module _ (f : Packet) (e : readOf q ≡ Sent f) where
+    module _ (f : Packet) (e : readFor h q ≡ Sent f) where
       pub offer-unknown : placeNamed (h .places) (packetName f) ≡ Nothing → offerOf h s q ≡ said (Refused Unknown) s
       unfolding offerBy
       offer-unknown w = rw (g, e, w) refl

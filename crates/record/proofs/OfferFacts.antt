@@ -6,46 +6,51 @@ use mathlib.Core.Bool.{Bool, true, false, cond, not, _&&_}
 use mathlib.Core.List.{List}
 use Prim.Native.Nat.{ℕ, _+_, _-_, _*_, _%_, _<_, _≤_}
 use native.Mathlib.Omega.{arith}
-use borrow.Author.Tests.{eq-eqb, ne-eqb, eqb-true, leb-false, ltb-false, not-false}
+use borrow.Author.Tests.{eq-eqb, ne-eqb, eqb-true, eqb-false, leb-false, ltb-false, not-true, not-false}
 use lib.Dec.{eqb, ltb}
-use lib.ListN.{length}
+use lib.ListN.{length, getD}
 use Rattle.refusals.specs.declared.Refusal.{Refusal}
 use Rattle.refusals.specs.declared.Refusal.the-variants.{Short, Mark, Length, «Type», Protection, Number, Rows, Resource}
 use Rattle.packet.specs.declared.Packet.{Packet}
 use Rattle.packet.specs.declared.Reading.{Reading}
 use Rattle.packet.specs.declared.Reading.the-variants.{Sent, Refused}
-use Rattle.packet.specs.Packet.{resourceIn, kindIn, fieldsIn, marked, badProtection, badNumber, badRows, judged, readOf}
+use Rattle.packet.specs.Packet.{resourceIn, kindIn, fieldsIn, marked, badProtection, badNumber, badRows, judged, readBy}
 use Rattle.packet.proofs.Laws.{resource-in, kind-in}
 use Rattle.places.specs.declared.Place.{Place}
-use Rattle.places.specs.Places.{Name, names}
-use Rattle.ground.proofs.Truth.{neither}
+use Rattle.places.specs.declared.Record.{Record}
+use Rattle.places.specs.declared.Found.{Found}
+use Rattle.places.specs.declared.Found.the-variants.{At}
+use Rattle.places.specs.Places.{Name, unused, names, placeNamed}
+use Rattle.ground.proofs.Truth.{neither, and-both}
+use Rattle.settings.specs.Settings.{rowWise}
 use Rattle.places.proofs.Named.{names-name}
 use Rattle.places.proofs.Facts.{PlaceFacts}
 use Rattle.contents.specs.Contents.{slotAt}
 use Rattle.contents.proofs.Slots.{slot-within}
-use Rattle.record.specs.Offer.{packetName, nameIn, differs}
+use Rattle.record.specs.Offer.{packetName, nameIn, inColumns, readFor, mendAs, differs}
 
 -- ---- a packet that was read
 
-pub record Read (q : List ℕ) (f : Packet) : Type 0 where
+-- what is known of one by its bytes; its rows only where they are judged
+pub record Read (rows : Bool) (q : List ℕ) (f : Packet) : Type 0 where
   pub fields : f ≡ fieldsIn q
   pub least : 19 ≤ length q
   pub protection : f .protection < 2
   pub below : 0 < f .kind → f .number < f .count
-  pub multiple : f .protection ≡ 1 → (length q - 18) % 255 ≡ 0
+  pub multiple : rows ≡ true → f .protection ≡ 1 → (length q - 18) % 255 ≡ 0
 
 passed : (t : Bool) (r : Refusal) (y : Reading) (f : Packet) → cond t (Refused r) y ≡ Sent f → (t ≡ false) × (y ≡ Sent f)
 passed true r y f e = absurd (let z : _≡_ {A = ℕ} 0 1 = cc in omega arith)
 passed false r y f e = (refl, e)
 
-judged-read : (g f : Packet) (n : ℕ) → judged g n ≡ Sent f
-    → (g ≡ f) × (badProtection g ≡ false) × (badNumber g ≡ false) × (badRows g n ≡ false)
+judged-read : (rows : Bool) (g f : Packet) (n : ℕ) → judged rows g n ≡ Sent f
+    → (g ≡ f) × (badProtection g ≡ false) × (badNumber g ≡ false) × (rows && badRows g n ≡ false)
 unfolding judged
-judged-read g f n e =
+judged-read rows g f n e =
     let a = passed (eqb (g .kind) 3) «Type» _ f e in
     let b = passed (badProtection g) Protection _ f (a .1) in
     let c = passed (badNumber g) Number _ f (b .1) in
-    let d = passed (badRows g n) Rows _ f (c .1) in
+    let d = passed (rows && badRows g n) Rows _ f (c .1) in
     let h = passed (eqb (g .resource) 0) Resource _ f (d .1) in
     let e : Sent g ≡ Sent f = h .1 in
     (cc, b .0, c .0, d .0)
@@ -55,13 +60,13 @@ second-fails : (s t : Bool) → (s && t) ≡ false → s ≡ true → t ≡ fals
 second-fails true t e p = e
 second-fails false t e p = absurd (let z : _≡_ {A = ℕ} 0 1 = cc in omega arith)
 
-pub read-known : (q : List ℕ) (f : Packet) → readOf q ≡ Sent f → Read q f
-unfolding readOf
-read-known q f e =
+pub read-known : (rows : Bool) (q : List ℕ) (f : Packet) → readBy rows q ≡ Sent f → Read rows q f
+unfolding readBy
+read-known rows q f e =
     let a = passed (ltb (length q) 19) Short _ f e in
     let b = passed (not (marked q)) Mark _ f (a .1) in
     let c = passed (not (eqb (fieldsIn q .length) (length q))) Length _ f (b .1) in
-    let j = judged-read (fieldsIn q) f (length q) (c .1) in
+    let j = judged-read rows (fieldsIn q) f (length q) (c .1) in
     let g : fieldsIn q ≡ f = j .0 in
     let p = neither (ltb 1 (f .protection)) _ (sym (ap badProtection g) ∙ j .1) in
     record {
@@ -69,17 +74,34 @@ read-known q f e =
       least = ltb-false _ _ (a .0);
       protection = let l = ltb-false 1 (f .protection) (p .0) in omega arith;
       below = λ (k : 0 < f .kind). leb-false (f .count) (f .number) (rw (ne-eqb (f .kind) 0 (λ (z : f .kind ≡ 0). omega arith)) at (sym (ap badNumber g) ∙ j .2));
-      multiple = λ (o : f .protection ≡ 1).
-          eqb-true _ _ (not-false _ (second-fails (eqb (f .protection) 1) _ (sym (ap (λ (x : Packet). badRows x (length q)) g) ∙ j .3) (eq-eqb _ _ o)));
+      multiple = λ t (o : f .protection ≡ 1).
+          eqb-true _ _ (not-false _ (second-fails (eqb (f .protection) 1) _ (sym (ap (λ (x : Packet). badRows x (length q)) g) ∙ second-fails rows _ (j .3) t) (eq-eqb _ _ o)));
     }
 
 -- it names what its bytes name
-pub read-name : (q : List ℕ) (f : Packet) → readOf q ≡ Sent f → packetName f ≡ nameIn q
-read-name q f e =
-    let k = read-known q f e .fields in
+read-names : (rows : Bool) (q : List ℕ) (f : Packet) → readBy rows q ≡ Sent f → packetName f ≡ nameIn q
+read-names rows q f e =
+    let k = read-known rows q f e .fields in
     let r : f .resource ≡ resourceIn q = ap (λ (x : Packet). x .resource) k ∙ resource-in q in
     let t : f .kind ≡ kindIn q = ap (λ (x : Packet). x .kind) k ∙ kind-in q in
     λ i. record { resource = r i; kind = t i }
+
+-- ---- read for a record
+
+module _ (h : Record) (q : List ℕ) (f : Packet) (e : readFor h q ≡ Sent f) where
+  pub read-name : packetName f ≡ nameIn q
+  unfolding readFor
+  read-name = read-names (not (inColumns (h .places) (placeNamed (h .places) (nameIn q)))) q f e
+
+  -- its rows are judged, unless the place that it names is in column order
+  pub read-placed : (i : ℕ) → placeNamed (h .places) (packetName f) ≡ At i → Read (not (eqb (getD (h .places) i unused .order) 1)) q f
+  unfolding readFor
+  read-placed i w =
+      read-known _ q f (ap (λ (x : Found). readBy (not (inColumns (h .places) x)) q) (sym (ap (placeNamed (h .places)) (sym read-name) ∙ w)) ∙ e)
+
+  pub read-least : 19 ≤ length q
+  unfolding readFor
+  read-least = read-known _ q f e .least
 
 -- ---- a packet of the file that a place collects
 
@@ -125,6 +147,28 @@ slot-below p f b d = omega (arith, same-file p f d .count)
 pub slot-room : (n : ℕ) (p : Place) (f : Packet) → PlaceFacts n p → f .number < f .count → differs p f ≡ false
     → slotAt p (f .number) + (p .slot + 2) ≤ n
 slot-room n p f w b d = omega (arith, slot-within p (f .number) (slot-below p f b d) .1, w .ends-within)
+
+-- ---- whether rows are mended: with protection, in row order
+
+module _ (p : Place) (f : Packet) where
+  pub mends-nothing : rowWise (f .protection) (p .order) ≡ false → mendAs p f ≡ 0
+  mends-nothing w = rw w refl
+
+  pub rows-protected : f .protection < 2 → rowWise (f .protection) (p .order) ≡ true → f .protection ≡ 1
+  rows-protected l w =
+      let z : f .protection ≡ 0 → ⊥ = eqb-false _ _ (not-true _ (and-both (not (eqb (f .protection) 0)) (eqb (p .order) 0) w .0)) in
+      omega arith
+
+  pub mends-rows : rowWise (f .protection) (p .order) ≡ true → mendAs p f ≡ 0 → ⊥
+  mends-rows w e =
+      let z : f .protection ≡ 0 → ⊥ = eqb-false _ _ (not-true _ (and-both (not (eqb (f .protection) 0)) (eqb (p .order) 0) w .0)) in
+      z (sym (rw w refl) ∙ e)
+
+  -- there the packet's rows were judged as it was read
+  pub rows-judged : rowWise (f .protection) (p .order) ≡ true → not (eqb (p .order) 1) ≡ true
+  rows-judged w =
+      let o : p .order ≡ 0 = eqb-true _ _ (and-both (not (eqb (f .protection) 0)) (eqb (p .order) 0) w .1) in
+      ap not (ne-eqb (p .order) 1 (λ x. omega arith))
 
 -- where a slot starts, as the code reckons it
 pub slot-sum : (p : Place) (k : ℕ) → slotAt p k ≡ p .start + k * (p .slot + 2)

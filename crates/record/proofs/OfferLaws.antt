@@ -2,11 +2,10 @@
 -- to the payload; and it depends on nothing else of the store but its length. The packet may be any list. Assumes nothing.
 use mathlib.Core.Path.{_≡_, refl, sym, ap, subst, _∙_}
 use mathlib.Core.Logic.{_⊎_, inl, inr, ⊎-map}
-use mathlib.Core.Bool.{Bool, true, false}
+use mathlib.Core.Bool.{Bool, true, false, not}
 use mathlib.Core.List.{List, [], _∷_}
 use Prim.Native.Nat.{ℕ, _-_, _/_, _%_, _<_, _≤_}
 use native.Mathlib.Omega.{arith}
-use borrow.Author.Tests.{eqb-true, eqb-false}
 use lib.Dec.{eqb}
 use lib.ListN.{length, getD, set}
 use lib.Seq.{getD-set-same, getD-set-other}
@@ -17,7 +16,6 @@ use Rattle.refusals.specs.declared.Refusal.the-variants.{Unknown}
 use Rattle.packet.specs.declared.Packet.{Packet}
 use Rattle.packet.specs.declared.Reading.{Reading}
 use Rattle.packet.specs.declared.Reading.the-variants.{Sent}
-use Rattle.packet.specs.Packet.{readOf}
 use Rattle.packet.specs.Edition.{editionOf}
 use Rattle.places.specs.declared.Place.{Place}
 use Rattle.places.specs.declared.Record.{Record}
@@ -36,9 +34,10 @@ use Rattle.record.specs.declared.Offered.the-variants.{Stored, Repeat, R
 use Rattle.code.specs.Mend.{alteredIn}
 use Rattle.record.specs.Mend.{payloadIn}
 use Rattle.sealing.specs.Sealing.{agrees}
-use Rattle.record.specs.Offer.{packetName, nameIn, Judged, refuse, put, judge, putInto, Offering, storing, offerJudged, offerOf}
+use Rattle.settings.specs.Settings.{rowWise}
+use Rattle.record.specs.Offer.{packetName, nameIn, readFor, mendAs, Judged, refuse, put, judge, putInto, Offering, storing, offerJudged, offerOf}
 use Rattle.record.proofs.OfferCases.{said, payload-length, judge-puts, Puts, puts-known, offer-bad, offer-unread, offer-unknown, offer-placed}
-use Rattle.record.proofs.OfferFacts.{Read, read-known, read-name, SameFile, same-file, same-serves, no-stream, slot-below}
+use Rattle.record.proofs.OfferFacts.{Read, read-name, read-placed, read-least, SameFile, same-file, same-serves, no-stream, slot-below, mends-nothing, rows-protected, rows-judged}
 use Rattle.record.proofs.MendLaws.{mended-length, Altered, Intact, agrees-copy, mended-copy}
 
 -- ---- what is put fits the place
@@ -52,25 +51,25 @@ abbrev pub Sound : Place → Packet → Judged → Type 0
 Sound p f (refuse r) = Unit {0}
 Sound p f (put k b m) = Placed p f k b
 
-module _ (n : ℕ) (p : Place) (f : Packet) (q : List ℕ) (w : PlaceFacts n p) (named : names p (packetName f) ≡ true) (r : Read q f) where
-  -- without protection any length is taken; with it the payload is whole rows
-  rows-read : (f .protection ≡ 0) ⊎ ((length q - 18) % 255 ≡ 0)
-  rows-read = by (eqb (f .protection) 0) refl
+module _ (n : ℕ) (p : Place) (f : Packet) (q : List ℕ) (w : PlaceFacts n p) (named : names p (packetName f) ≡ true) (r : Read (not (eqb (p .order) 1)) q f) where
+  -- where rows are mended the payload is whole rows; else any length is taken
+  rows-read : (rowWise (f .protection) (p .order) ≡ false) ⊎ ((length q - 18) % 255 ≡ 0)
+  rows-read = by (rowWise (f .protection) (p .order)) refl
     where
-      by : (t : Bool) → eqb (f .protection) 0 ≡ t → (f .protection ≡ 0) ⊎ ((length q - 18) % 255 ≡ 0)
-      by true t = inl (eqb-true _ _ t)
-      by false t = let z : f .protection ≡ 0 → ⊥ = eqb-false _ _ t in inr (r .multiple (omega (arith, r .protection)))
+      by : (t : Bool) → rowWise (f .protection) (p .order) ≡ t → (rowWise (f .protection) (p .order) ≡ false) ⊎ ((length q - 18) % 255 ≡ 0)
+      by false t = inl t
+      by true t = inr (r .multiple (rows-judged p f t) (rows-protected p f (r .protection) t))
 
   put-placed : (k : ℕ) (b : List ℕ) (m : ℕ) → Puts p f q k b m → Placed p f k b
   put-placed k b m x =
       let h : 18 ≤ length q = omega (arith, r .least) in
-      let e : length b ≡ length q - 18 = mended-length (f .protection) q b m h rows-read (x .mended) in
+      let e : length b ≡ length q - 18 = mended-length (mendAs p f) q b m h (⊎-map (mends-nothing p f) (λ z. z) rows-read) (x .mended) in
       let s = same-file p f (x .serves) in
       record {
         number = x .number;
         below = omega (arith, x .number, slot-below p f (r .below (no-stream n p f w named)) (x .serves));
         fits = fits-made p (length b) (omega (arith, x .narrow, payload-length q h))
-            (⊎-map (λ z. sym (s .protection) ∙ z) (λ z. ap (λ (y : ℕ). y % 255) e ∙ z) rows-read);
+            (⊎-map (λ z. ap (λ (y : ℕ). rowWise y (p .order)) (sym (s .protection)) ∙ z) (λ z. ap (λ (y : ℕ). y % 255) e ∙ z) rows-read);
       }
 
   pub judge-sound : Sound p f (judge p f q)
@@ -81,13 +80,13 @@ module _ (n : ℕ) (p : Place) (f : Packet) (q : List ℕ) (w : PlaceFacts n p) 
       by (put k b m) e = put-placed k b m (puts-known k b m p f q e)
 
 -- what an altered copy of a packet of the place's file and edition puts is that packet's own payload, mended where the copy was altered
-pub judge-copy : (o : Place) (f : Packet) (q p : List ℕ) → Altered q p → Intact p → SameFile o f → editionOf f ≡ o .edition → (f .protection ≡ 0 → ⊥) → length (payloadIn p) ≤ o .slot
+pub judge-copy : (o : Place) (f : Packet) (q p : List ℕ) → Altered q p → Intact p → SameFile o f → editionOf f ≡ o .edition → (mendAs o f ≡ 0 → ⊥) → length (payloadIn p) ≤ o .slot
     → judge o f q ≡ put (f .number) (payloadIn p) (alteredIn (length (payloadIn q) / 255) (payloadIn q) (payloadIn p))
 judge-copy o f q p a w s e z l =
     let n : length q ≡ length p = a .sized in
     let g : 19 ≤ length p = w .least in
     judge-puts o f q (same-serves o f s) e (payloadIn p) _ (omega (arith, payload-length q (omega arith), payload-length p (omega arith)))
-    (mended-copy q p a w (f .protection) z) (agrees-copy q p a w)
+    (mended-copy q p a w (mendAs o f) z) (agrees-copy q p a w)
 
 -- ---- at one place: the answer and what the place holds afterwards, by what it held
 
@@ -183,23 +182,23 @@ answer-after c k (x ∷ b) m (inr e) = inr (rw (e, same-self (x ∷ b)) refl)
 -- it is refused, or it comes to what the packet's place says
 pub data Case (h : Record) (s q : List ℕ) : Offering → Type 0 where
   refused : (r : Refusal) → Case h s q (said (Refused r) s)
-  placed : good (length s) (h .places) ≡ true → (f : Packet) → readOf q ≡ Sent f → (i : ℕ) → placeNamed (h .places) (packetName f) ≡ At i
+  placed : good (length s) (h .places) ≡ true → (f : Packet) → readFor h q ≡ Sent f → (i : ℕ) → placeNamed (h .places) (packetName f) ≡ At i
       → Case h s q (offerJudged (getD (h .places) i unused) s (judge (getD (h .places) i unused) f q))
 
 module _ (h : Record) (s q : List ℕ) where
   pub offer-case : Case h s q (offerOf h s q)
   offer-case = record-judged (good (length s) (h .places)) refl
     where
-      found : good (length s) (h .places) ≡ true → (f : Packet) → readOf q ≡ Sent f → (w : Found) → placeNamed (h .places) (packetName f) ≡ w → Case h s q (offerOf h s q)
+      found : good (length s) (h .places) ≡ true → (f : Packet) → readFor h q ≡ Sent f → (w : Found) → placeNamed (h .places) (packetName f) ≡ w → Case h s q (offerOf h s q)
       found g f e (At i) w = subst (Case h s q) (sym (offer-placed h s q g f e i w)) (placed g f e i w)
       found g f e Nothing w = subst (Case h s q) (sym (offer-unknown h s q g f e w)) (refused Unknown)
 
-      fields-read : good (length s) (h .places) ≡ true → (x : Reading) → readOf q ≡ x → Case h s q (offerOf h s q)
+      fields-read : good (length s) (h .places) ≡ true → (x : Reading) → readFor h q ≡ x → Case h s q (offerOf h s q)
       fields-read g (Sent f) e = found g f e (placeNamed (h .places) (packetName f)) refl
       fields-read g (Reading.Refused r) e = subst (Case h s q) (sym (offer-unread h s q g r e)) (refused r)
 
       record-judged : (t : Bool) → good (length s) (h .places) ≡ t → Case h s q (offerOf h s q)
-      record-judged true g = fields-read g (readOf q) refl
+      record-judged true g = fields-read g (readFor h q) refl
       record-judged false g = subst (Case h s q) (sym (offer-bad h s q g)) (refused Refusal.Record)
 
   pub offer-length : length (offerOf h s q .store) ≡ length s
@@ -221,9 +220,9 @@ module _ (h : Record) (s q : List ℕ) where
   offer-refused r e = offer-unstored (λ (m : ℕ) (z : offerOf h s q .answer ≡ Stored m). let o : _≡_ {A = ℕ} 0 1 = cc in omega arith)
 
   -- ---- the place that the packet names
-  module _ (g : good (length s) (h .places) ≡ true) (f : Packet) (e : readOf q ≡ Sent f) (i : ℕ) (w : placeNamed (h .places) (packetName f) ≡ At i) where
+  module _ (g : good (length s) (h .places) ≡ true) (f : Packet) (e : readFor h q ≡ Sent f) (i : ℕ) (w : placeNamed (h .places) (packetName f) ≡ At i) where
     pub offer-sound : Sound (getD (h .places) i unused) f (judge (getD (h .places) i unused) f q)
-    offer-sound = judge-sound (length s) (getD (h .places) i unused) f q (named-facts (length s) (h .places) g (packetName f) i w) (found-names (h .places) (packetName f) i w .1) (read-known q f e)
+    offer-sound = judge-sound (length s) (getD (h .places) i unused) f q (named-facts (length s) (h .places) g (packetName f) i w) (found-names (h .places) (packetName f) i w .1) (read-placed h q f e i w)
 
     pub offer-answer : offerOf h s q .answer ≡ answered (judge (getD (h .places) i unused) f q) (contents (getD (h .places) i unused) s)
     offer-answer =
@@ -246,8 +245,8 @@ module _ (h : Record) (s q : List ℕ) where
       by o (placed g f e i w) =
           let a = found-names (h .places) (packetName f) i w in
           let b = found-names (h .places) r j n in
-          let least = read-known q f e .least in
-          let named : nameIn q ≡ packetName f = sym (read-name q f e) in
+          let least = read-least h q f e in
+          let named : nameIn q ≡ packetName f = sym (read-name h q f e) in
           let apart : i ≡ j → ⊥ = λ (z : i ≡ j).
           d (omega arith) (named ∙ sym (names-name (getD (h .places) i unused) (packetName f) (a .1)) ∙ ap (λ (x : ℕ). placeName (getD (h .places) x unused)) z
           ∙ names-name (getD (h .places) j unused) r (b .1)) in
@@ -270,21 +269,21 @@ module _ (h : Record) (s t q : List ℕ) (n : length s ≡ length t) where
       → offerOf h s q .answer ≡ offerOf h t q .answer
   alike-answer same = judged (good (length s) (h .places)) refl
     where
-      found : good (length s) (h .places) ≡ true → (f : Packet) → readOf q ≡ Sent f → (w : Found) → placeNamed (h .places) (packetName f) ≡ w
+      found : good (length s) (h .places) ≡ true → (f : Packet) → readFor h q ≡ Sent f → (w : Found) → placeNamed (h .places) (packetName f) ≡ w
           → offerOf h s q .answer ≡ offerOf h t q .answer
       found g f e (At i) w =
-          let named : packetName f ≡ nameIn q = read-name q f e in
+          let named : packetName f ≡ nameIn q = read-name h q f e in
           offer-answer h s q g f e i w
           ∙ ap (answered (judge (getD (h .places) i unused) f q)) (same i (ap (placeNamed (h .places)) (sym named) ∙ w))
           ∙ sym (offer-answer h t q (good-same true g) f e i w)
       found g f e Nothing w = same-answer (offer-unknown h s q g f e w) (offer-unknown h t q (good-same true g) f e w)
 
-      fields : good (length s) (h .places) ≡ true → (x : Reading) → readOf q ≡ x → offerOf h s q .answer ≡ offerOf h t q .answer
+      fields : good (length s) (h .places) ≡ true → (x : Reading) → readFor h q ≡ x → offerOf h s q .answer ≡ offerOf h t q .answer
       fields g (Sent f) e = found g f e (placeNamed (h .places) (packetName f)) refl
       fields g (Reading.Refused r) e = same-answer (offer-unread h s q g r e) (offer-unread h t q (good-same true g) r e)
 
       judged : (x : Bool) → good (length s) (h .places) ≡ x → offerOf h s q .answer ≡ offerOf h t q .answer
-      judged true g = fields g (readOf q) refl
+      judged true g = fields g (readFor h q) refl
       judged false g = same-answer (offer-bad h s q g) (offer-bad h t q (good-same false g))
 
   -- and after any offer they hold the same again
@@ -300,14 +299,14 @@ module _ (h : Record) (s t q : List ℕ) (n : length s ≡ length t) where
     pub alike-holds : contents (getD (h .places) j unused) (offerOf h s q .store) ≡ contents (getD (h .places) j unused) (offerOf h t q .store)
     alike-holds = alike (sameName (nameIn q) r) refl
       where
-        fields : nameIn q ≡ r → good (length s) (h .places) ≡ true → (x : Reading) → readOf q ≡ x → Alike
+        fields : nameIn q ≡ r → good (length s) (h .places) ≡ true → (x : Reading) → readFor h q ≡ x → Alike
         fields z g (Sent f) e =
-            let i : placeNamed (h .places) (packetName f) ≡ At j = ap (placeNamed (h .places)) (read-name q f e ∙ z) ∙ w in
+            let i : placeNamed (h .places) (packetName f) ≡ At j = ap (placeNamed (h .places)) (read-name h q f e ∙ z) ∙ w in
             offer-holds h s q g f e j i ∙ ap (heldAfter (judge (getD (h .places) j unused) f q)) c ∙ sym (offer-holds h t q (good-same true g) f e j i)
         fields z g (Reading.Refused x) e = said-alike (Refused x) (offer-unread h s q g x e) (offer-unread h t q (good-same true g) x e)
 
         judged : nameIn q ≡ r → (x : Bool) → good (length s) (h .places) ≡ x → Alike
-        judged z true g = fields z g (readOf q) refl
+        judged z true g = fields z g (readFor h q) refl
         judged z false g = said-alike (Refused Refusal.Record) (offer-bad h s q g) (offer-bad h t q (good-same false g))
 
         alike : (x : Bool) → sameName (nameIn q) r ≡ x → Alike

@@ -5,7 +5,7 @@ use mathlib.Core.Bool.{Bool, cond}
 use mathlib.Core.List.{List}
 use Prim.Native.Nat.{ℕ}
 use Rattle.refusals.specs.declared.Refusal.{Refusal}
-use Rattle.refusals.specs.declared.Refusal.the-variants.{Short, Crc}
+use Rattle.refusals.specs.declared.Refusal.the-variants.{Short, Unknown, Crc}
 use Rattle.packet.specs.declared.Reading.{Reading}
 use Rattle.packet.specs.declared.Reading.the-variants.{Sent, Refused}
 use Rattle.record.specs.declared.Offered.{Offered}
@@ -18,6 +18,11 @@ Comes o a s = (a ≡ o .answer) × (s ≡ o .store)
 -- a payload of which m bytes were mended, with what is said of its CRC
 abbrev pub judgeCrc : ℕ → List ℕ → ℕ → Bool → Judged
 judgeCrc number b m agreed = cond agreed (put number b m) (refuse Crc)
+
+-- what is answered for a reading where no place holds what it names
+abbrev pub nowhere : Reading → Offered
+nowhere (Refused r) = Offered.Refused r
+nowhere (Sent f) = Offered.Refused Unknown
 
 -- the refusal of a reading that is one
 abbrev pub refusalIn : Reading → Refusal

@@ -1,7 +1,7 @@
--- Offer: document 01, section 5; by resource and type, document 02, R-1; with the bytes mended, R-7; in the place's own edition, R-9. Refusals in the order 9, then 1 to 8 as the field
--- reader gives them, then 10, 11, 33, and 12 to 16.
+-- Offer: document 01, section 5; by resource and type, document 02, R-1; with the bytes mended, R-7; in the place's own edition, R-9; in column order, R-8. Refusals in the order 9,
+-- then 1 to 8 as the field reader gives them, 7 passed over where a place in column order holds resource and type, then 10, 11, 33, and 12 to 16.
 -- Assumes nothing.
-use mathlib.Core.Bool.{Bool, cond, not, _&&_, _||_}
+use mathlib.Core.Bool.{Bool, false, cond, not, _&&_, _||_}
 use mathlib.Core.List.{List, [], _∷_}
 use Prim.Native.Nat.{ℕ}
 use lib.Dec.{eqb, ltb}
@@ -12,8 +12,9 @@ use Rattle.refusals.specs.declared.Refusal.the-variants.{Unknown, Other, Editio
 use Rattle.packet.specs.declared.Packet.{Packet}
 use Rattle.packet.specs.declared.Reading.{Reading}
 use Rattle.packet.specs.declared.Reading.the-variants.{Sent, Refused}
-use Rattle.packet.specs.Packet.{resourceIn, kindIn, readOf}
+use Rattle.packet.specs.Packet.{resourceIn, kindIn, readBy}
 use Rattle.packet.specs.Edition.{editionOf}
+use Rattle.settings.specs.Settings.{rowWise}
 use Rattle.places.specs.declared.Place.{Place}
 use Rattle.places.specs.declared.Record.{Record}
 use Rattle.places.specs.declared.Found.{Found}
@@ -34,6 +35,15 @@ packetName f = record { resource = f .resource; kind = f .kind }
 abbrev pub nameIn : List ℕ → Name
 nameIn q = record { resource = resourceIn q; kind = kindIn q }
 
+-- the place that was found is in column order
+abbrev pub inColumns : List Place → Found → Bool
+inColumns ps (At i) = eqb (getD ps i unused .order) 1
+inColumns ps Nothing = false
+
+-- how a packet is read: without refusal 7 where such a place holds the resource and type that it names, whatever else of it differs
+unfoldable pub readFor : Record → List ℕ → Reading
+readFor h q = readBy (not (inColumns (h .places) (placeNamed (h .places) (nameIn q)))) q
+
 -- update, count, protection, or M under protection 1, differs from the place
 unfoldable pub differs : Place → Packet → Bool
 differs p f =
@@ -49,12 +59,16 @@ abbrev pub judgeMended : ℕ → List ℕ → Mended → Judged
 judgeMended number q (broken i) = refuse (Repair i)
 judgeMended number q (whole b m) = cond (agrees q b) (put number b m) (refuse Crc)
 
+-- the protection by which its rows are mended: in column order a payload is no rows, and is taken as it came
+abbrev pub mendAs : Place → Packet → ℕ
+mendAs p f = cond (rowWise (f .protection) (p .order)) (f .protection) 0
+
 -- by any mending of packets; ours is `mendedIn`
 unfoldable pub judgeBy : (ℕ → List ℕ → Mended) → Place → Packet → List ℕ → Judged
 judgeBy mend p f q =
     cond (differs p f) (refuse Other)
     (cond (not (eqb (editionOf f) (p .edition))) (refuse Edition)
-    (cond (ltb (p .slot) (length (payloadIn q))) (refuse Wide) (judgeMended (f .number) q (mend (f .protection) q))))
+    (cond (ltb (p .slot) (length (payloadIn q))) (refuse Wide) (judgeMended (f .number) q (mend (mendAs p f) q))))
 
 abbrev pub judge : Place → Packet → List ℕ → Judged
 judge = judgeBy mendedIn
@@ -91,7 +105,7 @@ module _ (mend : ℕ → List ℕ → Mended) where
 
   unfoldable pub offerBy : Record → List ℕ → List ℕ → Offering
   offerBy h s q =
-      cond (good (length s) (h .places)) (offerRead h s q (readOf q)) (record { answer = Offered.Refused Refusal.Record; store = s })
+      cond (good (length s) (h .places)) (offerRead h s q (readFor h q)) (record { answer = Offered.Refused Refusal.Record; store = s })
 
 abbrev pub offerOf : Record → List ℕ → List ℕ → Offering
 offerOf = offerBy mendedIn

@@ -1,16 +1,17 @@
 // Offer: document 01, section 5. A packet is judged first, which does not look at the store; then its payload meets what the slot of its number holds.
-// Refusals in the order 9, then 1 to 8 as the field reader gives them, then 10, 11, 33 (document 02, R-9), and 12 to 16.
+// Refusals in the order 9, then 1 to 8 as the field reader gives them, 7 passed over at a place in column order (document 02, R-8), then 10, 11, 33 (R-9), and 12 to 16.
 ghost use mathlib.Core.Path.{_≡_};
-ghost use mathlib.Core.Bool.{true};
+ghost use mathlib.Core.Bool.{true, not};
 ghost use Prim.Native.Nat.{_+_, _/_, _%_, _≤_};
+ghost use lib.Dec.{eqb};
 ghost use lib.ListN.{length};
-ghost use Rattle.packet.specs.Packet.{readOf};
+ghost use Rattle.packet.specs.Packet.{resourceIn, kindIn, readBy, readOf};
 ghost use Rattle.packet.specs.declared.Reading.the-variants.{Sent};
 ghost use Rattle.places.specs.Places.{names, fits};
 ghost use Rattle.contents.specs.Contents.{slotAt};
 ghost use Rattle.code.specs.Mend.{mendRows};
 ghost use Rattle.record.specs.Offer.{packetName, differs, judgeMended, judge, offerJudged, offerOf};
-ghost use Rattle.record.specs.InnerOffer.{Comes, judgeCrc, refusalIn};
+ghost use Rattle.record.specs.InnerOffer.{Comes, judgeCrc, refusalIn, nowhere};
 use super::Offered;
 use packet::Packet;
 use packet::Reading;
@@ -28,6 +29,43 @@ fn refusal_in(reading: Reading) -> Refusal
         Reading::Refused(refusal) => refusal,
         Reading::Sent(_) => Refusal::Short,
     }
+}
+
+// The resource that a packet names: its bytes 3 and 4.
+fn resource_in(packet: &[u8]) -> u16
+    requires { ⌜ 19 ≤ length (now packet) ⌝ }
+    ensures { λ r. ⌜ r ≡ resourceIn (now (packet .entry)) ⌝ }
+{
+    packet[3] as u16 * 256 + packet[4] as u16
+}
+
+// The type that it names: the two high bits of byte 12.
+fn kind_in(packet: &[u8]) -> u8
+    requires { ⌜ 19 ≤ length (now packet) ⌝ }
+    ensures { λ r. ⌜ r ≡ kindIn (now (packet .entry)) ⌝ }
+{
+    packet[12] / 64
+}
+
+// The fields of a packet as the place that it names has it read: in column order refusal 7 is passed over.
+fn read_at(p: Place, packet: &[u8]) -> Reading
+    ensures { λ r. ⌜ r ≡ readBy (not (eqb (p .order) 1)) (now (packet .entry)) ⌝ }
+{
+    if p.order == 1 {
+        return packet::read_header(packet);
+    }
+    packet::read_fields(packet)
+}
+
+// A packet that no place is for: what reading its fields refuses comes first.
+fn offer_nowhere(packet: &[u8]) -> Offered
+    ensures { λ r. ⌜ r ≡ nowhere (readOf (now (packet .entry))) ⌝ }
+{
+    let reading = packet::read_fields(packet);
+    let Reading::Sent(_) = reading else {
+        return Offered::Refused(refusal_in(reading));
+    };
+    Offered::Refused(Refusal::Unknown)
 }
 
 // Refusal 11.
@@ -104,7 +142,7 @@ fn offer_rows(p: Place, store: &mut [u8], number: u32, packet: &[u8], payload: &
 
 // A packet that was read, at the place that holds its resource and type.
 fn offer_at(p: Place, store: &mut [u8], fields: Packet, packet: &[u8]) -> Offered
-    requires { ⌜ (readOf (now packet) ≡ Sent fields) × (fits (length (now store)) p ≡ true) × (names p (packetName fields) ≡ true) ⌝ }
+    requires { ⌜ (readBy (not (eqb (p .order) 1)) (now packet) ≡ Sent fields) × (fits (length (now store)) p ≡ true) × (names p (packetName fields) ≡ true) ⌝ }
     ensures { λ r. ⌜ Comes (offerJudged p (now (store .entry)) (judge p fields (now (packet .entry)))) r (now (store .exit)) ⌝ }
 {
     if differs(p, fields) {
@@ -118,7 +156,7 @@ fn offer_at(p: Place, store: &mut [u8], fields: Packet, packet: &[u8]) -> Offere
     if (p.slot as usize) < payload.len() {
         return Offered::Refused(Refusal::Wide);
     }
-    if fields.protection == 0 {
+    if !settings::row_wise(fields.protection, p.order) {
         return put_in(
             p,
             store,
@@ -139,13 +177,16 @@ pub fn offer(held: Record, store: &mut [u8], packet: &[u8]) -> Offered
     if !room::is_good(held, store.len()) {
         return Offered::Refused(Refusal::Record);
     }
-    let reading = packet::read_fields(packet);
+    if packet.len() < Packet::HEADER + 1 + Packet::CRC {
+        return Offered::Refused(Refusal::Short);
+    }
+    let Found::At(i) = places::find_place(held, resource_in(packet), kind_in(packet)) else {
+        return offer_nowhere(packet);
+    };
+    let p = held.places[i];
+    let reading = read_at(p, packet);
     let Reading::Sent(fields) = reading else {
         return Offered::Refused(refusal_in(reading));
     };
-    let Found::At(i) = places::find_place(held, fields.resource, fields.kind) else {
-        return Offered::Refused(Refusal::Unknown);
-    };
-    let p = held.places[i];
     offer_at(p, store, fields, packet)
 }

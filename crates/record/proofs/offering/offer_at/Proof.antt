@@ -1,12 +1,15 @@
 -- The packet is judged in the definition's order: Other, Edition, Wide, and then its payload as its protection asks. Since the packet was read and the place is sound, the slot of
 -- its number lies in the store.
 use mathlib.Core.Path.{_≡_, sym, ap, _∙_}
-use mathlib.Core.Bool.{false}
+use mathlib.Core.Bool.{true, false, not}
 use Prim.Native.Nat.{_+_, _≤_}
 use native.Mathlib.Omega.{arith}
+use borrow.Author.Tests.{not-true, not-false}
+use lib.Dec.{eqb}
 use lib.ListN.{length}
 use Rattle.packet.specs.Edition.{editionOf}
 use Rattle.packet.proofs.Laws.{SentFacts, read-sent}
+use Rattle.settings.specs.Settings.{rowWise}
 use Rattle.places.proofs.Named.{names-in-use}
 use Rattle.places.proofs.Facts.{PlaceFacts, place-facts}
 use Rattle.contents.specs.Contents.{slotAt}
@@ -14,13 +17,13 @@ use Rattle.record.specs.Mend.{payloadIn}
 use Rattle.record.specs.Offer.{packetName, differs, offerJudged}
 use Rattle.sealing.proofs.Laws.{agrees-long}
 use Rattle.record.proofs.OfferCases.{told, come, payload-cut, rows-cut, judge-other, judge-edition, judge-wide, offer-as-it-came, offer-repaired}
-use Rattle.record.proofs.OfferFacts.{no-stream, slot-room}
+use Rattle.record.proofs.OfferFacts.{no-stream, slot-room, mends-nothing, mends-rows, rows-judged, rows-protected}
 use Rattle.record.proofs.offering.offer_at.Statement.{statement}
 use Rattle.record.proofs.offering.offer_at.Tie as tie
 
 -- what the packet and the place are known to be
-sent : (c : tie.After-shared-slice-known) → SentFacts (c .before .before .args .packet .now) (c .before .before .args .fields)
-sent c = read-sent _ _ (λ i. c .shared-slice-known .given i .fits) (c .before .before .pre .0)
+sent : (c : tie.After-shared-slice-known) → SentFacts (not (eqb (c .before .before .args .p .order) 1)) (c .before .before .args .packet .now) (c .before .before .args .fields)
+sent c = read-sent _ _ _ (λ i. c .shared-slice-known .given i .fits) (c .before .before .pre .0)
 
 headed : (c : tie.After-shared-slice-known) → 14 ≤ length (c .before .before .args .packet .now)
 headed c = let s = sent c in omega arith
@@ -74,6 +77,9 @@ returns-3 c =
     let q = c .before .before .before .before .before .before .before .before .before .before .args .packet .now in
     told (ap (offerJudged _ _) (judge-wide _ _ q (alike (c .before .before .before .before .before .before)) (own (c .before .before .before)) (omega (arith, ap length (payload-cut q)))))
 
+row-wise-requires : tie.Need-row-wise-requires
+row-wise-requires c κs = tt
+
 agrees-requires : tie.Need-agrees-requires
 agrees-requires c κs = tt
 
@@ -85,13 +91,17 @@ same-length c = omega arith
 
 returns-4 : tie.Need-returns-4
 returns-4 c =
+    let p = c .before .before .before .before .before .before .before .before .before .before .before .before .before .before .before .before .before .args .p in
+    let f = c .before .before .before .before .before .before .before .before .before .before .before .before .before .before .before .before .before .args .fields in
     let q = c .before .before .before .before .before .before .before .before .before .before .before .before .before .before .before .before .before .args .packet .now in
-    come (offer-as-it-came _ _ q (alike (c .before .before .before .before .before .before .before .before .before .before .before .before .before)) (own (c .before .before .before .before .before .before .before .before .before .before)) _ (narrow (c .before .before .before .before .before .before .before)) (c .before .before .before .before .before .if4 .taken) _ (c .before .before .before .agrees .ensures ∙ agrees-long q _ (headed (c .before .before .before .before .before .before .before .before .before .before .before .before .before .before .before)))) (c .before .before .put-in .ensures)
+    come (offer-as-it-came p f q (alike (c .before .before .before .before .before .before .before .before .before .before .before .before .before)) (own (c .before .before .before .before .before .before .before .before .before .before)) _ (narrow (c .before .before .before .before .before .before .before)) (mends-nothing p f (sym (c .before .before .before .before .before .before .row-wise .ensures) ∙ not-true _ (c .before .before .before .before .before .if4 .taken))) _ (c .before .before .before .agrees .ensures ∙ agrees-long q _ (headed (c .before .before .before .before .before .before .before .before .before .before .before .before .before .before .before)))) (c .before .before .put-in .ensures)
 
 offer-rows-requires : tie.Need-offer-rows-requires
 offer-rows-requires c κs =
+    let a = c .before .before .before .before .before .before .before .before .before .before .before .before .before .args in
     let s = sent (c .before .before .before .before .before .before .before .before .before .before .before) in
-    let r = rows-cut (c .before .before .before .before .before .before .before .before .before .before .before .before .before .args .packet .now) (omega arith) (omega arith) (s .multiple (omega arith)) in
+    let w : rowWise (a .fields .protection) (a .p .order) ≡ true = sym (c .before .before .row-wise .ensures) ∙ not-false _ (c .before .if4 .left) in
+    let r = rows-cut (a .packet .now) (omega arith) (omega arith) (s .multiple (rows-judged (a .p) (a .fields) w) (rows-protected (a .p) (a .fields) (s .protection) w)) in
     (room (c .before .before .before .before .before .before .before .before .before), omega arith, omega arith, r .0, r .1)
 
 same-length-2 : tie.Need-same-length-2
@@ -99,8 +109,10 @@ same-length-2 c = omega arith
 
 returns-5 : tie.Need-returns-5
 returns-5 c =
+    let p = c .before .before .before .before .before .before .before .before .before .before .before .before .before .before .before .before .args .p in
+    let f = c .before .before .before .before .before .before .before .before .before .before .before .before .before .before .before .before .args .fields in
     let q = c .before .before .before .before .before .before .before .before .before .before .before .before .before .before .before .before .args .packet .now in
-    come (offer-repaired _ _ q (alike (c .before .before .before .before .before .before .before .before .before .before .before .before)) (own (c .before .before .before .before .before .before .before .before .before)) _ (narrow (c .before .before .before .before .before .before)) (c .before .before .before .before .if4 .left)) (c .before .before .offer-rows .ensures)
+    come (offer-repaired p f q (alike (c .before .before .before .before .before .before .before .before .before .before .before .before)) (own (c .before .before .before .before .before .before .before .before .before)) _ (narrow (c .before .before .before .before .before .before)) (mends-rows p f (sym (c .before .before .before .before .before .row-wise .ensures) ∙ not-false _ (c .before .before .before .before .if4 .left)))) (c .before .before .offer-rows .ensures)
 
 pub offer-at-spec : {M : Type 1} → statement M
 offer-at-spec =
@@ -116,6 +128,7 @@ offer-at-spec =
     part-payload-end
     cast-if3
     returns-3
+    row-wise-requires
     agrees-requires
     put-in-requires
     same-length
