@@ -10,4 +10,5 @@ pub mod Rising
 pub mod Listing
 pub mod Leaving
 pub mod Counting
+pub mod Between
 pub mod Moved

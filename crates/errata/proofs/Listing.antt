@@ -24,12 +24,12 @@ use Rattle.errata.proofs.Mending.{mended-length, mended-off}
 use Rattle.errata.proofs.Rising.{Rises, passing-rises, rises-same, rises-many, somewhere}
 
 -- at the place k of n different ones the value is added
-pub mended-on : (row : List ℕ) → length row ≡ 255 → (a c : ℕ → ℕ) (n : ℕ) → ((k : ℕ) → k < n → a k < 255) → ((j k : ℕ) → j < k → k < n → a j < a k)
+pub mended-on : (row : List ℕ) → length row ≡ 255 → (a c : ℕ → ℕ) (n : ℕ) → ((k : ℕ) → k < n → a k < 255) → ((j k : ℕ) → j < k → k < n → a j ≢ a k)
     → (k : ℕ) → k < n → atPlace (mendedBy row a c n) (a k) ≡ sum (atPlace row (a k)) (c k)
 unfolding mendedBy
-mended-on row long a c zero below rising k h = absurd (not-suc-le-zero h)
-mended-on row long a c (suc n) below rising k h =
-    by (mended-on row long a c n (λ k h. below k (omega arith)) (λ j k b h. rising j k b (omega arith))) (below-suc h)
+mended-on row long a c zero below apart k h = absurd (not-suc-le-zero h)
+mended-on row long a c (suc n) below apart k h =
+    by (mended-on row long a c n (λ k h. below k (omega arith)) (λ j k b h. apart j k b (omega arith))) (below-suc h)
   where
     by : ((k : ℕ) → k < n → atPlace (mendedBy row a c n) (a k) ≡ sum (atPlace row (a k)) (c k)) → (k ≡ n) ⊎ (k < n)
         → atPlace (set (mendedBy row a c n) (254 - a n) (sum (atPlace (mendedBy row a c n) (a n)) (c n))) (a k) ≡ sum (atPlace row (a k)) (c k)
@@ -39,12 +39,12 @@ mended-on row long a c (suc n) below rising k h =
         ap (λ (x : ℕ). atPlace (set l (254 - a n) (sum (atPlace l (a n)) (c n))) (a x)) e
         ∙ getD-set-same l (254 - a n) (sum (atPlace l (a n)) (c n)) 0 (omega arith)
         ∙ ap (λ (x : ℕ). sum x (c n))
-        (mended-off row long a c n (254 - a n) (λ j b z. omega (arith, below j (omega arith), below n (le-refl (suc n)), rising j n b (le-refl (suc n)))))
+        (mended-off row long a c n (254 - a n) (λ j b z. apart j n b (le-refl (suc n)) (omega (arith, below j (omega arith), below n (le-refl (suc n))))))
         ∙ sym (ap (λ (x : ℕ). sum (atPlace row (a x)) (c x)) e)
     by old (inr b) =
         let l : List ℕ = mendedBy row a c n in
         getD-set-other l (254 - a n) (254 - a k) (sum (atPlace l (a n)) (c n)) 0
-        (λ z. omega (arith, below k (omega arith), below n (le-refl (suc n)), rising k n b (le-refl (suc n))))
+        (λ z. apart k n b (le-refl (suc n)) (omega (arith, below k (omega arith), below n (le-refl (suc n)))))
         ∙ old k b
 
 pub getD-map : (f : ℕ → ℕ) (l : List ℕ) (k : ℕ) → k < length l → getD (map f l) k 0 ≡ f (getD l k 0)
@@ -52,13 +52,13 @@ getD-map f [] k h = absurd (not-suc-le-zero h)
 getD-map f (x ∷ l) zero h = refl
 getD-map f (x ∷ l) (suc k) h = getD-map f l k (le-of-suc-le-suc h)
 
-beyond : (l : List ℕ) (k : ℕ) → length l ≤ k → getD l k 0 ≡ 0
+pub beyond : (l : List ℕ) (k : ℕ) → length l ≤ k → getD l k 0 ≡ 0
 beyond [] k h = refl
 beyond (x ∷ l) zero h = absurd (not-suc-le-zero h)
 beyond (x ∷ l) (suc k) h = beyond l k (le-of-suc-le-suc h)
 
 -- sixteen entries, of which the first n are those of l, and the others 0
-all-padded : (n : ℕ) (d l : List ℕ) → length d ≡ 16 → length l ≡ n → ((k : ℕ) → k < n → getD d k 0 ≡ getD l k 0) → ((k : ℕ) → n ≤ k → getD d k 0 ≡ 0) → d ≡ padded l
+pub all-padded : (n : ℕ) (d l : List ℕ) → length d ≡ 16 → length l ≡ n → ((k : ℕ) → k < n → getD d k 0 ≡ getD l k 0) → ((k : ℕ) → n ≤ k → getD d k 0 ≡ 0) → d ≡ padded l
 all-padded n d l long many front behind =
     ext-getD 0 d (padded l) (long ∙ sym (length-listed (λ k. getD l k 0) 16 0))
     (λ k h.
@@ -76,7 +76,7 @@ module _ (r s : List ℕ) (long : length r ≡ 255) (e : Errata) (w : Listed e) 
 
   on : (k : ℕ) → k < e .n → atPlace s (at k) ≡ sum (atPlace r (at k)) (value k)
   on k h =
-      ap (λ (l : List ℕ). atPlace l (at k)) same ∙ mended-on r long (entries (e .at)) (entries (e .values)) (e .n) (w .ordered .below) (w .ordered .rising) k h
+      ap (λ (l : List ℕ). atPlace l (at k)) same ∙ mended-on r long (entries (e .at)) (entries (e .values)) (e .n) (w .ordered .below) (λ j k b h z. omega (arith, w .ordered .rising j k b h)) k h
 
   -- what is added is by how much they differ
   difference : (k : ℕ) → k < e .n → sum (atPlace r (at k)) (atPlace s (at k)) ≡ value k

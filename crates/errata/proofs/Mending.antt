@@ -16,7 +16,7 @@ use Rattle.ground.specs.Bits.{sum}
 use Rattle.ground.proofs.Sums.{sum-assoc, sum-self, sum-zero, sum-cancel}
 use Rattle.field.specs.Field.{product, expo, power}
 use Rattle.field.proofs.Laws.{sum-byte}
-use Rattle.code.specs.Code.{Bytes, add, distance}
+use Rattle.code.specs.Code.{Bytes, Coded, add, distance}
 use Rattle.code.specs.Search.{remainder}
 use Rattle.code.specs.Repair.{Near}
 use Rattle.code.specs.Value.{value, dot}
@@ -28,7 +28,7 @@ use Rattle.code.proofs.Division.{remainder-coded}
 use Rattle.code.proofs.Locate.{located}
 use Rattle.errata.specs.InnerSums.{total, runOf}
 use Rattle.errata.specs.InnerNull.{Annihilated}
-use Rattle.errata.specs.InnerErrata.{entries, shareOf, Syndromes, Rooted, Solved, mendedBy, Searched}
+use Rattle.errata.specs.InnerErrata.{entries, shareOf, Syndromes, Placed, Rooted, Solved, mendedBy, Searched}
 use Rattle.ground.proofs.Numbers.{same-or-not, below-suc}
 use Rattle.errata.proofs.Totals.{total-ext, total-first}
 use Rattle.errata.proofs.Shares.{expo-swap, Agreeing}
@@ -166,6 +166,62 @@ run-dot (c ∷ v) s j =
     step : (m : ℕ) → j + suc m ≡ suc j + m
     step m = omega arith
 
+-- ---- values that were solved for at n places
+
+pub record Weighed (rest s : List ℕ) (n : ℕ) (at c : List ℕ) : Type 0 where
+  pub syndromes : Syndromes rest s
+  pub placed : Placed n at
+  pub value-bytes : (k : ℕ) → getD c k 0 < 256
+  pub solved : Solved at n s c
+
+-- a row that leaves `rest`
+module _ {rest s : List ℕ} {n : ℕ} {at c : List ℕ} (weighed : Weighed rest s n at c) (row : List ℕ) (long : length row ≡ 255) (bytes : Bytes row) (left : rest ≡ remainder 239 row) where
+  mended : List ℕ
+  mended = mendedBy row (entries at) (entries c) n
+
+  size : length mended ≡ 255
+  unfolding mended
+  size = mended-length row long (entries at) (entries c) n
+
+  mended-bytes : Bytes mended
+  unfolding mended
+  mended-bytes = bytes-of (mendedBy row (entries at) (entries c) n) (mended-byte row long (entries at) (entries c) (bytes-at row bytes) (weighed .value-bytes) n)
+
+  syndrome : (j : ℕ) → j < 16 → getD s j 0 ≡ value row (power j)
+  syndrome j h = weighed .syndromes .entry j h ∙ ap (λ (l : List ℕ). value l (power j)) left ∙ sym (value-remainder row long j h)
+
+  mended-share : (j : ℕ) → value mended (power j) ≡ sum (value row (power j)) (shareOf (entries at) (entries c) n j)
+  unfolding mended
+  mended-share j = mended-value row long (entries at) (entries c) n (weighed .placed .below) j
+
+  -- where the values give a syndrome, the mended row has none
+  cleared : (j : ℕ) → j < 16 → shareOf (entries at) (entries c) n j ≡ getD s j 0 → value mended (power j) ≡ 0
+  cleared j h e = mended-share j ∙ ap (sum (value row (power j))) (e ∙ syndrome j h) ∙ sum-self (value row (power j))
+
+  pub mended-coded : ((j : ℕ) → j < 16 → shareOf (entries at) (entries c) n j ≡ getD s j 0) → Coded (mendedBy row (entries at) (entries c) n)
+  unfolding mended
+  mended-coded agree = values-coded mended size mended-bytes (λ j h. cleared j h (agree j h))
+
+  -- a coded row that differs from it at the places only
+  module _ (t : List ℕ) (coded : Coded t) (same : (i : ℕ) → i < 255 → ((k : ℕ) → k < n → 254 - getD at k 0 ≢ i) → getD row i 0 ≡ getD t i 0) where
+    agree-off : (i : ℕ) → i < 255 → ((k : ℕ) → k < n → 254 - getD at k 0 ≢ i) → getD mended i 0 ≡ getD t i 0
+    unfolding mended
+    agree-off i h off = mended-off row long (entries at) (entries c) n i off ∙ same i h off
+
+    complete : mended ≡ t
+    complete =
+        rows-same n mended t size (coded .sized) mended-bytes (coded .bytes)
+        (places-distance mended (entries at) t n size (coded .sized) agree-off)
+        (λ j h.
+        let b : j < 16 = omega (arith, weighed .placed .few) in
+        cleared j b (weighed .solved .solves j h) ∙ sym (coded-values t coded j b))
+
+    pub agreed : (j : ℕ) → j < 16 → shareOf (entries at) (entries c) n j ≡ getD s j 0
+    agreed j h =
+        sym (sum-cancel (value row (power j)) (shareOf (entries at) (entries c) n j)
+        (sym (mended-share j) ∙ ap (λ (l : List ℕ). value l (power j)) complete ∙ coded-values t coded j h))
+        ∙ sym (syndrome j h)
+
 -- ---- the repair
 
 -- what the search has found out of the remainder of a row
@@ -179,71 +235,38 @@ pub record Tried (rest s v : List ℕ) (n : ℕ) (at c : List ℕ) : Type 0 wher
 
 module _ {rest s v : List ℕ} {n : ℕ} {at c : List ℕ} (tried : Tried rest s v n at c) (row : List ℕ) (long : length row ≡ 255) (bytes : Bytes row)
     (left : rest ≡ remainder 239 row) where
-  mended : List ℕ
-  mended = mendedBy row (entries at) (entries c) n
-
-  size : length mended ≡ 255
-  unfolding mended
-  size = mended-length row long (entries at) (entries c) n
-
-  mended-bytes : Bytes mended
-  unfolding mended
-  mended-bytes = bytes-of (mendedBy row (entries at) (entries c) n) (mended-byte row long (entries at) (entries c) (bytes-at row bytes) (tried .value-bytes) n)
-
-  syndrome : (j : ℕ) → j < 16 → getD s j 0 ≡ value row (power j)
-  syndrome j h = tried .syndromes .entry j h ∙ ap (λ (l : List ℕ). value l (power j)) left ∙ sym (value-remainder row long j h)
-
-  mended-share : (j : ℕ) → value mended (power j) ≡ sum (value row (power j)) (shareOf (entries at) (entries c) n j)
-  unfolding mended
-  mended-share j = mended-value row long (entries at) (entries c) n (tried .rooted .placed .below) j
-
-  -- where the values give a syndrome, the mended row has none
-  cleared : (j : ℕ) → j < 16 → shareOf (entries at) (entries c) n j ≡ getD s j 0 → value mended (power j) ≡ 0
-  cleared j h e = mended-share j ∙ ap (sum (value row (power j))) (e ∙ syndrome j h) ∙ sum-self (value row (power j))
+  weighed : Weighed rest s n at c
+  weighed = record { syndromes = tried .syndromes; placed = tried .rooted .placed; value-bytes = tried .value-bytes; solved = tried .solved }
 
   pub sound : ((j : ℕ) → j < 16 → shareOf (entries at) (entries c) n j ≡ getD s j 0) → Near row (mendedBy row (entries at) (entries c) n)
-  unfolding mended
   sound agree =
       let few : n ≤ 8 = tried .rooted .ordered .few in
       let d : distance row (mendedBy row (entries at) (entries c) n) ≤ n = mended-distance row long (entries at) (entries c) n in
-      record { coded = values-coded mended size mended-bytes (λ j h. cleared j h (agree j h)); close = omega arith }
+      record { coded = mended-coded weighed row long bytes left agree; close = omega arith }
 
   module _ (t : List ℕ) (near : Near row t) where
     annihilated : (j : ℕ) → j < 8 → dot v (entries s) j ≡ 0
     annihilated j b = sym (run-dot v s j) ∙ ap (runOf v s j) (tried .null .short .sized) ∙ tried .null .passed j b
 
     -- where no place stands the rows agree
-    agree-off : (i : ℕ) → i < 255 → ((k : ℕ) → k < n → 254 - getD at k 0 ≢ i) → getD mended i 0 ≡ getD t i 0
-    unfolding mended
-    agree-off i h off =
-        mended-off row long (entries at) (entries c) n i off
-        ∙ located row t long bytes near v (entries s) (omega (arith, tried .null .short .sized)) (bytes-of v (tried .bytes)) syndrome annihilated i (254 - i)
+    agree-near : (i : ℕ) → i < 255 → ((k : ℕ) → k < n → 254 - getD at k 0 ≢ i) → getD row i 0 ≡ getD t i 0
+    agree-near i h off =
+        located row t long bytes near v (entries s) (omega (arith, tried .null .short .sized)) (bytes-of v (tried .bytes)) (syndrome weighed row long bytes left) annihilated i (254 - i)
         (omega arith)
         (λ z. let k = tried .rooted .all (254 - i) (omega arith) z in off (k .0) (k .1) (omega (arith, k .2)))
 
-    complete : mended ≡ t
-    complete =
-        rows-same n mended t size (near .coded .sized) mended-bytes (near .coded .bytes)
-        (places-distance mended (entries at) t n size (near .coded .sized) agree-off)
-        (λ j h.
-        let b : j < 16 = omega (arith, tried .rooted .ordered .few) in
-        cleared j b (tried .solved .solves j h) ∙ sym (coded-values t (near .coded) j b))
-
-    pub agreed : (j : ℕ) → j < 16 → shareOf (entries at) (entries c) n j ≡ getD s j 0
-    agreed j h =
-        sym (sum-cancel (value row (power j)) (shareOf (entries at) (entries c) n j)
-        (sym (mended-share j) ∙ ap (λ (l : List ℕ). value l (power j)) complete ∙ coded-values t (near .coded) j h))
-        ∙ sym (syndrome j h)
+    pub agreed-near : (j : ℕ) → j < 16 → shareOf (entries at) (entries c) n j ≡ getD s j 0
+    agreed-near = agreed weighed row long bytes left t (near .coded) agree-near
 
 pub searched : {rest s v : List ℕ} {n : ℕ} {at c : List ℕ} → Tried rest s v n at c → (fits : Bool) → Agreeing s at c n fits → Searched rest n at c fits
 searched tried fits agrees =
     record {
       ordered = tried .rooted .ordered;
       sound = λ e row long bytes left. sound tried row long bytes left (agrees .yes e);
-      complete = λ e row long bytes left t near. agrees .no e (agreed tried row long bytes left t near);
+      complete = λ e row long bytes left t near. agrees .no e (agreed-near tried row long bytes left t near);
     }
 
-all-zeros : (n : ℕ) (l : List ℕ) → length l ≡ n → ((j : ℕ) → j < n → getD l j 0 ≡ 0) → l ≡ zeros n
+pub all-zeros : (n : ℕ) (l : List ℕ) → length l ≡ n → ((j : ℕ) → j < n → getD l j 0 ≡ 0) → l ≡ zeros n
 all-zeros zero [] e z = refl
 all-zeros zero (x ∷ l) e z = absurd (omega arith)
 all-zeros (suc n) [] e z = absurd (omega arith)

@@ -1,76 +1,44 @@
 -- What is to be added depends on nothing of a row but what it leaves: of two rows that leave the same, one becomes a coded row within eight bytes exactly as the other does.
 -- Assumes nothing.
-use mathlib.Core.Path.{_≡_, refl, sym, ap, ap₂, subst, _∙_}
-use mathlib.Core.Logic.{_≢_, ⊎-elim}
+use mathlib.Core.Path.{_≡_, refl, sym, ap, subst, _∙_}
+use mathlib.Core.Logic.{_≢_}
 use mathlib.Core.Bool.{Bool, true, false, not}
 use mathlib.Core.List.{List}
-use Prim.Native.Nat.{ℕ, _-_, _≤_, _<_}
+use Prim.Native.Nat.{ℕ, _≤_, _<_}
 use native.Mathlib.Nat.{not-suc-le-zero}
 use native.Mathlib.Omega.{arith}
 use borrow.Author.Tests.{eqb-true}
 use lib.Dec.{eqb}
 use lib.ListN.{length, getD}
-use lib.Seq.{ext-getD}
 use Rattle.ground.specs.Bits.{sum}
 use Rattle.ground.proofs.Listed.{getD-listed-0}
-use Rattle.ground.proofs.Sums.{sum-comm, sum-left-comm, sum-self, sum-zero}
-use Rattle.field.specs.Field.{power}
 use Rattle.code.specs.Code.{Bytes, add, distance}
 use Rattle.code.specs.Search.{Repaired, remainder}
 use Rattle.code.specs.Search.Repaired.{found, none}
 use Rattle.code.specs.Repair.{repairOf, Near}
-use Rattle.code.specs.Value.{value}
-use Rattle.code.proofs.Lists.{add-bytes, length-add, add-comm, add-assoc, add-twice, add-at, sum-again}
 use Rattle.code.proofs.Distance.{nonzeros, nonzeros-add, distance-sym}
-use Rattle.code.proofs.Values.{value-add, value-remainder, coded-values, values-coded}
 use Rattle.code.proofs.Exact.{repair-near, repair-found, repair-none, none-near}
 use Rattle.errata.specs.declared.Errata.{Errata}
 use Rattle.errata.specs.Errata.{atPlace, differing, differences, padded, errataFor, leaving, errataOf}
 use Rattle.errata.specs.InnerErrata.{entries, mendedBy, Ordered}
-use Rattle.errata.proofs.Mending.{mended-length, mended-off}
-use Rattle.errata.proofs.Rising.{Rises, passing-rises, somewhere}
-use Rattle.errata.proofs.Listing.{mended-on, getD-map}
+use Rattle.errata.proofs.Rising.{Rises, passing-rises}
+use Rattle.errata.proofs.Listing.{getD-map}
+use Rattle.errata.proofs.Between.{moved-length, moved-add, moved-coded, Turning, mended-moved}
 use Rattle.errata.proofs.Counting.{differing-distance}
 use Rattle.errata.proofs.Leaving.{leaving-length, leaving-bytes, leaving-rest}
 
 -- ---- a coded row moved to another row
 
 module _ (r row t : List ℕ) (lr : length r ≡ 255) (lrow : length row ≡ 255) (br : Bytes r) (brow : Bytes row) (same : remainder 239 r ≡ remainder 239 row) (near : Near r t) where
-  between : length (add r row) ≡ 255
-  between = length-add r row (omega arith) ∙ lrow
-
-  lt : length t ≡ 255
-  lt = near .coded .sized
-
-  moved-length : length (add t (add r row)) ≡ 255
-  moved-length = length-add t (add r row) (omega (arith, between, lt)) ∙ between
-
-  moved-values : (j : ℕ) → j < 16 → value (add t (add r row)) (power j) ≡ 0
-  moved-values j h =
-      let v : ℕ = value (remainder 239 r) (power j) in
-      value-add t (add r row) (power j) (lt ∙ sym between)
-      ∙ ap₂ sum (coded-values t (near .coded) j h)
-      (value-add r row (power j) (lr ∙ sym lrow)
-      ∙ ap₂ sum (value-remainder r lr j h) (value-remainder row lrow j h ∙ ap (λ (l : List ℕ). value l (power j)) (sym same))
-      ∙ sum-self v)
-      ∙ sum-zero 0
-
-  -- they differ as the others do
-  moved-add : add row (add t (add r row)) ≡ add t r
-  moved-add =
-      ap (add row) (sym (add-assoc t r row) ∙ add-comm (add t r) row)
-      ∙ add-twice row (add t r) (omega (arith, lrow, length-add t r (omega (arith, lt, lr)), lr))
-
   moved-distance : distance row (add t (add r row)) ≡ distance r t
   moved-distance =
-      sym (nonzeros-add row (add t (add r row)) (lrow ∙ sym moved-length)) ∙ ap nonzeros moved-add ∙ nonzeros-add t r (lt ∙ sym lr) ∙ distance-sym t r
+      sym (nonzeros-add row (add t (add r row)) (lrow ∙ sym (moved-length r row t lr lrow (near .coded))))
+      ∙ ap nonzeros (moved-add r row t lr lrow (near .coded))
+      ∙ nonzeros-add t r (near .coded .sized ∙ sym lr)
+      ∙ distance-sym t r
 
   near-moved : Near row (add t (add r row))
-  near-moved =
-      record {
-        coded = values-coded (add t (add r row)) moved-length (add-bytes t (add r row) (near .coded .bytes) (add-bytes r row br brow)) moved-values;
-        close = omega (arith, moved-distance, near .close);
-      }
+  near-moved = record { coded = moved-coded r row t lr lrow (near .coded) br brow same; close = omega (arith, moved-distance, near .close) }
 
 -- ---- what turns r into s, added to another row
 
@@ -120,33 +88,8 @@ module _ (r s : List ℕ) (lr : length r ≡ 255) (ls : length s ≡ 255) (close
       by true e = eqb-true (atPlace r a) (atPlace s a) e
       by false e = let k = listing .all a b (ap not e) in absurd (off (k .0) (k .1) (at-is (k .0) (k .1) ∙ k .2))
 
-  module _ (row : List ℕ) (lrow : length row ≡ 255) where
-    ring : (x y z : ℕ) → sum x (sum y z) ≡ sum z (sum y x)
-    ring x y z = simp (sum-comm, sum-left-comm)
-
-    there : (a : ℕ) → a < 255 → atPlace (mendedBy row at amount n) a ≡ sum (atPlace s a) (sum (atPlace r a) (atPlace row a))
-    there a b =
-        ⊎-elim
-        (λ (f : (k : ℕ) × (k < n) × (at k ≡ a)).
-        let k : ℕ = f .0 in
-        subst (λ (x : ℕ). atPlace (mendedBy row at amount n) x ≡ sum (atPlace s x) (sum (atPlace r x) (atPlace row x))) (f .2)
-        (mended-on row lrow at amount n (ordered .below) (ordered .rising) k (f .1)
-        ∙ ap (sum (atPlace row (at k))) (amount-is k (f .1)) ∙ ring (atPlace row (at k)) (atPlace r (at k)) (atPlace s (at k))))
-        (λ (o : (k : ℕ) → k < n → at k ≢ a).
-        mended-off row lrow at amount n (254 - a) (λ k h z. o k h (omega (arith, ordered .below k h)))
-        ∙ sym (ap (λ (x : ℕ). sum x (sum (atPlace r a) (atPlace row a))) (sym (agree a b o)) ∙ sum-again (atPlace r a) (atPlace row a)))
-        (somewhere at a n)
-
-    mended-moved : mendedBy row at amount n ≡ add s (add r row)
-    mended-moved =
-        let long : length (mendedBy row at amount n) ≡ 255 = mended-length row lrow at amount n in
-        let mid : length (add r row) ≡ 255 = length-add r row (omega arith) ∙ lrow in
-        ext-getD 0 (mendedBy row at amount n) (add s (add r row)) (long ∙ sym (length-add s (add r row) (omega arith) ∙ mid))
-        (λ i h.
-        let e : 254 - (254 - i) ≡ i = omega arith in
-        subst (λ (x : ℕ). getD (mendedBy row at amount n) x 0 ≡ getD (add s (add r row)) x 0) e
-        (there (254 - i) (omega arith)
-        ∙ sym (add-at s (add r row) (ls ∙ sym mid) (254 - (254 - i)) ∙ ap (sum (atPlace s (254 - i))) (add-at r row (lr ∙ sym lrow) (254 - (254 - i))))))
+  turning : Turning r s at amount n
+  turning = record { below = ordered .below; apart = λ j k b h e. omega (arith, ordered .rising j k b h); amount = amount-is; agree = agree }
 
 -- ---- any row that leaves `rest`
 
@@ -184,7 +127,7 @@ module _ (rest : List ℕ) (long : length rest ≡ 16) (bytes : Bytes rest) wher
             let lr : length r ≡ 255 = leaving-length rest long in
             let br : Bytes r = leaving-bytes rest long bytes in
             let near : Near r s = repair-near r s f in
-            let moved = mended-moved r s lr (near .coded .sized) (near .close) row lrow in
+            let moved = mended-moved (turning r s lr (near .coded .sized) (near .close)) row lr (near .coded .sized) lrow in
             record {
               answered = repair-found row (add s (add r row)) lrow brow (near-moved r row s lr lrow br brow same near) ∙ ap found (sym moved);
               counted = differing-distance r s lr (near .coded .sized) ∙ sym (moved-distance r row s lr lrow br brow same near) ∙ ap (distance row) (sym moved);
