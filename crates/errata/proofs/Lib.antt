@@ -12,3 +12,6 @@ pub mod Leaving
 pub mod Counting
 pub mod Between
 pub mod Moved
+pub mod Places
+pub mod Fronts
+pub mod Fitting

@@ -1,4 +1,6 @@
 pub mod Errata
+pub mod Restoring
 pub mod InnerSums
 pub mod InnerNull
 pub mod InnerErrata
+pub mod InnerRestoring

@@ -7,8 +7,11 @@ ghost use Rattle.errata.specs.InnerErrata.{nothingTo, Ordered, Put, Kept
 
 mod factors;
 mod kernel;
+mod losses;
 mod sums;
 mod values;
+
+pub use losses::fill;
 
 // Whether there is a coded row within eight bytes; then the n places at which to add something, in increasing order, and what, which is never 0. Zeros behind
 // them, and in all of it where there is no such row.

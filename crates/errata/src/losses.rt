@@ -1,0 +1,79 @@
+// What is to be added at given places of a row, whose bytes are lost, so that it becomes a coded row (document 01, section 3, and request R-8), by what the row leaves
+// when the generator divides it.
+ghost use mathlib.Core.Path.{_≡_};
+ghost use Prim.Native.Nat.{_≤_};
+ghost use Rattle.errata.specs.Restoring.{fallingTo, fillingOf};
+ghost use Rattle.errata.specs.InnerRestoring.{Front, Filled};
+use crate::Errata;
+use crate::sums;
+use crate::values;
+
+// What is to be added at the first n of the places `at` to any row that leaves `rest`, with whatever bytes stand there; it may be 0. Where no coded row has the other
+// bytes, or the places are more than sixteen or not in decreasing order from 254 on, nothing fits.
+pub fn fill(rest: [u8; 16], at: [u8; 16], n: usize) -> Errata
+    ensures { λ r. ⌜ r ≡ fillingOf rest at n ⌝ }
+{
+    if !falling(at, n) {
+        return crate::nothing(false);
+    }
+    if sums::is_nought(rest) {
+        return filled(at, rest, n);
+    }
+    let powers = field::powers();
+    let logs = field::logs();
+    let p = &powers;
+    let l = &logs;
+    let s = sums::syndromes(rest, p, l);
+    let values = values::solve(s, at, n, p, l);
+    if !sums::is_nought(terms::add_terms(s, at, values, n, p, l)) {
+        return crate::nothing(false);
+    }
+    filled(at, values, n)
+}
+
+// Whether the first n are at most sixteen places in decreasing order.
+fn falling(at: [u8; 16], n: usize) -> bool
+    ensures { λ r. ⌜ r ≡ fallingTo at n ⌝ }
+{
+    if 16 < n {
+        return false;
+    }
+    let mut last: u8 = 255;
+    let mut k: usize = 0;
+    while k < n {
+        let a = at[k];
+        if last <= a {
+            return false;
+        }
+        last = a;
+        k += 1;
+    }
+    true
+}
+
+// The values at the first n places.
+fn filled(at: [u8; 16], values: [u8; 16], n: usize) -> Errata
+    requires { ⌜ n ≤ 16 ⌝ }
+    ensures { λ r. ⌜ Filled at values n r ⌝ }
+{
+    Errata {
+        fits: true,
+        n,
+        at: front(at, n),
+        values: front(values, n),
+    }
+}
+
+// The first n entries, and zeros behind them.
+fn front(l: [u8; 16], n: usize) -> [u8; 16]
+    requires { ⌜ n ≤ 16 ⌝ }
+    ensures { λ r. ⌜ Front n l r ⌝ }
+{
+    let mut out = l;
+    let mut k = n;
+    while k < 16 {
+        out[k] = 0;
+        k += 1;
+    }
+    out
+}
