@@ -15,3 +15,4 @@ pub mod Moved
 pub mod Places
 pub mod Fronts
 pub mod Fitting
+pub mod Filled
