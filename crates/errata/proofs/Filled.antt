@@ -1,7 +1,8 @@
 -- What is to be added at given places depends on nothing of a row but what it leaves: every row that leaves `rest` is restored by it, and where nothing fits none is.
+-- With sixteen places something always fits.
 -- Assumes nothing.
 use mathlib.Core.Path.{_≡_, refl, sym, ap, subst, _∙_}
-use mathlib.Core.Logic.{_≢_}
+use mathlib.Core.Logic.{⊎-elim}
 use mathlib.Core.Bool.{Bool, true, false}
 use mathlib.Core.List.{List, map}
 use Prim.Native.Nat.{ℕ, _-_, _≤_, _<_}
@@ -11,8 +12,9 @@ use lib.ListN.{length, getD, take}
 use lib.Seq.{length-take-le, getD-take}
 use Rattle.ground.specs.Bits.{sum}
 use Rattle.ground.specs.Lists.{listed}
-use Rattle.ground.proofs.Listed.{getD-listed-0}
+use Rattle.ground.proofs.Listed.{length-listed, getD-listed-0}
 use Rattle.ground.proofs.Truth.{differ}
+use Rattle.ground.proofs.Numbers.{lt-or-ge}
 use Rattle.field.specs.Field.{power}
 use Rattle.code.specs.Code.{Bytes, add}
 use Rattle.code.specs.Search.{Repaired, remainder}
@@ -26,11 +28,13 @@ use Rattle.errata.specs.declared.Errata.{Errata}
 use Rattle.errata.specs.Errata.{atPlace, padded, leaving}
 use Rattle.errata.specs.Restoring.{fallingTo, among, fillingFor, fillingOf}
 use Rattle.errata.specs.InnerErrata.{entries, mendedBy, Placed}
-use Rattle.errata.proofs.Listing.{getD-map}
+use Rattle.errata.proofs.Listing.{getD-map, beyond}
 use Rattle.errata.proofs.Leaving.{leaving-length, leaving-bytes, leaving-rest}
 use Rattle.errata.proofs.Between.{moved-at, moved-coded, Turning, mended-moved}
 use Rattle.errata.proofs.Places.{falling-few, falling-below, falling-placed, not-among}
-use Rattle.errata.proofs.Fitting.{filling-is}
+use Rattle.errata.proofs.Fitting.{filling-is, weighed-fits}
+use Rattle.errata.proofs.Mending.{Weighed}
+use Rattle.errata.proofs.Solvable.{solved, solved-byte, solved-solves}
 pub use Rattle.errata.proofs.Places.{among-few}
 
 -- ---- a row that fits, moved to another row
@@ -141,3 +145,36 @@ module _ (rest at : List ℕ) (n : ℕ) (long : length rest ≡ 16) (bytes : Byt
             restore-none (among at n) row
             (λ u fit. none-fits (among at n) (leaving rest) f (add u (add row (leaving rest)))
             (fits-moved (among at n) row (leaving rest) u lrow (leaving-length rest long) brow (leaving-bytes rest long bytes) (sym same) fit))
+
+-- ---- sixteen places
+
+module _ (rest at : List ℕ) (long : length rest ≡ 16) (bytes : Bytes rest) (room : length at ≡ 16) (falling : fallingTo at 16 ≡ true) where
+  abbrev sums : List ℕ
+  sums = listed (λ j. value rest (power j)) 16 0
+
+  sum-is : (j : ℕ) → j < 16 → getD sums j 0 ≡ value rest (power j)
+  sum-is j h = getD-listed-0 (λ j. value rest (power j)) 16 j 0 h
+
+  sums-byte : (j : ℕ) → getD sums j 0 < 256
+  sums-byte j =
+      ⊎-elim (λ (h : j < 16). rw (sum-is j h) (value-byte rest (power j)))
+      (λ (g : 16 ≤ j). rw (beyond sums j (omega (arith, length-listed (λ j. value rest (power j)) 16 0))) (omega arith)) (lt-or-ge j 16)
+
+  weighed : Weighed rest sums 16 at (solved at 16 (falling-placed at 16 falling) sums sums-byte)
+  weighed =
+      let placed = falling-placed at 16 falling in
+      record {
+        syndromes = record { entry = sum-is };
+        placed = placed;
+        value-bytes = solved-byte at 16 placed sums sums-byte;
+        solved = solved-solves at 16 placed sums sums-byte;
+      }
+
+  -- they are as many as there are syndromes: something always fits
+  pub sixteen-fit : (e : Errata) → e ≡ fillingOf rest at 16 → e .fits ≡ true
+  unfolding fillingFor
+  sixteen-fit = by-cases rest at 16 long bytes room falling (λ (e : Errata). e .fits ≡ true) each
+    where
+      each : (a : Repaired) → restoreOf (among at 16) (leaving rest) ≡ a → fillingFor (leaving rest) at 16 a .fits ≡ true
+      each (found s) f = refl
+      each none f = absurd (none-fits (among at 16) (leaving rest) f _ (weighed-fits rest at 16 falling long bytes room weighed (weighed .solved .solves)))

@@ -98,7 +98,7 @@ module _ (rest at : List ℕ) (n : ℕ) where
           })
 
       module _ {s c : List ℕ} (weighed : Weighed rest s n at c) where
-        weighed-fits : ((j : ℕ) → j < 16 → shareOf (entries at) (entries c) n j ≡ getD s j 0) → Fits (among at n) (leaving rest) (mendedBy (leaving rest) (entries at) (entries c) n)
+        pub weighed-fits : ((j : ℕ) → j < 16 → shareOf (entries at) (entries c) n j ≡ getD s j 0) → Fits (among at n) (leaving rest) (mendedBy (leaving rest) (entries at) (entries c) n)
         weighed-fits agree =
             record {
               coded = mended-coded weighed (leaving rest) (leaving-length rest long) (leaving-bytes rest long bytes) (leaving-rest rest long) agree;

@@ -14,5 +14,6 @@ pub mod Between
 pub mod Moved
 pub mod Places
 pub mod Fronts
+pub mod Solvable
 pub mod Fitting
 pub mod Filled

@@ -40,7 +40,7 @@ tail-first a c n k j h =
     step : (i : ℕ) → k + suc i ≡ suc k + i
     step i = omega arith
 
-tail-share : (a c : ℕ → ℕ) (n j : ℕ) → tailOf a c n 0 j ≡ shareOf a c n j
+pub tail-share : (a c : ℕ → ℕ) (n j : ℕ) → tailOf a c n 0 j ≡ shareOf a c n j
 unfolding tailOf shareOf
 tail-share a c n j =
     let m : n - 0 ≡ n = omega arith in
