@@ -25,10 +25,10 @@ pub fn fill(rest: [u8; 16], at: [u8; 16], n: usize) -> Errata
     let l = &logs;
     let s = sums::syndromes(rest, p, l);
     let values = values::solve(s, at, n, p, l);
-    if !sums::is_nought(terms::add_terms(s, at, values, n, p, l)) {
-        return crate::nothing(false);
+    if sums::is_nought(terms::add_terms(s, at, values, n, p, l)) {
+        return filled(at, values, n);
     }
-    filled(at, values, n)
+    crate::nothing(false)
 }
 
 // Whether the first n are at most sixteen places in decreasing order.

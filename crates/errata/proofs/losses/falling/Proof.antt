@@ -13,7 +13,7 @@ abbrev μ-loop : tie.MeasureT-loop
 μ-loop n at last₀ k₀ last k = n - k
 
 returns : tie.Need-returns Inv-loop μ-loop
-returns c = too-many _ _ (c .if1 .taken)
+returns c = too-many _ _ (omega arith)
 
 loop-holds : tie.Need-loop-holds Inv-loop μ-loop
 loop-holds c = descending-start _ _ (omega arith)

@@ -4,7 +4,6 @@
 use native.Mathlib.Omega.{arith}
 use mathlib.Core.Path.{_≡_, sym, subst, _∙_}
 use mathlib.Core.Bool.{Bool, true, false}
-use mathlib.Core.List.{List}
 use Prim.Native.Nat.{ℕ, _<_}
 use lib.ListN.{length, getD}
 use borrow.Author.Tests.{not-true, not-false}
@@ -105,28 +104,28 @@ module _ (c : tie.After-is-nought2) where
       shared-agrees (terms-shared (logs .before .powers .ensures) (logs .logs .ensures) _ _ _ _ (weighed .placed) value-bytes (c .before .add-terms .ensures)) fits
       (subst (Nought (c .before .add-terms .result)) e (c .is-nought2 .ensures))
 
-nothing-requires-2 : tie.Need-nothing-requires-2
-nothing-requires-2 c κs = tt
+filled-requires-2 : tie.Need-filled-requires-2
+filled-requires-2 c κs = falling-few _ _ (falls (some (c .before)))
 
 returns-3 : tie.Need-returns-3
 returns-3 c =
     let done = c .before .before in
     let start = start done in
-    c .nothing2 .ensures
-    ∙ agreeing-none (start .args .rest) (start .args .at) (start .args .n) (falls (some done)) (rest-long start) (rest-bytes start) (at-long start) (weighed done)
-    (agreeing done false (not-true _ (c .before .if3 .taken)))
+    filled-told (start .args .rest) (start .args .at) (start .args .n) (falls (some done)) (rest-long start) (rest-bytes start) (at-long start) (done .before .before .solve .result)
+    (agreeing-fits (start .args .rest) (start .args .at) (start .args .n) (falls (some done)) (rest-long start) (rest-bytes start) (at-long start) (weighed done)
+    (agreeing done true (c .before .if3 .taken)))
+    (c .filled2 .result) (c .filled2 .ensures)
 
-filled-requires-2 : tie.Need-filled-requires-2
-filled-requires-2 c κs = falling-few _ _ (falls (c .before .before .before .before .before .before .before .before .before .before .before))
+nothing-requires-2 : tie.Need-nothing-requires-2
+nothing-requires-2 c κs = tt
 
 returns-4 : tie.Need-returns-4
 returns-4 c =
     let done = c .before .before in
     let start = start done in
-    filled-told (start .args .rest) (start .args .at) (start .args .n) (falls (some done)) (rest-long start) (rest-bytes start) (at-long start) (done .before .before .solve .result)
-    (agreeing-fits (start .args .rest) (start .args .at) (start .args .n) (falls (some done)) (rest-long start) (rest-bytes start) (at-long start) (weighed done)
-    (agreeing done true (not-false _ (c .before .if3 .left))))
-    (c .filled2 .result) (c .filled2 .ensures)
+    c .nothing2 .ensures
+    ∙ agreeing-none (start .args .rest) (start .args .at) (start .args .n) (falls (some done)) (rest-long start) (rest-bytes start) (at-long start) (weighed done)
+    (agreeing done false (c .before .if3 .left))
 
 pub fill-spec : {M : Type 1} → statement M
 fill-spec =
@@ -144,7 +143,7 @@ fill-spec =
     solve-requires
     add-terms-requires
     is-nought-requires-2
-    nothing-requires-2
-    returns-3
     filled-requires-2
+    returns-3
+    nothing-requires-2
     returns-4)
