@@ -112,8 +112,5 @@ module _ (rest at : List ℕ) (n : ℕ) where
             agreed weighed (leaving rest) (leaving-length rest long) (leaving-bytes rest long bytes) (leaving-rest rest long) t (fit .coded)
             (λ i h off. sym (fit .known i h (not-among at n i (λ k b z. off k b (omega arith)))))
 
-        pub agreeing-fits : Agreeing s at c n true → Fits (among at n) (leaving rest) (mendedBy (leaving rest) (entries at) (entries c) n)
-        agreeing-fits agrees = weighed-fits (agrees .yes refl)
-
         pub agreeing-none : Agreeing s at c n false → nothingTo false ≡ fillingOf rest at n
         agreeing-none agrees = unfilled-told (λ t fit. agrees .no refl (fits-weighed t fit))

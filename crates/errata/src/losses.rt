@@ -9,7 +9,7 @@ use crate::sums;
 use crate::values;
 
 // What is to be added at the first n of the places `at` to any row that leaves `rest`, with whatever bytes stand there; it may be 0. Where no coded row has the other
-// bytes, or the places are more than sixteen or not in decreasing order from 254 on, nothing fits.
+// bytes, or the places are more than sixteen or not in decreasing order from 254 on, nothing fits. At sixteen places something always does.
 pub fn fill(rest: [u8; 16], at: [u8; 16], n: usize) -> Errata
     ensures { λ r. ⌜ r ≡ fillingOf rest at n ⌝ }
 {
@@ -25,6 +25,9 @@ pub fn fill(rest: [u8; 16], at: [u8; 16], n: usize) -> Errata
     let l = &logs;
     let s = sums::syndromes(rest, p, l);
     let values = values::solve(s, at, n, p, l);
+    if n == 16 {
+        return filled(at, values, n);
+    }
     if sums::is_nought(terms::add_terms(s, at, values, n, p, l)) {
         return filled(at, values, n);
     }
