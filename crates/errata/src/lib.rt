@@ -1,5 +1,5 @@
 // What is to be added to a row so that it becomes the coded row within eight bytes, by what the row leaves when the generator divides it (document 01, section 3,
-// and demand 2). A place is told by its exponent a: byte 254 - a of a row has the locator α^a.
+// and demand 2), or one that has all bytes but those at given places. A place is told by its exponent a: byte 254 - a of a row has the locator α^a.
 ghost use mathlib.Core.Path.{_≡_};
 ghost use Prim.Native.Nat.{_<_};
 ghost use Rattle.errata.specs.Errata.{errataOf};
@@ -13,8 +13,8 @@ mod values;
 
 pub use losses::fill;
 
-// Whether there is a coded row within eight bytes; then the n places at which to add something, in increasing order, and what, which is never 0. Zeros behind
-// them, and in all of it where there is no such row.
+// Whether there is a coded row within reach; then the n places at which to add something, and what. Zeros behind them, and in all of it where there is no such row.
+// `find` tells the places in increasing order, with values that are never 0; `fill` those that it was given, with values that may be.
 pub struct Errata {
     pub fits: bool,
     pub n: usize,
