@@ -1,5 +1,5 @@
--- What `put_columns` serves: the tests of `serves`, one after the other, what is known where all of them passed, and the call's three ends.
--- Assumes nothing.
+-- What `put_columns` serves: the tests of `serves`, one after the other, what is known where all of them passed, what a call that is served comes to, and the
+-- call's three ends. Assumes nothing.
 use mathlib.Core.Path.{_≡_, refl, sym, ap, _∙_}
 use mathlib.Core.Bool.{Bool, true, false, not, _&&_}
 use mathlib.Core.Logic.{⊎-elim}
@@ -83,19 +83,38 @@ part-served len m from n room e l =
       enough = omega arith;
     }
 
+-- ---- the call is served: the answer, and what is written
+
+pub lay-accepted : (len m from n room : ℕ) → Part len m from n room 0 → layVerdict len m from n room ≡ Accepted
+unfolding layVerdict
+lay-accepted len m from n room fits =
+    let p : 0 < m = fits .rows in
+    let r : 0 + n ≤ room = fits .enough in
+    let e : layServes len m from n ≡ true =
+    sym (by-end len m from n (λ (z : m ≡ 0). omega arith) (fits .rows-most) (fits .len-most) (fits .few))
+    ∙ le-leb (from + n) (255 * m * tablesOf m len) (fits .there) in
+    rw (e, le-ltb room n (omega arith)) refl
+
+pub lay-done : (file : List ℕ) (m from n : ℕ) (out : List ℕ) → Part (length file) m from n (length out) 0 → sets out 0 (partOf m file from n) ≡ layInto file m from n out
+unfolding layInto
+lay-done file m from n out fits =
+    let r : 0 + n ≤ length out = fits .enough in
+    sets-front out (partOf m file from n) (omega (arith, length-part m file from n (fits .there)))
+    ∙ ap (λ (v : Verdict). putAs v (partOf m file from n) out) (sym (lay-accepted (length file) m from n (length out) fits))
+
 -- ---- the call's three ends, where the tests said r
 
 module _ (file : List ℕ) (m from n : ℕ) (out : List ℕ) (r : Bool) (e : r ≡ layServes (length file) m from n) where
   abbrev said : Verdict
   said = layVerdict (length file) m from n (length out)
 
-  left-as : (v : Verdict) (next : List ℕ) → said ≡ v → putAs v (partOf m file from n) out ≡ next → (v ≡ said) × (next ≡ layInto file m from n out)
+  kept : (v : Verdict) → said ≡ v → putAs v (partOf m file from n) out ≡ out → (v ≡ said) × (out ≡ layInto file m from n out)
   unfolding layInto
-  left-as v next s k = (sym s, sym (ap (λ (x : Verdict). putAs x (partOf m file from n) out) s ∙ k))
+  kept v s k = (sym s, sym (ap (λ (x : Verdict). putAs x (partOf m file from n) out) s ∙ k))
 
   pub lay-refused : not r ≡ true → (Refused Field ≡ said) × (out ≡ layInto file m from n out)
   unfolding layVerdict
-  lay-refused h = left-as (Refused Field) out (rw (sym e ∙ not-true r h) refl) refl
+  lay-refused h = kept (Refused Field) (rw (sym e ∙ not-true r h) refl) refl
 
   module _ (h : not r ≡ false) where
     served : layServes (length file) m from n ≡ true
@@ -103,19 +122,14 @@ module _ (file : List ℕ) (m from n : ℕ) (out : List ℕ) (r : Bool) (e : r �
 
     pub lay-short : length out < n → (Refused Output ≡ said) × (out ≡ layInto file m from n out)
     unfolding layVerdict
-    lay-short l = left-as (Refused Output) out (rw (served, lt-ltb (length out) n l) refl) refl
+    lay-short l = kept (Refused Output) (rw (served, lt-ltb (length out) n l) refl) refl
 
     module _ (l : n ≤ length out) where
       pub lay-part : Part (length file) m from n (length out) 0
       lay-part = part-served (length file) m from n (length out) served l
 
-      accepted : said ≡ Accepted
-      unfolding layVerdict
-      accepted = rw (served, le-ltb (length out) n l) refl
-
       pub lay-written : (next : List ℕ) → next ≡ sets out 0 (listed (sentByte m file) n from) → (Accepted ≡ said) × (next ≡ layInto file m from n out)
-      lay-written next g =
-          left-as Accepted next accepted
-          (sym
-          (g ∙ ap (sets out 0) (sym (part-listed m file from n (lay-part .there)))
-          ∙ sets-front out (partOf m file from n) (omega (arith, length-part m file from n (lay-part .there)))))
+      lay-written next g = (
+        sym (lay-accepted (length file) m from n (length out) lay-part),
+        g ∙ ap (sets out 0) (sym (part-listed m file from n (lay-part .there))) ∙ lay-done file m from n out lay-part,
+      )
