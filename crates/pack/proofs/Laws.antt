@@ -1,12 +1,12 @@
 -- The laws of packing for the layers above (document 01, section 4): the counts, the payloads and what they join to, the parts of a packet, that reading it gives
 -- the fields it was packed with, in their edition, and that its CRC agrees. Assumes nothing.
 use mathlib.Core.Path.{_≡_, refl, sym, ap, ap₂, subst, _∙_}
-use mathlib.Core.Bool.{Bool, true, false, cond}
+use mathlib.Core.Bool.{Bool, true, false, cond, not, true≢false}
 use mathlib.Core.List.{List, _++_, append-assoc, flatten}
 use Prim.Native.Nat.{ℕ, _+_, _-_, _*_, _/_, _%_, _^_, _<_, _≤_, min}
 use native.Mathlib.Nat.{add-mul, one-mul, mul-assoc, mul-comm, mul-left-comm, mul-pos, zero-lt-suc, div-div-eq-div-mul, div-add-mod', mod-lt, mod-eq-of-lt, div-lt-iff-lt-mul}
 use native.Mathlib.Omega.{arith}
-use borrow.Author.Tests.{eq-eqb, ne-eqb, eqb-false}
+use borrow.Author.Tests.{eq-eqb, ne-eqb, eqb-false, not-true}
 use lib.Dec.{eqb}
 use lib.ListN.{length, getD, take, drop, length-append, length-take, length-drop, take-append-drop}
 use lib.Seq.{take-at, drop-at, drop-drop, getD-append-add}
@@ -19,15 +19,16 @@ use Rattle.crc.proofs.Bounds.{crc32-lt}
 use Rattle.packet.specs.declared.Packet.{Packet}
 use Rattle.settings.specs.declared.Settings.{Settings}
 use Rattle.packet.specs.declared.Reading.the-variants.{Sent}
-use Rattle.packet.specs.Packet.{fieldsIn, marked, headerOf, readOf}
+use Rattle.packet.specs.Packet.{fieldsIn, marked, headerOf, readBy, readHeaderOf}
 use Rattle.packet.specs.Edition.{spareOf, editionOf}
 use Rattle.packet.specs.Range.{InRange}
 use Rattle.settings.specs.Settings.{settingsFit, rowsSent}
 use Rattle.packet.proofs.Laws.{header-length, header-bytes, marked-header, fields-header, SentFacts, read-accepts}
 use Rattle.packet.proofs.Spares.{spare-range, edition-shown}
-use Rattle.settings.proofs.Laws.{SettingsFacts, settings-facts}
+use Rattle.settings.proofs.Laws.{SettingsFacts, settings-facts, row-wise}
 use Rattle.layout.specs.Layout.{tablesOf, rowOf, codedFile, undone}
 use Rattle.layout.proofs.Coded.{length-coded, coded-bytes, coded-row, row-coded, undone-file}
+use Rattle.laying.proofs.Starts.{tables-few}
 use Rattle.pack.specs.Pack.{codedLength, countOf, sentOf, payloadOf, fieldsFor, headerFor, packetOf}
 use Rattle.sealing.specs.Sealing.{fourBytes, sealed}
 
@@ -37,6 +38,10 @@ use Rattle.sealing.specs.Sealing.{fourBytes, sealed}
 pub protection-one : (g : Settings) → settingsFit g ≡ true → (g .protection ≡ 0 → ⊥) → g .protection ≡ 1
 protection-one g fit h = let l : g .protection < 2 = settings-facts g fit .protection in omega arith
 
+-- and the order is 0 or 1
+pub row-order : (g : Settings) → settingsFit g ≡ true → (g .order ≡ 1 → ⊥) → g .order ≡ 0
+row-order g fit h = let l : g .order < 2 = settings-facts g fit .order-most in omega arith
+
 pub rows-positive : (g : Settings) → settingsFit g ≡ true → (g .protection ≡ 0 → ⊥) → 0 < g .rows
 rows-positive g fit h = settings-facts g fit .rows (protection-one g fit h)
 
@@ -45,15 +50,15 @@ rows-positive g fit h = settings-facts g fit .rows (protection-one g fit h)
 -- without protection the file itself
 pub sent-plain : (g : Settings) (file : List ℕ) → g .protection ≡ 0 → sentOf g file ≡ file
 unfolding sentOf
-sent-plain g file h = ap (λ (b : Bool). cond b file (codedFile (g .rows) file)) (eq-eqb (g .protection) 0 h)
+sent-plain g file h = ap (λ (b : Bool). cond b file (codedFile (g .order) (g .rows) file)) (eq-eqb (g .protection) 0 h)
 
 pub length-plain : (g : Settings) (n : ℕ) → g .protection ≡ 0 → codedLength g n ≡ n
 length-plain g n h = ap (λ (b : Bool). cond b n (255 * g .rows * tablesOf (g .rows) n)) (eq-eqb (g .protection) 0 h)
 
 -- with protection its coded tables
-pub sent-coded : (g : Settings) (file : List ℕ) → (g .protection ≡ 0 → ⊥) → sentOf g file ≡ codedFile (g .rows) file
+pub sent-coded : (g : Settings) (file : List ℕ) → (g .protection ≡ 0 → ⊥) → sentOf g file ≡ codedFile (g .order) (g .rows) file
 unfolding sentOf
-sent-coded g file h = ap (λ (b : Bool). cond b file (codedFile (g .rows) file)) (ne-eqb (g .protection) 0 h)
+sent-coded g file h = ap (λ (b : Bool). cond b file (codedFile (g .order) (g .rows) file)) (ne-eqb (g .protection) 0 h)
 
 pub length-tables : (g : Settings) (n : ℕ) → (g .protection ≡ 0 → ⊥) → codedLength g n ≡ 255 * g .rows * tablesOf (g .rows) n
 length-tables g n h = ap (λ (b : Bool). cond b n (255 * g .rows * tablesOf (g .rows) n)) (ne-eqb (g .protection) 0 h)
@@ -62,9 +67,9 @@ pub length-sent : (g : Settings) (file : List ℕ) → length (sentOf g file) �
 unfolding sentOf
 length-sent g file = go (eqb (g .protection) 0)
   where
-    go : (b : Bool) → length (cond b file (codedFile (g .rows) file)) ≡ cond b (length file) (255 * g .rows * tablesOf (g .rows) (length file))
+    go : (b : Bool) → length (cond b file (codedFile (g .order) (g .rows) file)) ≡ cond b (length file) (255 * g .rows * tablesOf (g .rows) (length file))
     go true = refl
-    go false = length-coded (g .rows) file
+    go false = length-coded (g .order) (g .rows) file
 
 -- ---- T and N, rounded up
 
@@ -72,12 +77,6 @@ pub tables-bounds : (m n : ℕ) → 0 < m → 0 < n → ((tablesOf m n - 1) * (2
 tables-bounds m n h p =
     let w : 0 < 239 * m = mul-pos (zero-lt-suc 238) h in
     (ceil-lower n (239 * m) w p, ceil-upper n (239 * m) w)
-
--- the coded tables have fewer than twice the bytes of the file and one more table
-pub tables-few : (m n : ℕ) → 0 < m → 255 * m * tablesOf m n ≤ 2 * (n + 239 * m)
-tables-few m n h =
-    let u : tablesOf m n * (239 * m) < n + 239 * m = ceil-short n (239 * m) (mul-pos (zero-lt-suc 238) h) in
-    omega (arith, mul-assoc 255 m (tablesOf m n), mul-left-comm (tablesOf m n) 239 m, mul-comm (tablesOf m n) m)
 
 pub coded-few : (g : Settings) (n : ℕ) → settingsFit g ≡ true → codedLength g n ≤ 2 * (n + 60945)
 coded-few g n fit = go (eqb (g .protection) 0) refl
@@ -112,9 +111,9 @@ pub payload-bytes : (g : Settings) (file : List ℕ) (n : ℕ) → Bytes file �
 unfolding payloadOf sentOf
 payload-bytes g file n b = part-bytes (g .size) (n * g .size) (sentOf g file) (go (eqb (g .protection) 0))
   where
-    go : (t : Bool) → Bytes (cond t file (codedFile (g .rows) file))
+    go : (t : Bool) → Bytes (cond t file (codedFile (g .order) (g .rows) file))
     go true = b
-    go false = coded-bytes (g .rows) file b
+    go false = coded-bytes (g .order) (g .rows) file b
 
 module _ (g : Settings) (file : List ℕ) (fit : settingsFit g ≡ true) where
   facts : SettingsFacts g
@@ -162,18 +161,25 @@ module _ (g : Settings) (file : List ℕ) (fit : settingsFit g ≡ true) where
     not-plain : g .protection ≡ 0 → ⊥
     not-plain z = omega arith
 
+    pub coded-length : codedLength g (length file) ≡ 255 * (g .rows * tablesOf (g .rows) (length file))
+    coded-length = length-tables g (length file) not-plain ∙ mul-assoc 255 (g .rows) (tablesOf (g .rows) (length file))
+
+    pub joined-file : undone (g .order) (g .rows) (flatten (listed (payloadOf g file) (countOf g (length file)) 0)) (length file) 0 ≡ file
+    joined-file =
+        ap (λ (x : List ℕ). undone (g .order) (g .rows) x (length file) 0) (joined-payloads ∙ sent-coded g file not-plain)
+        ∙ undone-file (g .order) (g .rows) (facts .rows p) file
+
+  -- in row order they are whole coded rows
+  module _ (p : g .protection ≡ 1) (o : g .order ≡ 0) where
     -- P and the bytes before payload n, as rows
     pub size-rows : g .size ≡ 255 * (g .size / 255)
-    size-rows = omega (arith, facts .size .multiple (omega arith))
+    size-rows = omega (arith, facts .size .multiple (row-wise (g .protection) (g .order) p o))
 
     pub begin-rows : (n : ℕ) → n * g .size ≡ 255 * (n * (g .size / 255))
     begin-rows n = ap (λ (x : ℕ). n * x) size-rows ∙ mul-left-comm n 255 (g .size / 255)
 
-    pub coded-length : codedLength g (length file) ≡ 255 * (g .rows * tablesOf (g .rows) (length file))
-    coded-length = length-tables g (length file) not-plain ∙ mul-assoc 255 (g .rows) (tablesOf (g .rows) (length file))
-
     pub payload-rows : (n : ℕ) → length (payloadOf g file n) % 255 ≡ 0
-    payload-rows n = omega (arith, length-payload g file n, size-rows, begin-rows n, coded-length)
+    payload-rows n = omega (arith, length-payload g file n, size-rows, begin-rows n, coded-length p)
 
     -- row i of payload n
     pub payload-row : (n i : ℕ) → i * 255 < length (payloadOf g file n)
@@ -184,17 +190,13 @@ module _ (g : Settings) (file : List ℕ) (fit : settingsFit g ≡ true) where
         let e : n * g .size + i * 255 ≡ q * 255 = omega (arith, begin-rows n) in
         part-of-front 255 (i * 255) (g .size) (drop (n * g .size) (sentOf g file)) (omega (arith, length-payload g file n, size-rows))
         ∙ ap (take 255) (drop-drop (i * 255) (n * g .size) (sentOf g file))
-        ∙ ap₂ (λ (x : ℕ) (y : List ℕ). take 255 (drop x y)) e (sent-coded g file not-plain)
-        ∙ coded-row (g .rows) (facts .rows p) file q (omega (arith, length-payload g file n, size-rows, begin-rows n, coded-length))
+        ∙ ap₂ (λ (x : ℕ) (y : List ℕ). take 255 (drop x y)) e (sent-coded g file (not-plain p) ∙ ap (λ (x : ℕ). codedFile x (g .rows) file) o)
+        ∙ coded-row (g .rows) (facts .rows p) file q (omega (arith, length-payload g file n, size-rows, begin-rows n, coded-length p))
 
     pub payload-coded : Bytes file → (n i : ℕ) → i * 255 < length (payloadOf g file n) → Coded (take 255 (drop (i * 255) (payloadOf g file n)))
     payload-coded b n i l =
         subst Coded (sym (payload-row n i l))
         (row-coded (g .rows) file ((n * (g .size / 255) + i) / g .rows) ((n * (g .size / 255) + i) % g .rows) b)
-
-    pub joined-file : undone (g .rows) (flatten (listed (payloadOf g file) (countOf g (length file)) 0)) (length file) 0 ≡ file
-    joined-file =
-        ap (λ (x : List ℕ). undone (g .rows) x (length file) 0) (joined-payloads ∙ sent-coded g file not-plain) ∙ undone-file (g .rows) (facts .rows p) file
 
 -- ---- a header, a body and four bytes of CRC, joined
 module _ (h b : List ℕ) (e : length h ≡ 14) where
@@ -319,8 +321,8 @@ module _ (g : Settings) (file : List ℕ) (n : ℕ) where
       reserved = spare-range (g .edition) .0;
     }
 
-    pub packet-sent : SentFacts (packetOf g file n) fieldsOf
-    packet-sent =
+    pub packet-sent : (rows : Bool) → (rows ≡ true → g .protection ≡ 1 → g .order ≡ 0) → SentFacts rows (packetOf g file n) fieldsOf
+    packet-sent rows whole =
         let least : 0 < length (payloadOf g file n) = payload-some g file fit n below in
         let most : length (payloadOf g file n) ≤ g .size = payload-most g file fit n in
         let limit : g .size ≤ 4077 = settings-facts g fit .size .most in
@@ -337,14 +339,19 @@ module _ (g : Settings) (file : List ℕ) (n : ℕ) where
           number = omega arith;
           below = λ k. below;
           stream = λ k. absurd (omega (arith, settings-facts g fit .kind));
-          multiple = λ o. omega
-              (arith, payload-rows g file fit o n);
+          multiple = λ t o. omega (arith, payload-rows g file fit o (whole t o) n);
           resource = settings-facts g fit .resource;
         }
 
-    -- reading it gives the fields it was packed with
-    pub packet-reads : readOf (packetOf g file n) ≡ Sent fieldsOf
-    packet-reads = read-accepts (packetOf g file n) fieldsOf packet-sent
+    -- reading it gives the fields it was packed with: in any order where rows are not judged, and as a place of its own order has it read
+    pub packet-reads : readHeaderOf (packetOf g file n) ≡ Sent fieldsOf
+    packet-reads = read-accepts false (packetOf g file n) fieldsOf (packet-sent false (λ t. absurd (true≢false (sym t))))
+
+    own-rows : not (eqb (g .order) 1) ≡ true → g .protection ≡ 1 → g .order ≡ 0
+    own-rows t o = row-order g fit (eqb-false _ _ (not-true _ t))
+
+    pub packet-reads-own : readBy (not (eqb (g .order) 1)) (packetOf g file n) ≡ Sent fieldsOf
+    packet-reads-own = read-accepts (not (eqb (g .order) 1)) (packetOf g file n) fieldsOf (packet-sent (not (eqb (g .order) 1)) own-rows)
 
     -- and these show the edition under which it was packed
     pub packet-edition : editionOf fieldsOf ≡ g .edition

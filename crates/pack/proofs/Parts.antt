@@ -12,9 +12,11 @@ use Rattle.ground.proofs.Listed.{ceil-below, le-or-lt}
 use Rattle.settings.specs.declared.Settings.{Settings}
 use Rattle.settings.proofs.Laws.{SettingsFacts, settings-facts}
 use Rattle.layout.specs.Layout.{tablesOf, codedFile}
+use Rattle.laying.specs.Lay.{partOf}
+use Rattle.laying.specs.InnerLay.{Part}
 use Rattle.pack.specs.Pack.{codedLength, countOf, sentOf, payloadOf}
 use Rattle.pack.specs.Inner.{payloadLength, Packable, codedRows, RunFits}
-use Rattle.pack.proofs.Laws.{protection-one, sent-plain, length-plain, sent-coded, length-sent, length-payload, size-rows, begin-rows, coded-length}
+use Rattle.pack.proofs.Laws.{protection-one, sent-plain, length-plain, sent-coded, length-tables, length-sent, length-payload, size-rows, begin-rows, coded-length}
 
 -- as much of a list as there is
 take-min : (n : ℕ) (l : List ℕ) → take (min n (length l)) l ≡ take n l
@@ -62,16 +64,39 @@ module _ (g : Settings) (file : List ℕ) (n : ℕ) (p : Packable g (length file
     pub plain-payload : take (payloadLength g (length file) n) (drop (n * g .size) file) ≡ payloadOf g file n
     plain-payload = ap (λ (x : List ℕ). take (payloadLength g (length file) n) (drop (n * g .size) x)) (sym (sent-plain g file h)) ∙ payload-cut
 
-  -- with protection: rows of the coded file
-  module _ (h : g .protection ≡ 0 → ⊥) where
+  -- with protection, in column order: a part of the coded file
+  module _ (h : g .protection ≡ 0 → ⊥) (o : g .order ≡ 1) where
+    pub columns-fit : (room : ℕ) → payloadLength g (length file) n ≤ room → Part (length file) (g .rows) (n * g .size) (payloadLength g (length file) n) room 0
+    columns-fit room l =
+        let one : g .protection ≡ 1 = protection-one g (p .fits) h in
+        let m : g .rows < 256 = facts .rows-most one in
+        let b : n * g .size < codedLength g (length file) = begins in
+        let e : codedLength g (length file) ≡ 255 * g .rows * tablesOf (g .rows) (length file) = length-tables g (length file) h in
+        record {
+          rows = facts .rows one;
+          rows-most = omega arith;
+          len-most = p .most;
+          few = payload-limit;
+          there = omega arith;
+          enough = omega arith;
+        }
+
+    pub columns-payload : partOf (g .rows) file (n * g .size) (payloadLength g (length file) n) ≡ payloadOf g file n
+    unfolding partOf
+    columns-payload =
+        ap (λ (x : List ℕ). take (payloadLength g (length file) n) (drop (n * g .size) x)) (sym (sent-coded g file h ∙ ap (λ (x : ℕ). codedFile x (g .rows) file) o))
+        ∙ payload-cut
+
+  -- and in row order: rows of it
+  module _ (h : g .protection ≡ 0 → ⊥) (o : g .order ≡ 0) where
     one : g .protection ≡ 1
     one = protection-one g (p .fits) h
 
     size-is : g .size ≡ 255 * (g .size / 255)
-    size-is = size-rows g file (p .fits) one
+    size-is = size-rows g file (p .fits) one o
 
     begin-is : n * g .size ≡ 255 * (n * (g .size / 255))
-    begin-is = begin-rows g file (p .fits) one n
+    begin-is = begin-rows g file (p .fits) one o n
 
     coded-is : codedLength g (length file) ≡ 255 * (g .rows * tablesOf (g .rows) (length file))
     coded-is = coded-length g file (p .fits) one
@@ -94,5 +119,5 @@ module _ (g : Settings) (file : List ℕ) (n : ℕ) (p : Packable g (length file
     coded-payload =
         let a : payloadLength g (length file) n / 255 * 255 ≡ payloadLength g (length file) n = omega (arith, size-is, begin-is, coded-is) in
         let b : n * g .size / 255 * 255 ≡ n * g .size = omega (arith, begin-is) in
-        ap₂ (λ (x y : ℕ). take x (drop y (codedFile (g .rows) file))) a b
-        ∙ ap (λ (x : List ℕ). take (payloadLength g (length file) n) (drop (n * g .size) x)) (sym (sent-coded g file h)) ∙ payload-cut
+        ap₂ (λ (x y : ℕ). take x (drop y (codedFile 0 (g .rows) file))) a b
+        ∙ ap (λ (x : List ℕ). take (payloadLength g (length file) n) (drop (n * g .size) x)) (sym (sent-coded g file h ∙ ap (λ (x : ℕ). codedFile x (g .rows) file) o)) ∙ payload-cut

@@ -21,7 +21,7 @@ use Rattle.filling.proofs.Serving.{by-length, put-accepted, put-done}
 use Rattle.layout.specs.Layout.{tablesOf, rowOf, codedFile}
 use Rattle.layout.proofs.Coded.{info-from, length-coded, row-behind, coded-rows}
 use Rattle.pack.specs.Inner.{codedRows, RunFits}
-use Rattle.pack.proofs.Laws.{tables-few}
+use Rattle.laying.proofs.Starts.{tables-few, start-below}
 
 module _ (file : List ℕ) (m q n room at : ℕ) (fits : RunFits file m q n room at) where
   -- so few that they can be counted
@@ -50,8 +50,8 @@ module _ (file : List ℕ) (m q n room at : ℕ) (fits : RunFits file m q n room
   pub length-run : (k : ℕ) → k ≤ n → length (codedRows file m q k) ≡ k * 255
   length-run k l =
       let t : q + n ≤ m * tablesOf m (length file) = fits .there in
-      length-take (k * 255) (drop (q * 255) (codedFile m file))
-      ∙ omega (arith, length-drop (q * 255) (codedFile m file), length-coded m file, mul-assoc 255 m (tablesOf m (length file)))
+      length-take (k * 255) (drop (q * 255) (codedFile 0 m file))
+      ∙ omega (arith, length-drop (q * 255) (codedFile 0 m file), length-coded 0 m file, mul-assoc 255 m (tablesOf m (length file)))
 
   -- k of them written, and then j more
   pub run-more : (out : List ℕ) (k j : ℕ) → k ≤ n → sets (sets out 0 (codedRows file m q k)) (k * 255) (codedRows file m (q + k) j) ≡ sets out 0 (codedRows file m q (k + j))
@@ -61,28 +61,11 @@ module _ (file : List ℕ) (m q n room at : ℕ) (fits : RunFits file m q n room
       ap (λ (x : ℕ). sets (sets out 0 (codedRows file m q k)) x (codedRows file m (q + k) j)) e
       ∙ sym (sets-append out 0 (codedRows file m q k) (codedRows file m (q + k) j))
       ∙ ap (sets out 0)
-      (ap (λ (x : List ℕ). codedRows file m q k ++ take (j * 255) x) (ap (λ (x : ℕ). drop x (codedFile m file)) (sym d) ∙ sym (drop-drop (k * 255) (q * 255) (codedFile m file)))
-      ∙ sym (take-add (k * 255) (j * 255) (drop (q * 255) (codedFile m file)))
-      ∙ ap (λ (x : ℕ). take x (drop (q * 255) (codedFile m file))) (sym (add-mul k j 255)))
+      (ap (λ (x : List ℕ). codedRows file m q k ++ take (j * 255) x) (ap (λ (x : ℕ). drop x (codedFile 0 m file)) (sym d) ∙ sym (drop-drop (k * 255) (q * 255) (codedFile 0 m file)))
+      ∙ sym (take-add (k * 255) (j * 255) (drop (q * 255) (codedFile 0 m file)))
+      ∙ ap (λ (x : ℕ). take x (drop (q * 255) (codedFile 0 m file))) (sym (add-mul k j 255)))
 
 -- ---- one run: rows that lie in one table
-
--- a row starts within the largest file, also where its own bytes lie beyond the file: of each M the last table of the longest file begins early enough
-early : ℕ → Bool
-early m = leb (16777215 / (239 * m) * (239 * m) + (m - 1)) 16777216
-
-all-early : T (all early 256)
-unfolding early
-all-early = tt
-
-start-below : (m t r : ℕ) → 0 < m → m ≤ 255 → t * (239 * m) ≤ 16777215 → r < m → t * (239 * m) + r ≤ 16777216
-unfolding early
-start-below m t r p l h k =
-    let w : 0 < 239 * m = mul-pos (zero-lt-suc 238) p in
-    let a : t ≤ 16777215 / (239 * m) = le-div-iff-mul-le w .1 h in
-    let b : t * (239 * m) ≤ 16777215 / (239 * m) * (239 * m) = mul-le-mul-right (239 * m) a in
-    let c : 16777215 / (239 * m) * (239 * m) + (m - 1) ≤ 16777216 = leb→le _ _ (below early 256 all-early m (omega arith)) in
-    omega arith
 
 module _ (file : List ℕ) (m q n room at : ℕ) (fits : RunFits file m q n room at) (some : 0 < n) where
   pub run-start : q / m * (239 * m) + q % m ≤ 16777216

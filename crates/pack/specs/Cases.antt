@@ -7,7 +7,7 @@ use Rattle.pack.specs.Pack.{countOf}
 
 -- a file with protection, 32 rows to a table, under payload size P
 abbrev pub rowsOf32 : ℕ → Settings
-rowsOf32 size = record { resource = 1; kind = 1; update = 0; protection = 1; rows = 32; size = size; edition = 2 }
+rowsOf32 size = record { resource = 1; kind = 1; update = 0; protection = 1; rows = 32; size = size; edition = 2; order = 0 }
 
 -- each computed count with the one expected
 abbrev pub countCases : List (ℕ × ℕ)

@@ -34,9 +34,9 @@ pub record Packable (g : Settings) (len n : ℕ) : Type 0 where
   pub few : countOf g len ≤ 1048575
   pub below : n < countOf g len
 
--- rows q, q + 1, .., n of them, of the coded file
+-- rows q, q + 1, .., n of them, of the coded file in row order
 abbrev pub codedRows : List ℕ → ℕ → ℕ → ℕ → List ℕ
-codedRows file m q n = take (n * 255) (drop (q * 255) (codedFile m file))
+codedRows file m q n = take (n * 255) (drop (q * 255) (codedFile 0 m file))
 
 -- n rows from row q on are there, and there is room for them from byte `at` on
 pub record RunFits (file : List ℕ) (m q n room at : ℕ) : Type 0 where

@@ -1,4 +1,4 @@
--- Packing: document 01, section 4, with the spare bits of the edition (document 02, R-9), and the refusals 17, 23, 25, 6, 26 in that order (section 6).
+-- Packing: document 01, section 4, with the spare bits of the edition (document 02, R-9) and by rows or by columns (R-8), and the refusals 17, 23, 25, 6, 26 in that order (section 6).
 -- Assumes nothing.
 use mathlib.Core.Path.{_≡_}
 use mathlib.Core.Bool.{cond, not, _||_}
@@ -31,9 +31,9 @@ codedLength g n = cond (eqb (g .protection) 0) n (255 * g .rows * tablesOf (g .r
 abbrev pub countOf : Settings → ℕ → ℕ
 countOf g n = ceil (codedLength g n) (g .size)
 
--- what is sent: the file itself, or its coded tables
+-- what is sent: the file itself, or its coded tables in the order of the settings
 unfoldable pub sentOf : Settings → List ℕ → List ℕ
-sentOf g file = cond (eqb (g .protection) 0) file (codedFile (g .rows) file)
+sentOf g file = cond (eqb (g .protection) 0) file (codedFile (g .order) (g .rows) file)
 
 -- the payload of packet n: P bytes, and what is left in the last
 unfoldable pub payloadOf : Settings → List ℕ → ℕ → List ℕ

@@ -141,7 +141,12 @@ fn put_payload(file: &[u8], settings: Settings, number: u32, size: usize, out: &
         put_part(file, from, size, out);
         return;
     }
-    put_coded(file, settings.rows as usize, from / 255, size / 255, out);
+    let rows = settings.rows as usize;
+    if settings.order == 1 {
+        laying::put_columns(file, rows, from, size, out);
+        return;
+    }
+    put_coded(file, rows, from / 255, size / 255, out);
 }
 
 // Header, payload and CRC of packet `number`, whose payload has `size` bytes; refused, and nothing written, where `out` is too short. The payload is written

@@ -15,6 +15,10 @@ pub record SizeFacts (p o n : ℕ) : Type 0 where
   pub most : n ≤ 4077
   pub multiple : rowWise p o ≡ true → n % 255 ≡ 0
 
+-- with protection, in row order
+pub row-wise : (p o : ℕ) → p ≡ 1 → o ≡ 0 → rowWise p o ≡ true
+row-wise p o a b = rw (a, b)
+
 -- what settings that fit are: document 01, sections 2 and 4, an edition of document 02, R-9, and an order of R-8
 pub record SettingsFacts (g : Settings) : Type 0 where
   pub resource : 0 < g .resource

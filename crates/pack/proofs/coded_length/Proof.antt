@@ -4,7 +4,8 @@ use mathlib.Core.Path.{sym, ap, _∙_}
 use Prim.Native.Nat.{ℕ, _+_, _*_, _<_, _≤_}
 use native.Mathlib.Omega.{arith}
 use borrow.Author.Needs.{needs}
-use Rattle.pack.proofs.Laws.{rows-positive, length-plain, length-tables, tables-few}
+use Rattle.laying.proofs.Starts.{tables-few}
+use Rattle.pack.proofs.Laws.{rows-positive, length-plain, length-tables}
 use Rattle.pack.proofs.coded_length.Statement.{statement}
 use Rattle.pack.proofs.coded_length.Tie as tie
 
