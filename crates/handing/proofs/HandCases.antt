@@ -9,6 +9,8 @@ use borrow.Author.Tests.{lt-ltb, le-ltb, lt-leb, le-leb, leb-true, eq-eqb, ne-eq
 use lib.Dec.{eqb, leb}
 use lib.ListN.{length, getD, drop}
 use Rattle.ground.proofs.Listed.{length-listed}
+use Rattle.ground.proofs.Truth.{and-both}
+use Rattle.settings.proofs.Laws.{by-one}
 use Rattle.refusals.specs.declared.Refusal.{Refusal}
 use Rattle.refusals.specs.declared.Refusal.the-variants.{Unknown, Slot, Missing, Shape, Size, Output}
 use Rattle.refusals.specs.declared.Verdict.{Verdict}
@@ -21,9 +23,13 @@ use Rattle.places.specs.declared.Place.{Place}
 use Rattle.places.specs.declared.Record.{Record}
 use Rattle.places.specs.declared.Found.the-variants.{At, Nothing}
 use Rattle.places.specs.Places.{Name, unused, endOf, good, placeNamed}
-use Rattle.places.proofs.Facts.{named-facts}
+use Rattle.places.proofs.Facts.{PlaceFacts, named-facts}
 use Rattle.contents.specs.Contents.{Slot as Content, contents, anyWrong, lowestEmpty, joined}
-use Rattle.handing.specs.Hand.{Handing, refusing, handed, allZero, handRows, handJoined, handContents, usableIn, handPlaceOf, handFound, handOutOf}
+use Rattle.losses.specs.Losses.{tabled}
+use Rattle.columns.specs.Handing.{Handing, refusing, handed, allZero, handTables}
+use Rattle.columns.specs.Columns.{handColumnsOf}
+use Rattle.columns.proofs.Handed.{tabled-made}
+use Rattle.handing.specs.Hand.{handRows, handJoined, handContents, usableIn, handPlaceOf, handFound, handOutOf}
 use Rattle.handing.specs.Passes.{infoAt, infoIn, Padding, Usable}
 use Rattle.handing.proofs.PaddingLaws.{padding-told}
 
@@ -95,35 +101,35 @@ module _ (m : ℕ) (sent : List ℕ) (n : ℕ) (out : List ℕ) (rows : ℕ) (k 
           let d : tablesOf m n * m ≡ rows / m * m = ap (λ (x : ℕ). x * m) e in
           omega (arith, div-add-mod' rows m, mul-comm (tablesOf m n) m)
 
-      beyond : (r : Bool) → Padding m n sent 0 (length sent / 255) 0 r → r ≡ allZero (undone m sent (239 * m * tablesOf m n - n) n)
+      beyond : (r : Bool) → Padding m n sent 0 (length sent / 255) 0 r → r ≡ allZero (undone 0 m sent (239 * m * tablesOf m n - n) n)
       beyond r g = padding-told m h sent n (tablesOf m n) r (rw all-rows at g)
 
       pub rows-padding : (r : Bool) → r ≡ false → Padding m n sent 0 (length sent / 255) 0 r → Comes (handRows m sent n out) (Refused Refusal.Padding) out
-      unfolding handRows
+      unfolding handRows handTables
       rows-padding r e g =
-          let d : allZero (undone m sent (239 * m * tablesOf m n - n) n) ≡ false = sym (beyond r g) ∙ e in
+          let d : allZero (undone 0 m sent (239 * m * tablesOf m n - n) n) ≡ false = sym (beyond r g) ∙ e in
           comes (refusing Refusal.Padding out) (rw (as-rows, eq-eqb (rows % m) 0 a, as-tables, b, d))
 
       module _ (r : Bool) (e : r ≡ true) (g : Padding m n sent 0 (length sent / 255) 0 r) where
-        rows-right : handRows m sent n out ≡ handed (undone m sent n 0) out
-        unfolding handRows
+        rows-right : handRows m sent n out ≡ handed (undone 0 m sent n 0) out
+        unfolding handRows handTables
         rows-right =
-            let d : allZero (undone m sent (239 * m * tablesOf m n - n) n) ≡ true = sym (beyond r g) ∙ e in
+            let d : allZero (undone 0 m sent (239 * m * tablesOf m n - n) n) ≡ true = sym (beyond r g) ∙ e in
             rw (as-rows, eq-eqb (rows % m) 0 a, as-tables, b, d)
 
-        size : length (undone m sent n 0) ≡ n
-        size = length-listed (readBack m sent) n 0
+        size : length (undone 0 m sent n 0) ≡ n
+        size = length-listed (readBack 0 m sent) n 0
 
         pub rows-output : length out < n → Comes (handRows m sent n out) (Refused Output) out
-        rows-output l = comes (refusing Output out) (rows-right ∙ handed-short (undone m sent n 0) out (omega (arith, size)))
+        rows-output l = comes (refusing Output out) (rows-right ∙ handed-short (undone 0 m sent n 0) out (omega (arith, size)))
 
         pub rows-file : n ≤ length out → (z : List ℕ) → z ≡ scattered m n (infoIn sent) (length sent / 255) out → Comes (handRows m sent n out) Accepted z
         unfolding infoAt
         rows-file l z f =
-            comes-from (rows-right ∙ handed-whole (undone m sent n 0) out (omega (arith, size))) (
+            comes-from (rows-right ∙ handed-whole (undone 0 m sent n 0) out (omega (arith, size))) (
               refl,
               f ∙ ap (λ (x : ℕ). scattered m n (infoIn sent) x out) all-rows
-                  ∙ scattered-all m n (tablesOf m n) sent out h (tables-reach m n h) l ∙ ap (λ (x : ℕ). undone m sent n 0 ++ drop x out) (sym size),
+                  ∙ scattered-all m n (tablesOf m n) sent out h (tables-reach m n h) l ∙ ap (λ (x : ℕ). undone 0 m sent n 0 ++ drop x out) (sym size),
             )
 
 -- ---- by the contents of the slots
@@ -133,14 +139,18 @@ module _ (p : Place) (c : List Content) (n : ℕ) (out : List ℕ) where
   unfolding handContents
   contents-slot w = comes (refusing Slot out) (rw w)
 
-  module _ (w : anyWrong c ≡ false) where
+  -- in row order
+  module _ (w : anyWrong c ≡ false) (o : p .order ≡ 0) where
+    by-rows : eqb (p .order) 1 ≡ false
+    by-rows = ne-eqb (p .order) 1 (λ z. omega arith)
+
     pub contents-missing : (i : ℕ) → lowestEmpty c 0 ≡ At i → Comes (handContents p c n out) (Refused (Missing i)) out
     unfolding handContents
-    contents-missing i e = comes (refusing (Missing i) out) (rw (w, e))
+    contents-missing i e = comes (refusing (Missing i) out) (rw (w, by-rows, e))
 
     pub contents-full : lowestEmpty c 0 ≡ Nothing → handContents p c n out ≡ handJoined p (joined c) n out
     unfolding handContents
-    contents-full e = rw (w, e)
+    contents-full e = rw (w, by-rows, e)
 
 -- ---- by the place
 
@@ -150,44 +160,60 @@ module _ (p : Place) (size : ℕ) where
   usable-far h = rw (lt-leb (endOf p) size h) refl
 
   module _ (h : endOf p ≤ size) where
-    pub usable-plain : p .protection ≡ 0 → true ≡ usableIn p size
+    pub usable-ordered : (p .order ≡ 0 → ⊥) → false ≡ usableIn p size
     unfolding usableIn
-    usable-plain z = rw (le-leb (endOf p) size h, eq-eqb (p .protection) 0 z) refl
+    usable-ordered d = rw (le-leb (endOf p) size h, ne-eqb (p .order) 0 d) refl
 
-    pub usable-rows : (p .protection ≡ 0 → ⊥) → not (eqb (p .rows) 0) ≡ usableIn p size
-    unfolding usableIn
-    usable-rows d = rw (le-leb (endOf p) size h, ne-eqb (p .protection) 0 d) refl
+    module _ (o : p .order ≡ 0) where
+      pub usable-plain : p .protection ≡ 0 → true ≡ usableIn p size
+      unfolding usableIn
+      usable-plain z = rw (le-leb (endOf p) size h, eq-eqb (p .order) 0 o, eq-eqb (p .protection) 0 z) refl
+
+      pub usable-rows : (p .protection ≡ 0 → ⊥) → not (eqb (p .rows) 0) ≡ usableIn p size
+      unfolding usableIn
+      usable-rows d = rw (le-leb (endOf p) size h, eq-eqb (p .order) 0 o, ne-eqb (p .protection) 0 d) refl
+
+rows-told : (p : Place) (b c : Bool) → eqb (p .protection) 0 ≡ b → eqb (p .rows) 0 ≡ c → (b || not c) ≡ true → (p .protection ≡ 0 → ⊥) → 1 ≤ p .rows
+rows-told p true c y z e d = absurd (d (eqb-true (p .protection) 0 y))
+rows-told p false false y z e d = let n = eqb-false (p .rows) 0 z in omega arith
+rows-told p false true y z e d = absurd (true≢false (sym e))
 
 module _ (p : Place) (s : List ℕ) where
   pub usable-known : usableIn p (length s) ≡ true → Usable p s
   unfolding usableIn
-  usable-known e = by (leb (endOf p) (length s)) (eqb (p .protection) 0) (eqb (p .rows) 0) refl refl refl e
-    where
-      by : (a b c : Bool) → leb (endOf p) (length s) ≡ a → eqb (p .protection) 0 ≡ b → eqb (p .rows) 0 ≡ c → (a && (b || not c)) ≡ true → Usable p s
-      by true true c x y z e = record { ends = leb-true (endOf p) (length s) x; rows = λ d. absurd (d (eqb-true (p .protection) 0 y)) }
-      by true false false x y z e = record { ends = leb-true (endOf p) (length s) x; rows = λ d. let n = eqb-false (p .rows) 0 z in omega arith }
-      by true false true x y z e = absurd (true≢false (sym e))
-      by false b c x y z e = absurd (true≢false (sym e))
+  usable-known e =
+      let a = and-both (leb (endOf p) (length s)) _ e in
+      let b = and-both (eqb (p .order) 0) _ (a .1) in
+      record { ends = leb-true (endOf p) (length s) (a .0); by-rows = eqb-true (p .order) 0 (b .0); rows = rows-told p _ _ refl refl (b .1) }
 
   module _ (n : ℕ) (out : List ℕ) where
-    pub place-refused : usableIn p (length s) ≡ false → Comes (handPlaceOf p s n out) (Refused Refusal.Record) out
+    pub place-columns : p .order ≡ 1 → handPlaceOf p s n out ≡ handColumnsOf p s n out
     unfolding handPlaceOf
-    place-refused e = comes (refusing Refusal.Record out) (rw e)
+    place-columns o = rw (eq-eqb (p .order) 1 o)
+
+    pub place-refused : (p .order ≡ 1 → ⊥) → usableIn p (length s) ≡ false → Comes (handPlaceOf p s n out) (Refused Refusal.Record) out
+    unfolding handPlaceOf
+    place-refused o e = comes (refusing Refusal.Record out) (rw (ne-eqb (p .order) 1 o, e))
 
     pub place-usable : usableIn p (length s) ≡ true → handPlaceOf p s n out ≡ handContents p (contents p s) n out
     unfolding handPlaceOf
-    place-usable e = rw e
+    place-usable e = let o = usable-known e .by-rows in rw (ne-eqb (p .order) 1 (λ z. omega arith), e)
 
 -- a place that lies in the store as a good record's does
 pub usable-made : (p : Place) (s : List ℕ) → Usable p s → usableIn p (length s) ≡ true
 usable-made p s u = by (eqb (p .protection) 0) refl
   where
     by : (b : Bool) → eqb (p .protection) 0 ≡ b → usableIn p (length s) ≡ true
-    by true e = sym (usable-plain p (length s) (u .ends) (eqb-true (p .protection) 0 e))
+    by true e = sym (usable-plain p (length s) (u .ends) (u .by-rows) (eqb-true (p .protection) 0 e))
     by false e =
         let d : p .protection ≡ 0 → ⊥ = eqb-false (p .protection) 0 e in
         let r : p .rows ≡ 0 → ⊥ = λ z. omega (arith, u .rows d) in
-        sym (usable-rows p (length s) (u .ends) d) ∙ ap not (ne-eqb (p .rows) 0 r)
+        sym (usable-rows p (length s) (u .ends) (u .by-rows) d) ∙ ap not (ne-eqb (p .rows) 0 r)
+
+-- one in column order
+tabled-hands : (p : Place) (s : List ℕ) (n : ℕ) (out : List ℕ) → tabled p (length s) ≡ true → p .order ≡ 1 → handContents p (contents p s) n out ≡ handPlaceOf p s n out
+unfolding handContents handPlaceOf handColumnsOf
+tabled-hands p s n out t o = rw (t, eq-eqb (p .order) 1 o)
 
 -- ---- by the record
 
@@ -209,17 +235,24 @@ module _ (h : Record) (s : List ℕ) (x : Name) where
           → handOutOf h s x n out ≡ handContents (getD (h .places) i unused) (contents (getD (h .places) i unused) s) n out
       out-found i a = out-good ∙ ap (handFound h s n out) a
 
-    -- the place that was found is usable
-    found-usable : (i : ℕ) → placeNamed (h .places) x ≡ At i → Usable (getD (h .places) i unused) s
-    found-usable i a =
-        let f = named-facts (length s) (h .places) b x i a in
-        record { ends = f .ends-within; rows = λ d. f .rows-least (one (getD (h .places) i unused .protection) (f .protection-most) d) }
-      where
-        one : (x : ℕ) → x ≤ 1 → (x ≡ 0 → ⊥) → x ≡ 1
-        one zero l d = absurd (d refl)
-        one (suc x) l d = omega arith
-
+    -- the place that was found is one that is handed out
     pub out-placed : (i : ℕ) → placeNamed (h .places) x ≡ At i → (n : ℕ) (out : List ℕ) → handOutOf h s x n out ≡ handPlaceOf (getD (h .places) i unused) s n out
-    out-placed i a n out =
-        let p : Place = getD (h .places) i unused in
-        out-found n out i a ∙ sym (place-usable p s n out (usable-made p s (found-usable i a)))
+    out-placed i a n out = out-found n out i a ∙ by (eqb (p .order) 1) refl
+      where
+        p : Place
+        p = getD (h .places) i unused
+
+        f : PlaceFacts (length s) p
+        f = named-facts (length s) (h .places) b x i a
+
+        by : (t : Bool) → eqb (p .order) 1 ≡ t → handContents p (contents p s) n out ≡ handPlaceOf p s n out
+        by true t =
+            let o : p .order ≡ 1 = eqb-true (p .order) 1 t in
+            tabled-hands p s n out (tabled-made p (length s) (f .ends-within) (f .rows-least (f .ordered o)) (f .slot-least)) o
+        by false t =
+            let o : p .order ≡ 1 → ⊥ = eqb-false (p .order) 1 t in
+            sym (place-usable p s n out (usable-made p s (record {
+              ends = f .ends-within;
+              by-rows = omega (arith, f .order-most);
+              rows = λ d. f .rows-least (by-one (p .protection) (omega (arith, f .protection-most)) d);
+            })))

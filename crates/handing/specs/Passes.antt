@@ -54,9 +54,10 @@ pub data Padding (m n : ℕ) (s : List ℕ) (at count q : ℕ) : Bool → Type 0
 abbrev pub sentIn : Place → List ℕ → List ℕ
 sentIn p s = joined (contents p s)
 
--- it lies in the store, and has rows in a table where it has protection
+-- it lies in the store in row order, and has rows in a table where it has protection
 pub record Usable (p : Place) (s : List ℕ) : Type 0 where
   pub ends : endOf p ≤ length s
+  pub by-rows : p .order ≡ 0
   pub rows : (p .protection ≡ 0 → ⊥) → 1 ≤ p .rows
 
 -- none of its slots is wrong
@@ -68,4 +69,5 @@ pub record Filled (p : Place) (s : List ℕ) : Type 0 where
 pub record Rowed (p : Place) (s : List ℕ) : Type 0 where
   pub filled : Filled p s
   pub protected : p .protection ≡ 0 → ⊥
+  pub by-rows : p .order ≡ 0
   pub least : 1 ≤ p .rows
