@@ -28,7 +28,7 @@ use Rattle.contents.specs.Contents.{Slot as Content, contents, anyWrong, lowest
 use Rattle.losses.specs.Losses.{tabled}
 use Rattle.columns.specs.Handing.{Handing, refusing, handed, allZero, handTables}
 use Rattle.columns.specs.Columns.{handColumnsOf}
-use Rattle.columns.proofs.Handed.{tabled-made}
+use Rattle.columns.proofs.Handed.{handed-short, handed-whole, tabled-made}
 use Rattle.handing.specs.Hand.{handRows, handJoined, handContents, usableIn, handPlaceOf, handFound, handOutOf}
 use Rattle.handing.specs.Passes.{infoAt, infoIn, Padding, Usable}
 use Rattle.handing.proofs.PaddingLaws.{padding-told}
@@ -43,15 +43,6 @@ comes g e = (ap (λ (x : Handing). x .answer) (sym e), ap (λ (x : Handing). x .
 -- the same from another
 pub comes-from : {h g : Handing} {answer : Verdict} {output : List ℕ} → h ≡ g → Comes g answer output → Comes h answer output
 comes-from e c = (c .0 ∙ ap (λ (x : Handing). x .answer) (sym e), c .1 ∙ ap (λ (x : Handing). x .output) (sym e))
-
--- ---- a file into the output
-
-module _ (file out : List ℕ) where
-  pub handed-short : length out < length file → handed file out ≡ refusing Output out
-  handed-short h = rw (lt-ltb (length out) (length file) h)
-
-  pub handed-whole : length file ≤ length out → handed file out ≡ record { answer = Accepted; output = file ++ drop (length file) out }
-  handed-whole h = rw (le-ltb (length out) (length file) h)
 
 -- ---- without protection
 

@@ -23,8 +23,11 @@ use Rattle.places.specs.declared.Found.the-variants.{At, Nothing}
 use Rattle.places.specs.Places.{Name, unused, good, placeNamed}
 use Rattle.contents.specs.Contents.{Slot as Content, wrong, holding, contents, anyWrong, filled, lowestEmpty, joined}
 use Rattle.contents.proofs.Filled.{holding-right, holding-all, holding-filled, holding-lowest, joined-whole}
-use Rattle.handing.specs.Hand.{Handing, refusing, handed, allZero, handRows, handJoined, handFilled, handContents, handFound, handOutOf}
-use Rattle.handing.proofs.HandCases.{handed-whole, joined-rows, contents-full, plain-right}
+use Rattle.columns.specs.Handing.{Handing, refusing}
+use Rattle.columns.proofs.Handed.{accepted, handed-whole, tables-coded}
+use Rattle.columns.proofs.Leaving.{Leaves, leaves-or, leaves-refusing, leaves-handed, leaves-tables, leaves-columns}
+use Rattle.handing.specs.Hand.{handRows, handJoined, handFilled, handContents, handFound, handOutOf}
+use Rattle.handing.proofs.HandCases.{joined-rows, contents-full, plain-right}
 
 -- ---- slots that all hold a payload, f k in slot k
 
@@ -49,103 +52,71 @@ module _ (c : List Content) (f : ℕ → List ℕ) (h : Carried c f) where
   pub carried-joined : (sent : List ℕ) (p : ℕ) → ((k : ℕ) → k < length c → f k ≡ take p (drop (k * p) sent)) → length sent ≤ length c * p → joined c ≡ sent
   carried-joined sent p e l = ap joined slots-are ∙ joined-whole f sent p (length c) e l
 
-  pub carried-hand : (p : Place) (n : ℕ) (out : List ℕ) → handContents p c n out ≡ handJoined p (joined c) n out
-  carried-hand p n out = contents-full p c n out carried-right carried-full
-
--- ---- the file at the start of the output, the rest of it unchanged
-
-abbrev pub accepted : List ℕ → List ℕ → Handing
-accepted file out = record { answer = Accepted; output = file ++ drop (length file) out }
-
--- joined rows of whole tables, as many as n bytes need, that hold 0 beyond them
-pub rows-undone : (m : ℕ) (sent : List ℕ) (n : ℕ) (out : List ℕ) → length sent / 255 % m ≡ 0 → tablesOf m n ≡ length sent / (255 * m)
-    → allZero (undone m sent (239 * m * tablesOf m n - n) n) ≡ true → n ≤ length out → handRows m sent n out ≡ accepted (undone m sent n 0) out
-unfolding handRows
-rows-undone m sent n out a b z l =
-    let size : length (undone m sent n 0) ≡ n = length-listed (readBack m sent) n 0 in
-    rw (eq-eqb (length sent / 255 % m) 0 a, eq-eqb (tablesOf m n) (length sent / (255 * m)) b, z) (handed-whole (undone m sent n 0) out (omega arith))
-
-zeros : (n : ℕ) → allZero (replicate n 0) ≡ true
-zeros zero = refl
-zeros (suc n) = zeros n
+  pub carried-hand : (p : Place) → p .order ≡ 0 → (n : ℕ) (out : List ℕ) → handContents p c n out ≡ handJoined p (joined c) n out
+  carried-hand p o n out = contents-full p c n out carried-right o carried-full
 
 -- the coded tables of a file, handed out at its length
 module _ (m : ℕ) (h : 0 < m) (file : List ℕ) where
-  tables-came : length (codedFile m file) / (255 * m) ≡ tablesOf m (length file)
+  tables-came : length (codedFile 0 m file) / (255 * m) ≡ tablesOf m (length file)
   tables-came =
-      ap (λ (x : ℕ). x / (255 * m)) (length-coded m file) ∙ mul-div-cancel-left (tablesOf m (length file)) {n = 255 * m} (mul-pos (zero-lt-suc 254) h)
+      ap (λ (x : ℕ). x / (255 * m)) (length-coded 0 m file) ∙ mul-div-cancel-left (tablesOf m (length file)) {n = 255 * m} (mul-pos (zero-lt-suc 254) h)
 
-  rows-came : length (codedFile m file) / 255 ≡ m * tablesOf m (length file)
+  rows-came : length (codedFile 0 m file) / 255 ≡ m * tablesOf m (length file)
   rows-came =
-      ap (λ (x : ℕ). x / 255) (length-coded m file ∙ mul-assoc 255 m (tablesOf m (length file)))
+      ap (λ (x : ℕ). x / 255) (length-coded 0 m file ∙ mul-assoc 255 m (tablesOf m (length file)))
       ∙ mul-div-cancel-left (m * tablesOf m (length file)) {n = 255} (zero-lt-suc 254)
 
-  pub rows-coded : (out : List ℕ) → length file ≤ length out → handRows m (codedFile m file) (length file) out ≡ accepted file out
+  pub rows-coded : (out : List ℕ) → length file ≤ length out → handRows m (codedFile 0 m file) (length file) out ≡ accepted file out
+  unfolding handRows
   rows-coded out l =
-      let n : ℕ = 239 * m * tablesOf m (length file) - length file in
-      rows-undone m (codedFile m file) (length file) out (ap (λ (x : ℕ). x % m) rows-came ∙ mul-mod-right m (tablesOf m (length file))) (sym tables-came)
-      (ap allZero (undone-padding m h file n (omega (arith, tables-reach m (length file) h))) ∙ zeros n) l
-      ∙ ap (λ (x : List ℕ). accepted x out) (undone-file m h file)
+      let a : length (codedFile 0 m file) / 255 % m ≡ 0 = ap (λ (x : ℕ). x % m) rows-came ∙ mul-mod-right m (tablesOf m (length file)) in
+      rw (eq-eqb (length (codedFile 0 m file) / 255 % m) 0 a, eq-eqb (tablesOf m (length file)) (length (codedFile 0 m file) / (255 * m)) (sym tables-came)) (tables-coded 0 m h file out l)
 
--- a place whose slots hold a file is handed out as the file
-module _ (p : Place) (c : List Content) (f : ℕ → List ℕ) (h : Carried c f) (file out : List ℕ) (l : length file ≤ length out) where
+-- a place in row order whose slots hold a file is handed out as the file
+module _ (p : Place) (o : p .order ≡ 0) (c : List Content) (f : ℕ → List ℕ) (h : Carried c f) (file out : List ℕ) (l : length file ≤ length out) where
   pub hand-plain : p .protection ≡ 0 → joined c ≡ file → handContents p c (length file) out ≡ accepted file out
   hand-plain z e =
-      carried-hand c f h p (length file) out ∙ ap (λ (x : List ℕ). handJoined p x (length file) out) e
+      carried-hand c f h p o (length file) out ∙ ap (λ (x : List ℕ). handJoined p x (length file) out) e
       ∙ plain-right p file (length file) out z refl ∙ handed-whole file out l
 
-  pub hand-coded : (p .protection ≡ 0 → ⊥) → 0 < p .rows → joined c ≡ codedFile (p .rows) file → handContents p c (length file) out ≡ accepted file out
+  pub hand-coded : (p .protection ≡ 0 → ⊥) → 0 < p .rows → joined c ≡ codedFile 0 (p .rows) file → handContents p c (length file) out ≡ accepted file out
   hand-coded z m e =
-      carried-hand c f h p (length file) out ∙ ap (λ (x : List ℕ). handJoined p x (length file) out) e
-      ∙ joined-rows p (codedFile (p .rows) file) (length file) out z ∙ rows-coded (p .rows) m file out l
+      carried-hand c f h p o (length file) out ∙ ap (λ (x : List ℕ). handJoined p x (length file) out) e
+      ∙ joined-rows p (codedFile 0 (p .rows) file) (length file) out z ∙ rows-coded (p .rows) m file out l
 
 -- ---- a refusal leaves the output
 
-abbrev Leaves : List ℕ → Handing → Type 0
-Leaves out h = (r : Refusal) → h .answer ≡ Refused r → h .output ≡ out
-
 module _ (out : List ℕ) where
-  leaves-or : (b : Bool) (g h : Handing) → Leaves out g → Leaves out h → Leaves out (cond b g h)
-  leaves-or true g h a b = a
-  leaves-or false g h a b = b
-
-  leaves-refusing : (r : Refusal) → Leaves out (refusing r out)
-  leaves-refusing r x e = refl
-
-  leaves-handed : (file : List ℕ) → Leaves out (handed file out)
-  leaves-handed file =
-      leaves-or (ltb (length out) (length file)) (refusing Output out) (accepted file out) (leaves-refusing Output)
-      (λ r e. let z : _≡_ {A = ℕ} 0 1 = cc in absurd (omega arith))
-
   leaves-rows : (m : ℕ) (sent : List ℕ) (n : ℕ) → Leaves out (handRows m sent n out)
   unfolding handRows
   leaves-rows m sent n =
-      leaves-or (not (eqb (length sent / 255 % m) 0)) _ _ (leaves-refusing Shape)
-      (leaves-or (not (eqb (tablesOf m n) (length sent / (255 * m)))) _ _ (leaves-refusing Size)
-      (leaves-or (not (allZero (undone m sent (239 * m * tablesOf m n - n) n))) _ _ (leaves-refusing Padding) (leaves-handed (undone m sent n 0))))
+      leaves-or out (not (eqb (length sent / 255 % m) 0)) _ _ (leaves-refusing out Shape)
+      (leaves-or out (not (eqb (tablesOf m n) (length sent / (255 * m)))) _ _ (leaves-refusing out Size) (leaves-tables out 0 m sent n))
 
   leaves-joined : (p : Place) (sent : List ℕ) (n : ℕ) → Leaves out (handJoined p sent n out)
   unfolding handJoined
   leaves-joined p sent n =
-      leaves-or (eqb (p .protection) 0) _ _
-      (leaves-or (not (eqb n (length sent))) _ _ (leaves-refusing Size) (leaves-handed sent)) (leaves-rows (p .rows) sent n)
+      leaves-or out (eqb (p .protection) 0) _ _
+      (leaves-or out (not (eqb n (length sent))) _ _ (leaves-refusing out Size) (leaves-handed out sent)) (leaves-rows (p .rows) sent n)
 
   leaves-filled : (p : Place) (c : List Content) (n : ℕ) (e : Found) → Leaves out (handFilled p c n out e)
-  leaves-filled p c n (At i) = leaves-refusing (Missing i)
+  leaves-filled p c n (At i) = leaves-refusing out (Missing i)
   leaves-filled p c n Nothing = leaves-joined p (joined c) n
 
   leaves-contents : (p : Place) (c : List Content) (n : ℕ) → Leaves out (handContents p c n out)
   unfolding handContents
-  leaves-contents p c n = leaves-or (anyWrong c) _ _ (leaves-refusing Slot) (leaves-filled p c n (lowestEmpty c 0))
+  leaves-contents p c n =
+      leaves-or out (anyWrong c) _ _ (leaves-refusing out Slot)
+      (leaves-or out (eqb (p .order) 1) _ _ (leaves-columns out p c n) (leaves-filled p c n (lowestEmpty c 0)))
 
   leaves-found : (h : Record) (s : List ℕ) (n : ℕ) (e : Found) → Leaves out (handFound h s n out e)
   leaves-found h s n (At i) = leaves-contents (getD (h .places) i unused) (contents (getD (h .places) i unused) s) n
-  leaves-found h s n Nothing = leaves-refusing Unknown
+  leaves-found h s n Nothing = leaves-refusing out Unknown
 
   pub hand-refused : (h : Record) (s : List ℕ) (x : Name) (n : ℕ) (r : Refusal) → handOutOf h s x n out .answer ≡ Refused r → handOutOf h s x n out .output ≡ out
   unfolding handOutOf
   hand-refused h s x n =
-      leaves-or (good (length s) (h .places)) _ _ (leaves-found h s n (placeNamed (h .places) x)) (leaves-refusing Refusal.Record)
+      leaves-or out (good (length s) (h .places)) _ _ (leaves-found h s n (placeNamed (h .places) x)) (leaves-refusing out Refusal.Record)
 
 -- ---- two stores of one length, with the same contents at the place
 

@@ -12,7 +12,7 @@ use Rattle.ground.proofs.Listed.{length-listed, getD-listed}
 use Rattle.layout.specs.Layout.{Spot, fileByteAt, spotOf, sentByteAt, readBack, undone}
 use Rattle.layout.specs.Spread.{rowStart}
 use Rattle.layout.proofs.Places.{file-rule, table-below, byte-below}
-use Rattle.handing.specs.Hand.{allZero}
+use Rattle.columns.specs.Handing.{allZero}
 use Rattle.handing.specs.Passes.{Padding, clear, spoilt}
 use Rattle.handing.proofs.TableLaws.{all-zero, one-not}
 
@@ -25,11 +25,11 @@ module _ (m : ℕ) (h : 0 < m) (sent : List ℕ) (n t : ℕ) where
   byte-in q c = let z : 0 + q ≡ q = omega arith in ap (λ (x : ℕ). rowStart m x + c * m) z ∙ omega arith
 
   -- it is read back as byte x of the file, if that is its position
-  read-in : (q c x : ℕ) → c < 239 → fileByteAt m (spotIn q c) ≡ x → readBack m sent x ≡ getD sent (0 + q * 255 + c) 0
+  read-in : (q c x : ℕ) → c < 239 → fileByteAt m (spotIn q c) ≡ x → readBack 0 m sent x ≡ getD sent (0 + q * 255 + c) 0
   read-in q c x b e =
       let s : spotOf m x ≡ spotIn q c = ap (spotOf m) (sym e) ∙ file-rule m h .spot-of-byte (spotIn q c) (mod-lt q h) b in
-      let d : sentByteAt m (spotIn q c) ≡ 0 + q * 255 + c = omega (arith, div-add-mod' q m) in
-      ap (λ (y : ℕ). getD sent y 0) (ap (sentByteAt m) s ∙ d)
+      let d : sentByteAt 0 m (spotIn q c) ≡ 0 + q * 255 + c = omega (arith, div-add-mod' q m) in
+      ap (λ (y : ℕ). getD sent y 0) (ap (sentByteAt 0 m) s ∙ d)
 
   -- the row and the column of byte x
   rowOf : ℕ → ℕ
@@ -50,21 +50,21 @@ module _ (m : ℕ) (h : 0 < m) (sent : List ℕ) (n t : ℕ) where
 
   -- the padding positions
   abbrev beyond : List ℕ
-  beyond = undone m sent (239 * m * t - n) n
+  beyond = undone 0 m sent (239 * m * t - n) n
 
-  beyond-at : (x : ℕ) → n ≤ x → x < 239 * m * t → getD beyond (x - n) 0 ≡ readBack m sent x
+  beyond-at : (x : ℕ) → n ≤ x → x < 239 * m * t → getD beyond (x - n) 0 ≡ readBack 0 m sent x
   beyond-at x a b =
       let e : n + (x - n) ≡ x = omega arith in
-      getD-listed (readBack m sent) (239 * m * t - n) n (x - n) 0 (omega arith) ∙ ap (readBack m sent) e
+      getD-listed (readBack 0 m sent) (239 * m * t - n) n (x - n) 0 (omega arith) ∙ ap (readBack 0 m sent) e
 
   pub padding-told : (r : Bool) → Padding m n sent 0 (m * t) 0 r → r ≡ allZero beyond
   padding-told true (clear g) =
       sym (all-zero beyond (λ i l.
-      let b : i < 239 * m * t - n = omega (arith, length-listed (readBack m sent) (239 * m * t - n) n) in
+      let b : i < 239 * m * t - n = omega (arith, length-listed (readBack 0 m sent) (239 * m * t - n) n) in
       let q : ℕ = rowOf (n + i) in
       let c : ℕ = spotOf m (n + i) .column in
       let c′ : c < 239 = file-rule m h .column-below (n + i) in
-      getD-listed (readBack m sent) (239 * m * t - n) n i 0 b ∙ read-in q c (n + i) c′ (position (n + i))
+      getD-listed (readBack 0 m sent) (239 * m * t - n) n i 0 b ∙ read-in q c (n + i) c′ (position (n + i))
       ∙ g q (row-below (n + i) (omega arith)) c c′ (omega (arith, byte-in q c, position (n + i)))))
   padding-told false (spoilt q a c b e d) =
       let x : ℕ = fileByteAt m (spotIn q c) in

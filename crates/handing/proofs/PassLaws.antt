@@ -52,7 +52,7 @@ module _ (p : Place) (s before : List ℕ) where
 
 module _ (p : Place) (s : List ℕ) (f : Rowed p s) (at k q l : ℕ) (w : Walk p s at k (q * 255)) (t : Turn p s at k (q * 255) l) where
   whole : l / 255 * 255 ≡ l
-  whole = fits-rows p l (t .fits) (f .protected)
+  whole = fits-rows p l (t .fits) (f .protected) (f .by-rows)
 
   pub rows-at : p .rows ≤ 255 → RowsAt (p .rows) (length s) (at + 2) (l / 255) q
   rows-at h = record { some = f .least; few = h; inside = omega (arith, t .room, whole); below = omega (arith, t .room, whole, w .short) }

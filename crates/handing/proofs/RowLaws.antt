@@ -13,7 +13,7 @@ use Rattle.layout.specs.Spread.{spread, rowStart, scattered}
 use Rattle.layout.proofs.Scatter.{length-spread}
 use Rattle.contents.specs.Contents.{bytesAt}
 use Rattle.contents.proofs.Bytes.{length-bytes}
-use Rattle.handing.specs.Hand.{allZero}
+use Rattle.columns.specs.Handing.{allZero}
 use Rattle.handing.specs.Passes.{Columns, infoAt, Scatters, Clear, Padding, clear, spoilt}
 use Rattle.handing.proofs.TableLaws.{zero-all, Another, not-zero}
 

@@ -17,7 +17,7 @@ use Rattle.layout.specs.Layout.{tablesOf}
 use Rattle.layout.specs.Spread.{spread, rowStart}
 use Rattle.layout.proofs.Scatter.{set-yes, set-no, spread-step}
 use Rattle.contents.specs.Contents.{bytesAt}
-use Rattle.handing.specs.Hand.{allZero}
+use Rattle.columns.specs.Handing.{allZero}
 use Rattle.handing.specs.Passes.{Columns, infoAt}
 
 -- ---- a count below one that fits its width: the next fits too

@@ -6,7 +6,7 @@ use mathlib.Core.List.{List, _∷_, _++_}
 use Prim.Native.Nat.{ℕ, _+_, _*_, _/_, _%_, _<_, _≤_}
 use native.Mathlib.Nat.{zero-add}
 use native.Mathlib.Omega.{arith}
-use borrow.Author.Tests.{ne-eqb, eqb-true}
+use borrow.Author.Tests.{eq-eqb, ne-eqb, eqb-true}
 use lib.Dec.{eqb, leb}
 use lib.ListN.{length, getD, length-append, List·getD-append}
 use lib.Seq.{getD-append-add}
@@ -22,10 +22,10 @@ use Rattle.contents.proofs.Places.{length-contents, reading-slots}
 use Rattle.standing.proofs.StandLaws.{Stands, stands-first, stands-next, stands-room}
 use Rattle.handing.specs.Passes.{sentIn, Filled}
 
--- ---- a length that fits a slot is one of whole rows where there is protection
-pub fits-rows : (p : Place) (n : ℕ) → lengthFits p n ≡ true → (p .protection ≡ 0 → ⊥) → n / 255 * 255 ≡ n
-fits-rows p n f h =
-    let e : n % 255 ≡ 0 = by (leb n (p .slot)) (eqb (n % 255) 0) refl (rw (ne-eqb (p .protection) 0 h) at f) in
+-- ---- a length that fits a slot is one of whole rows where there is protection, in row order
+pub fits-rows : (p : Place) (n : ℕ) → lengthFits p n ≡ true → (p .protection ≡ 0 → ⊥) → p .order ≡ 0 → n / 255 * 255 ≡ n
+fits-rows p n f h o =
+    let e : n % 255 ≡ 0 = by (leb n (p .slot)) (eqb (n % 255) 0) refl (rw (ne-eqb (p .protection) 0 h, eq-eqb (p .order) 0 o) at f) in
     omega arith
   where
     by : (a b : Bool) → eqb (n % 255) 0 ≡ b → (a && b) ≡ true → n % 255 ≡ 0

@@ -6,7 +6,7 @@ ghost use lib.ListN.{length};
 ghost use Rattle.layout.specs.Layout.{tablesOf};
 ghost use Rattle.layout.specs.Spread.{spread, rowStart};
 ghost use Rattle.contents.specs.Contents.{bytesAt};
-ghost use Rattle.handing.specs.Hand.{allZero};
+ghost use Rattle.columns.specs.Handing.{allZero};
 ghost use Rattle.handing.specs.Passes.{Columns, RowsAt, infoAt, Scatters, Padding};
 
 // Whether a file of `n` bytes needs `count` tables of `m` rows.

@@ -1,11 +1,11 @@
--- The place's end, and whether it has rows where it has protection.
+-- The place's end and order, and whether it has rows where it has protection.
 -- Assumes nothing.
 use mathlib.Core.Path.{_≡_, ap}
 use Prim.Native.Nat.{ℕ, _+_, _≤_, _^_}
 use native.Mathlib.Nat.{mul-le-mul}
 use native.Mathlib.Omega.{arith}
 use Rattle.places.specs.Places.{endOf}
-use Rattle.handing.proofs.HandCases.{usable-far, usable-plain, usable-rows}
+use Rattle.handing.proofs.HandCases.{usable-far, usable-ordered, usable-plain, usable-rows}
 use Rattle.handing.proofs.is_usable.Statement.{statement}
 use Rattle.handing.proofs.is_usable.Tie as tie
 
@@ -31,10 +31,13 @@ returns : tie.Need-returns
 returns c = usable-far _ _ (omega (arith, ends (c .before)))
 
 returns-2 : tie.Need-returns-2
-returns-2 c = usable-plain _ _ (omega (arith, ends (c .before .before .before))) (c .if2 .taken)
+returns-2 c = usable-ordered _ _ (omega (arith, ends (c .before .before .before))) (c .if2 .taken)
 
 returns-3 : tie.Need-returns-3
-returns-3 c = usable-rows _ _ (omega (arith, ends (c .before .before .before .before))) (c .before .if2 .left)
+returns-3 c = usable-plain _ _ (omega (arith, ends (c .before .before .before .before .before))) (c .before .before .if2 .left) (c .if3 .taken)
+
+returns-4 : tie.Need-returns-4
+returns-4 c = usable-rows _ _ (omega (arith, ends (c .before .before .before .before .before .before))) (c .before .before .before .if2 .left) (c .before .if3 .left)
 
 pub is-usable-spec : {M : Type 1} → statement M
-is-usable-spec = tie.close (tie.spec cast-if1 cover-of-requires add-if1 returns returns-2 returns-3)
+is-usable-spec = tie.close (tie.spec cast-if1 cover-of-requires add-if1 returns returns-2 returns-3 returns-4)

@@ -24,7 +24,7 @@ tallied c = seen (c .before .before) .sound (not-false _ (c .if1 .left))
 full : (c : tie.Else2) (n : ℕ) (out : List ℕ)
     → handContents (c .before .before .before .before .before .before .before .before .args .p) (contents (c .before .before .before .before .before .before .before .before .args .p) (c .before .before .before .before .before .before .before .before .args .store .now)) n out
     ≡ handJoined (c .before .before .before .before .before .before .before .before .args .p) (joined (contents (c .before .before .before .before .before .before .before .before .args .p) (c .before .before .before .before .before .before .before .before .args .store .now))) n out
-full c n out = let t = tallied (c .before .before .before) in contents-full _ _ n out (t .right) (t .none (c .if2 .left))
+full c n out = let t = tallied (c .before .before .before) in contents-full _ _ n out (t .right) (c .before .before .before .before .before .before .before .before .pre .by-rows) (t .none (c .if2 .left))
 
 survey-requires : tie.Need-survey-requires
 survey-requires c κs = tt
@@ -33,14 +33,14 @@ returns : tie.Need-returns
 returns c = contents-slot _ _ _ _ (seen (c .before .before) .wrong (not-true _ (c .if1 .taken)))
 
 returns-2 : tie.Need-returns-2
-returns-2 c = let t = tallied (c .before .before .before) in contents-missing _ _ _ _ (t .right) _ (t .some (c .if2 .taken))
+returns-2 c = let t = tallied (c .before .before .before) in contents-missing _ _ _ _ (t .right) (c .before .before .before .before .before .before .before .before .pre .by-rows) _ (t .some (c .if2 .taken))
 
 hand-rows-requires : tie.Need-hand-rows-requires
 hand-rows-requires c κs =
     let t = tallied (c .before .before .before .before .before .before) in
     let u = c .before .before .before .before .before .before .before .before .before .before .before .pre in
     let d = c .before .if3 .taken in
-    (record { filled = record { ends = u .ends; right = t .right }; protected = d; least = u .rows d }, t .bytes)
+    (record { filled = record { ends = u .ends; right = t .right }; protected = d; by-rows = u .by-rows; least = u .rows d }, t .bytes)
 
 same-length : tie.Need-same-length
 same-length c = omega arith
