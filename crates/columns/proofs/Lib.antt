@@ -1,2 +1,3 @@
 pub mod Handed
 pub mod Leaving
+pub mod Recovered
