@@ -20,6 +20,21 @@
  * and a packet of neither is taken by no place. A call that names no edition means 2. Where a station's edition is not known, give
  * packets of it to bh_read_fields, whose tenth number tells it, and open by bh_open_as in that one. No CRC is looked at there, so a single
  * packet may be noise: ask several.
+ *
+ * Orders. The coded table of a protected file, M rows of 255 bytes, is sent in one of two orders. In row order (0) a packet carries whole rows,
+ * and each row is repaired by itself, up to eight wrong bytes of it, before the packet's CRC is judged. In column order (1) the tables are sent
+ * column by column, column 0 first, each from row 0 to row M - 1, one table behind the other, and cut into packets of any size: so a packet
+ * that is lost costs each row a few bytes only. Its packets are judged by their CRC alone and nothing in them is repaired: a single wrong byte
+ * loses the packet. What was lost is restored when the file is handed out, in every row that lacks at most sixteen bytes. A place is opened in
+ * one order; nothing in a packet says which one its sender uses. Where none is named row order is meant, and without protection there is no
+ * other. What a caller can get wrong, though each call does what is said here:
+ * - Packets sent by columns of a size that is no multiple of 255 are 7 at a row place, and of a size that is one, 13 or 14: a place in the wrong
+ *   order collects nothing. The other way round packets sent by rows may be stored in a column place, if count and M agree; that is
+ *   found when the file is handed out, nearly always by 32.
+ * - Wrong bytes are found by a row with at most fifteen losses, and never put right: 32. A row with sixteen losses fits some coded row whatever
+ *   its other bytes are, so a wrong one goes unnoticed there, and the row is filled with other bytes than were sent. A store that may have
+ *   changed since is judged by checks of the caller's own before a file is handed out of it.
+ * - The size in column order is the sender's: with another one every packet has another number and other bytes.
  */
 #ifndef BRITHELVA_H
 #define BRITHELVA_H
@@ -40,10 +55,12 @@ enum bh_limit {
     BH_ROW = 255,             /* bytes of a row: 239 information bytes, then 16 checks */
     BH_ROW_INFO = 239,
     BH_ROW_CHECKS = 16,
+    BH_ROW_ORDER = 0,
+    BH_COLUMN_ORDER = 1,
     BH_PLACES = 8,
-    BH_PLACE = 18,            /* bytes of a place */
-    BH_RECORD = 144,          /* bytes of a record, its eight places; all 0 is a fresh one */
-    BH_FIELDS = 10,           /* numbers of bh_read_fields */
+    BH_PLACE = 20,            /* bytes of a place */
+    BH_RECORD = 160,          /* bytes of a record, its eight places; all 0 is a fresh one */
+    BH_FIELDS = 10,           /* numbers of bh_read_fields and bh_read_header */
     BH_LARGEST_FILE = 16777216,
     BH_USABLE_STORE = 16777216, /* only so many bytes of a longer store are used */
     BH_LARGEST_COUNT = 1048575,
@@ -60,29 +77,35 @@ enum bh_refusal {
     BH_TYPE = 4,        /* type 3 */
     BH_PROTECTION = 5,  /* protection 2 or 3; or 1 with M = 0 */
     BH_NUMBER = 6,      /* packet number not below the count, or a count that the type does not have */
-    BH_ROWS = 7,        /* protection 1, and the payload is not whole rows */
+    BH_ROWS = 7,        /* protection 1, and the payload is not whole rows; passed over by bh_offer where a column place has the packet's resource
+                         * and type, and by bh_read_header */
     BH_RESOURCE = 8,    /* resource 0 */
-    BH_RECORD_BAD = 9,  /* the record is not 144 bytes, or one of its places is out of range (its edition too), passes the store, meets
-                         * another, or has resource and type of another */
+    BH_RECORD_BAD = 9,  /* the record is not 160 bytes, or one of its places is out of range (its edition and its order too), passes the
+                         * store, meets another, or has resource and type of another */
     BH_UNKNOWN = 10,    /* no place has this resource and this type; so for every type but 1 and 2, a packet of a stream (type 0) too */
     BH_OTHER = 11,      /* update, count, protection, or M under protection, differs from the place of this resource and type */
     BH_WIDE = 12,       /* the payload is longer than the place's slots */
-    BH_REPAIR = 13,     /* a row has no coded row within eight bytes; value: the first such row, 0 for a row alone */
+    BH_REPAIR = 13,     /* a row has no coded row within eight bytes; value: the first such row, 0 for a row alone. Never of a column place */
     BH_CRC_BAD = 14,    /* the CRC differs */
-    BH_SLOT = 15,       /* the store is damaged: a slot's length is out of range */
+    BH_SLOT = 15,       /* the store is damaged: a slot's length is out of range; in a column place, above the slot size */
     BH_CONFLICT = 16,   /* the slot holds a different payload, which stays */
-    BH_FIELD = 17,      /* an argument is out of its range; an edition other than 1 or 2 too */
+    BH_FIELD = 17,      /* an argument is out of its range; an edition other than 1 or 2 too, an order above 1, and order 1 without
+                         * protection */
     BH_HELD = 18,       /* the resource is open already under this type */
     BH_FULL = 19,       /* all eight places are in use */
     BH_ROOM = 20,       /* no room for the slots in the store */
-    BH_MISSING = 21,    /* a packet has not come yet; value: the lowest such number */
-    BH_SHAPE = 22,      /* the joined rows are not whole tables */
+    BH_MISSING = 21,    /* a packet has not come yet; value: the lowest such number. Never of a column place */
+    BH_SHAPE = 22,      /* the joined rows are not whole tables; in a column place, a packet that came has another length than it must have */
     BH_SIZE = 23,       /* the file's length is 0 or above the limit, or is not the one that came */
     BH_PADDING = 24,    /* a position beyond the file's length is not 0 */
     BH_COUNT = 25,      /* the file would need more than 1048575 packets */
     BH_OUTPUT = 26,     /* the output is too short */
     BH_LINE = 29,       /* a line of a description has a fault; value: the line, 1 to 15 */
     BH_EXTRA = 30,      /* bytes stand behind line 15 of a description */
+    BH_LOST = 31,       /* a row of a column place lacks more than sixteen bytes, so more packets are needed; value: the first such row,
+                         * counted through all tables: row r of table t is t * M + r */
+    BH_CODE = 32,       /* in some row of a column place the bytes that came fit no coded row: one of its packets is not what was sent, or
+                         * packets of two files were mixed */
     BH_EDITION = 33     /* the packet is of another edition than the place, or of neither; judged straight behind 11 */
 };
 
@@ -101,15 +124,17 @@ struct bh_place {
     uint16_t slot;
     uint32_t start;
     uint16_t edition; /* 1 or 2; 0 in a place that is unused */
+    uint16_t order;   /* BH_ROW_ORDER or BH_COLUMN_ORDER; 0 without protection, and in a place that is unused */
 };
 
-/* Place i of a record; all 0 for i above 7. In the record a place has eighteen bytes, its numbers in the order of the struct, each
- * little-endian, one straight behind the other. So the struct is not laid over them: a compiler gives it more than eighteen bytes.
- * A record that was kept from before there were editions has 128 bytes, and every call refuses it by 9. One of 144 is made of it place by
- * place: its sixteen bytes, then 2, 0 for a place in use and 0, 0 for one that is not. */
+/* Place i of a record; all 0 for i above 7. In the record a place has twenty bytes, its numbers in the order of the struct, each
+ * little-endian, one straight behind the other. So the struct is not laid over them: a compiler gives it other bytes between, or more.
+ * A record that was kept from before is shorter, and every call refuses it by 9. One of 160 is made of it place by place. From before there
+ * were orders it has 144 bytes: each place its eighteen bytes, then 0, 0. From before editions it has 128: each place its sixteen
+ * bytes, then 2, 0 for a place in use and 0, 0 for one that is not, then 0, 0. */
 static inline struct bh_place bh_place_at(const uint8_t *record, unsigned i)
 {
-    struct bh_place p = {0, 0, 0, 0, 0, 0, 0, 0, 0};
+    struct bh_place p = {0, 0, 0, 0, 0, 0, 0, 0, 0, 0};
     if (i < BH_PLACES) {
         const uint8_t *b = record + (size_t)BH_PLACE * i;
         p.resource = (uint16_t)(b[0] | b[1] << 8);
@@ -121,6 +146,7 @@ static inline struct bh_place bh_place_at(const uint8_t *record, unsigned i)
         p.slot = (uint16_t)(b[10] | b[11] << 8);
         p.start = b[12] | (uint32_t)b[13] << 8 | (uint32_t)b[14] << 16 | (uint32_t)b[15] << 24;
         p.edition = (uint16_t)(b[16] | b[17] << 8);
+        p.order = (uint16_t)(b[18] | b[19] << 8);
     }
     return p;
 }
@@ -142,31 +168,42 @@ uint64_t bh_repair_row(const uint8_t *row, size_t n, uint8_t *fixed, size_t room
  * edition, written to the start of `fields`; room counts numbers, not bytes. Types 0, 1 and 2 are read. The CRC is not looked at.
  * The edition is 1 where reserved is 15 and, without protection, rows is 255; 2 where reserved is 0 and, without protection, rows is 0; else
  * 0, for neither, which is no refusal here, though no place takes such a packet. A stream has one too.
+ * A protected packet whose payload is not whole rows is 7, which a sender in column order may well send: bh_read_header takes it.
  * Refusals: 1 to 8, the first that applies; 26 where room is below 10. */
 uint64_t bh_read_fields(const uint8_t *packet, size_t n, uint32_t *fields, size_t room);
+
+/* The same for packets of either order: what is 7 there is judged on, and read. Of a packet that bh_read_fields takes it gives the same numbers.
+ * Nothing among them tells the order: a payload that is not whole rows was not sent by rows, but whole rows may have been sent in either.
+ * Refusals: 1 to 6 and 8, the first that applies; 26 where room is below 10. */
+uint64_t bh_read_header(const uint8_t *packet, size_t n, uint32_t *fields, size_t room);
 
 /* Writes packet `number` of a file of n bytes to the start of `out`. Value: the packet's length, at most 4095.
  * resource 1 to 65535; type 1 (file) or 2 (description file); update 0 to 15; protection 0 or 1; rows (M) 1 to 255 with
  * protection, any without; size (P), the payload of every packet but the last: 1 to 4077, with protection a multiple of 255 up
- * to 3825; edition 1 or 2. A file has as many packets as its first packet's count field says.
- * Without protection the M that is written is the edition's, 255 or 0, whatever `rows` says. The edition stands before the number: with the
- * two exchanged a call still compiles, and writes another packet, or none.
+ * to 3825; edition 1 or 2; order 0 (rows), or with protection 1 (columns), and then the size is 1 to 4077. A file has as many packets as its first
+ * packet's count field says. In column order T = n / (239 * M) rounded up tables are sent as 255 * M * T bytes, of which byte i is in table
+ * i / (255 * M); within the table byte j is row j mod M, column j / M. The last packet carries what remains, 1 to `size` bytes.
+ * Without protection the M that is written is the edition's, 255 or 0, whatever `rows` says. The order stands behind the edition and before the
+ * number: with two of the three exchanged a call still compiles, and writes another packet, or none.
  * Refusals, the first that applies: 17 an argument out of range; 23 n is 0 or above 16,777,216; 25 more than 1048575 packets;
  * 6 no packet has this number; 26 the packet does not fit room. */
 uint64_t bh_pack_as(const uint8_t *file, size_t n, uint16_t resource, uint8_t type, uint8_t update, uint8_t protection,
-                    uint8_t rows, uint16_t size, uint16_t edition, uint32_t number, uint8_t *out, size_t room);
+                    uint8_t rows, uint16_t size, uint16_t edition, uint16_t order, uint32_t number, uint8_t *out, size_t room);
 
-/* The same in edition 2. */
+/* The same in edition 2 and row order. */
 uint64_t bh_pack(const uint8_t *file, size_t n, uint16_t resource, uint8_t type, uint8_t update, uint8_t protection,
                  uint8_t rows, uint16_t size, uint32_t number, uint8_t *out, size_t room);
 
-/* The same at the house setting: protection 1, 32 rows, size 255, edition 2. */
+/* The same at the house setting: protection 1, 32 rows, size 255, edition 2, row order. */
 uint64_t bh_pack_house(const uint8_t *file, size_t n, uint16_t resource, uint8_t type, uint8_t update, uint32_t number,
                        uint8_t *out, size_t room);
 
 /* Opens a place in which `count` packets of a resource and a type are collected: the first unused one of the record, its slots at the
  * lowest start of the store where count * (slot + 2) bytes fit. Writes the place into the record and the length 0 into each slot; no
- * other byte of the store changes. rn is 144; sn is the store's length. `slot` has the range of bh_pack_as's size, and `edition` is 1 or 2.
+ * other byte of the store changes. rn is 160; sn is the store's length. `slot` has the range of bh_pack_as's size in this order, `edition` is 1 or
+ * 2, `order` is 0 (rows) or, with protection, 1 (columns).
+ * In column order `slot` has to be the sender's size exactly, not only as large: a packet is restored by where its bytes stand in the table.
+ * With a slot that is larger nothing is refused until hand out, which then gives 23 or 22. The size is the payload of any packet but the last.
  * Without protection any `rows` is taken and 0 is held, also where the edition's packets carry 255.
  * A place opened in the edition that a station does not send collects nothing: each of its packets is 33. A file and its description may be
  * of different editions.
@@ -174,18 +211,20 @@ uint64_t bh_pack_house(const uint8_t *file, size_t n, uint16_t resource, uint8_t
  * though it comes under the same resource. Nothing asks that their updates agree; a caller that reads one by the other compares them.
  * Refusals: 9; 17 an argument out of range (count 1 to 1048575); 18 only where resource and type are those of a place; 19; 20. */
 uint64_t bh_open_as(uint8_t *record, size_t rn, uint8_t *store, size_t sn, uint16_t resource, uint8_t type, uint8_t update,
-                    uint32_t count, uint8_t protection, uint8_t rows, uint16_t slot, uint16_t edition);
+                    uint32_t count, uint8_t protection, uint8_t rows, uint16_t slot, uint16_t edition, uint16_t order);
 
-/* The same in edition 2. */
+/* The same in edition 2 and row order. */
 uint64_t bh_open(uint8_t *record, size_t rn, uint8_t *store, size_t sn, uint16_t resource, uint8_t type, uint8_t update,
                  uint32_t count, uint8_t protection, uint8_t rows, uint16_t slot);
 
-/* The same at the house setting: protection 1, 32 rows, slots of 255, edition 2. */
+/* The same at the house setting: protection 1, 32 rows, slots of 255, edition 2, row order. */
 uint64_t bh_open_house(uint8_t *record, size_t rn, uint8_t *store, size_t sn, uint16_t resource, uint8_t type, uint8_t update,
                        uint32_t count);
 
 /* Offers one packet. With protection each row is repaired first; then the CRC has to agree. Accepted: it is stored in its slot, payload
  * first and length last, or it is a repeat, and the slot holds these bytes already. The record is only read.
+ * At a column place nothing is repaired: the CRC has to agree with the packet as it came, a single wrong byte loses it, and mended is 0. Whether
+ * the packet is whole rows is not asked where a column place has its resource and type, though M, count or edition may then differ (11, 33).
  * Value: 2 * mended + (0 stored, 1 a repeat). bh_is_repeat() and bh_mended() take it apart: a program that takes a value of 0 for stored,
  * or of 1 for a repeat, errs as soon as a byte was mended.
  * Mended are the bytes in which the packet's rows, as they came, differ from those that are stored: at most 120, eight in each of fifteen
@@ -196,7 +235,8 @@ uint64_t bh_open_house(uint8_t *record, size_t rn, uint8_t *store, size_t sn, ui
  * The packet names its place itself: the resource by its bytes 3 and 4, the type by the two high bits of byte 12, both before any CRC
  * has confirmed them. A packet of a stream is always 10, as is one of a description of whose resource only the file is open.
  * The edition is judged likewise by the header alone: 33 may be noise, and many of them on a place mean that it was opened in the wrong one.
- * Refusals, the first that applies: 9; 1 to 8 as bh_read_fields; 10; 11; 33; 12 to 16. */
+ * Refusals, the first that applies: 9; 1 to 8 as bh_read_fields, or as bh_read_header where a column place has the resource and type; 10; 11; 33;
+ * 12 to 16, without 13 at a column place. */
 uint64_t bh_offer(const uint8_t *record, size_t rn, uint8_t *store, size_t sn, const uint8_t *packet, size_t n);
 
 /* Of an answer of bh_offer, and of no other call: the value of bh_repair_row is the count itself. Both are 0 for a refusal, whose value
@@ -205,7 +245,8 @@ static inline int bh_is_repeat(uint64_t answer) { return bh_number(answer) == BH
 static inline uint32_t bh_mended(uint64_t answer) { return bh_number(answer) == BH_ACCEPTED ? (uint32_t)(bh_value(answer) >> 1) : 0; }
 
 /* How the place of a resource and a type stands. Value: filled + 2^24 * (lowest empty + 1), the number of slots that are filled and
- * the lowest that is empty; the second part is 0 where none is. bh_filled() and bh_lowest_empty() take it apart.
+ * the lowest that is empty; the second part is 0 where none is. bh_filled() and bh_lowest_empty() take it apart. A column place can be handed
+ * out with empty slots: whether those that are filled suffice is told by bh_hand_out alone, with 31 where they do not.
  * Refusals: 9; 10; 15. */
 uint64_t bh_status(const uint8_t *record, size_t rn, const uint8_t *store, size_t sn, uint16_t resource, uint8_t type);
 
@@ -219,7 +260,13 @@ static inline int32_t bh_lowest_empty(uint64_t answer) { return (int32_t)(bh_val
  * description the text ends at its last LF; one that came with protection can be had at the whole length of its tables, 239 * M * (the
  * bytes of all payloads / 255 / M), and cut there, since what is behind has to be 0. For with protection a length that is too large is
  * taken too, up to the end of the last table, and zeros are written behind the file; without, only the one that came.
- * Refusals: 9; 10; 15; 21 a packet is missing; 22; 23 the length is not the one that came; 24; 26 room is below length. */
+ * Refusals: 9; 10; 15; 21 a packet is missing; 22; 23 the length is not the one that came; 24; 26 room is below length.
+ * Of a column place: the bytes of empty slots are losses, and every row that lacks at most sixteen bytes is restored; nothing else in a row
+ * changes. How long a lost last packet was is told by `length` alone, through the number of tables that it needs. Where a slot is longer than a
+ * table, and the last packet is lost, files of several numbers of tables have the same count: one table too many is then 31, but one too
+ * few is not found, and the file comes without its end. So the length has to come from where the file does, from its description.
+ * Refusals there: 9; 10; 15; 23 `length` is 0 or above 16,777,216, or a file of this length has another count; 22 a slot that is filled has
+ * another length than its packet must have; 31; 32; 24, judged of restored bytes too; 26. All of one before any of the next. */
 uint64_t bh_hand_out(const uint8_t *record, size_t rn, const uint8_t *store, size_t sn, uint16_t resource, uint8_t type,
                      uint64_t length, uint8_t *out, size_t room);
 
