@@ -335,7 +335,11 @@ const char *older(const struct archive *a)
 {
     if (a->version == 1)
         return "is of version 1";
-    return number_at(a->state + AT_RECORD_LENGTH, 4) == BH_RECORD ? NULL : "has a record from before editions";
+    switch (number_at(a->state + AT_RECORD_LENGTH, 4)) {
+    case BH_RECORD: return NULL;
+    case EDITION_RECORD: return "has a record from before orders";
+    default: return "has a record from before editions";
+    }
 }
 
 /* ---- counters */
@@ -412,7 +416,7 @@ void commit(struct archive *a)
         carry_over(a);
         return;
     }
-    int carried = older(a) != NULL;
+    uint64_t length = number_at(a->state + AT_RECORD_LENGTH, 4);
     uint8_t *head = a->journal + a->used;
     memcpy(head + AT_CHANGE_BEHIND, a->state + AT_MARK, 8);
     put_number(a->state + AT_GENERATION, 8, generation(a) + 1);
@@ -425,8 +429,9 @@ void commit(struct archive *a)
         not_written(a);
     a->used += a->growing;
     a->growing = 0;
-    if (carried)
-        remark("%s: its record is carried over: each place names its edition now, which is 2 for those that were open; a command from before editions no longer reads it", a->path);
+    if (length != BH_RECORD)
+        remark("%s: its record is carried over: each place names its %s for those that were open; a command from before orders no longer reads it", a->path,
+               length == OLD_RECORD ? "edition and its order now, which are 2 and rows" : "order now, which is rows");
 }
 
 void sync_archive(struct archive *a)

@@ -29,6 +29,7 @@ static const struct {
     {"kind", NUMBER, offsetof(struct arguments, kind), 255, 0},
     {"charset", NUMBER, offsetof(struct arguments, charset), 255, 0},
     {"wait", NUMBER, offsetof(struct arguments, wait), 1000000, 0},
+    {"order", TEXT, offsetof(struct arguments, order), 0, 0},
     {"mode", TEXT, offsetof(struct arguments, mode), 0, 0},
     {"name", TEXT, offsetof(struct arguments, name), 0, 0},
     {"title", TEXT, offsetof(struct arguments, title), 0, 0},

@@ -1,5 +1,5 @@
 /* Whether slots hold what was stored. Beside the store stands a check for each 64 bytes of it: the CRC-32 of the slots of places in use that begin
- * there, of each its length and as much of its payload. And every row of a protected slot has to be a coded row. */
+ * there, of each its length and as much of its payload. And every row of a slot that was sent by rows has to be a coded row. */
 #include "command.h"
 
 #include <string.h>
@@ -122,8 +122,48 @@ static struct finding judge_mended(struct archive *a, uint8_t *slot, size_t n, c
     return f;
 }
 
+/* whether all slots that begin in a unit are of places in column order: then none is left in doubt when they are empty */
+static int by_columns_alone(const struct archive *a, size_t unit)
+{
+    uint8_t bytes[GATHERED];
+    for (int i = 0; i < BH_PLACES; i++) {
+        struct bh_place p = place_of(a->record, i);
+        if (p.order != BH_COLUMN_ORDER && slots_in(a, p, unit, bytes) > 0)
+            return 0;
+    }
+    return 1;
+}
+
+/* What was sent by columns has no rows of its own by which it could be told, or put right: its check alone says whether it is as it was stored. */
+static struct finding judge_column(struct archive *a, struct bh_place p, uint32_t number)
+{
+    uint8_t *slot = slot_of(a->store, p, number);
+    size_t n = length_of(slot), unit = unit_of(a, slot);
+    enum soundness lost = by_columns_alone(a, unit) ? LOSABLE : BROKEN;
+    if (n > p.slot)
+        return (struct finding){number, lost, "has a length that no packet of its place has", -1, 0};
+    if (check_differs(a, unit) == 0)
+        return (struct finding){number, SOUND, "", -1, 0};
+    return (struct finding){number, lost, check_debt(a, unit, 2 + n) != 0 ? "shares a check with its neighbours, which differs" : "differs from its check", -1, 0};
+}
+
+void empty_slot(struct archive *a, struct bh_place p, uint32_t number)
+{
+    uint8_t bytes[GATHERED], *slot = slot_of(a->store, p, number);
+    size_t unit = unit_of(a, slot);
+    uint32_t debt = check_differs(a, unit);
+    int last = number + 1 == p.count || unit_of(a, slot_of(a->store, p, number + 1)) != unit;
+    slot[0] = slot[1] = 0;
+    size_t n = gather(a, unit, bytes);
+    for (size_t k = 0; k < n; k++)
+        last = last && bytes[k] == 0;
+    renew_check(a, unit, last ? 0 : debt);
+}
+
 struct finding judge_slot(struct archive *a, struct bh_place p, uint32_t number, int mend)
 {
+    if (p.order == BH_COLUMN_ORDER)
+        return judge_column(a, p, number);
     uint8_t *slot = slot_of(a->store, p, number), coded[BH_LARGEST_PAYLOAD];
     size_t n = length_of(slot), unit = unit_of(a, slot);
     uint32_t differs = check_differs(a, unit);

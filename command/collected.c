@@ -71,3 +71,12 @@ uint64_t collected_length(struct archive *a, struct bh_place file, int despite_c
     release(text);
     return is_about(file, values) ? values[BH_D_FILE_LENGTH] : 0;
 }
+
+uint64_t told_length(struct archive *a, struct bh_place file)
+{
+    int before = hushed;
+    hushed = 1;
+    uint64_t length = file.type == FILE_TYPE ? collected_length(a, file, 0) : 0;
+    hushed = before;
+    return length;
+}

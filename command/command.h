@@ -25,6 +25,7 @@ void usage(const char *format, ...) __attribute__((noreturn, format(printf, 1, 2
 void complain(const char *format, ...) __attribute__((format(printf, 1, 2))); /* whatever was asked for */
 void remark(const char *format, ...) __attribute__((format(printf, 1, 2)));   /* not with --quiet */
 void detail(const char *format, ...) __attribute__((format(printf, 1, 2)));   /* with --verbose only */
+extern int hushed; /* while it is not 0 none of the last three says anything */
 const char *refusal_name(unsigned number);
 int refused(uint64_t answer, const char *what);
 int refused_since(uint64_t answer, const char *what, const char *format, ...) __attribute__((format(printf, 3, 4)));
@@ -49,7 +50,7 @@ struct arguments {
     char **names; /* what is no option, the command's own name left out */
     int count;
     long long resource, type, update, protection, rows, size, edition, length, packets, service, kind, charset, wait; /* -1 where it is not named */
-    const char *mode, *name, *title, *summary, *keywords, *path, *file, *from, *until, *output;                       /* NULL where it is not named */
+    const char *order, *mode, *name, *title, *summary, *keywords, *path, *file, *from, *until, *output;               /* NULL where it is not named */
     int delete, json, each, force, strict, mend, despite_conflicts, help, quiet, verbose;
 };
 struct arguments parse(int argc, char **argv, const char *allowed);
@@ -101,17 +102,34 @@ uint64_t cover_of(struct bh_place p);
 uint8_t *slot_of(uint8_t *store, struct bh_place p, uint32_t number);
 uint16_t length_of(const uint8_t *slot);
 uint64_t joined_length(uint8_t *store, struct bh_place p); /* the bytes of all its payloads */
-uint64_t whole_length(uint8_t *store, struct bh_place p);  /* the longest file that these can be: with protection one that fills its tables */
+uint64_t whole_length(uint8_t *store, struct bh_place p);  /* the longest file that these can be: with protection one that fills its tables, and by columns the least that it can have */
 uint64_t bytes_used(const uint8_t *record);
 uint64_t largest_gap(const uint8_t *record, size_t store_size);
 /* whether the place in use with this number is the same in both records */
 int same_place(const uint8_t *one, const uint8_t *other, int i);
 
+/* ---- columns.c: places in column order. */
+struct tables {
+    uint64_t least, most; /* which the file can have by what is known of it; none where the least is above the most */
+};
+struct tables tables_of(uint8_t *store, struct bh_place p);
+uint32_t length_in(struct bh_place p, uint32_t number, uint64_t tables);                 /* of a packet's payload */
+int64_t misshapen_packet(uint8_t *store, struct bh_place p, struct tables t);            /* the first that has another length; -1 where there is none */
+enum reached { LACKING, SUFFICIENT, BY_LENGTH, MISSHAPEN, NO_FILE };
+struct reach {
+    enum reached what;      /* whether what came can be handed out; BY_LENGTH: only if the file is not longer than `longest` */
+    uint64_t rows, lacking; /* how many there are, and how many of them lack more than sixteen bytes */
+    uint64_t longest;
+    int64_t packet; /* MISSHAPEN: which */
+};
+struct archive;
+struct reach reach_of(struct archive *a, struct bh_place p);
+
 /* ---- settings.c: the settings that pack and open name. */
 struct settings {
-    int house; /* none of protection, rows, size and edition is named */
+    int house; /* none of protection, rows, size, edition and order is named */
     uint8_t type, update, protection, rows;
-    uint16_t resource, size, edition;
+    uint16_t resource, size, edition, order;
 };
 struct settings settings_of(const struct arguments *a);
 /* which argument is out of its range, and the range; count is -1 where there is none */
@@ -119,7 +137,7 @@ const char *field_cause(const struct settings *s, long long count);
 
 /* ---- archive.c: one file, held in memory while a command works on it (docs/ARCHIVE.md). */
 enum { UNIT = 64 }; /* bytes of the store to one check */
-enum counter { STORED, REPEATED, CONFLICTS, OTHERS, MENDED, HANDED_OUT, EDITIONS, COUNTERS = 16 };
+enum counter { STORED, REPEATED, CONFLICTS, OTHERS, MENDED, HANDED_OUT, EDITIONS, ORDERS, COUNTERS = 16 };
 struct archive {
     const char *path;
     int fd, writing, version;
@@ -171,7 +189,7 @@ void renew_for(struct archive *a, uint8_t *slot);                /* a slot that 
 uint8_t *check_at(struct archive *a, size_t unit);
 size_t unit_of(const struct archive *a, const uint8_t *slot);
 int mend_rows(uint8_t *payload, size_t n); /* the bytes put right; -1, and nothing changed, where a row has no coded row within eight bytes */
-enum soundness { SOUND, MENDABLE, CHECK_ONLY, BROKEN };
+enum soundness { SOUND, MENDABLE, CHECK_ONLY, LOSABLE, BROKEN }; /* LOSABLE: it may be emptied, as one that was never there */
 struct finding {
     uint32_t packet;
     enum soundness what;
@@ -181,6 +199,7 @@ struct finding {
 };
 /* Judges one slot; a slot that can be mended is mended in the image if that is asked for. */
 struct finding judge_slot(struct archive *a, struct bh_place p, uint32_t number, int mend);
+void empty_slot(struct archive *a, struct bh_place p, uint32_t number); /* one that is LOSABLE, in the image; when all beside it are empty too, their check is made anew */
 
 /* ---- joining.c: what a place has collected, in memory; at NULL, with the reason told, where it may not be handed out. */
 struct bytes join_place(struct archive *a, int place, uint64_t length, int despite_conflicts);
@@ -188,6 +207,7 @@ struct bytes join_place(struct archive *a, int place, uint64_t length, int despi
 /* ---- collected.c: a description that was collected in a place of its own. Where it cannot be used, the reason is told. */
 struct bytes collected_text(struct archive *a, int place, int despite_conflicts, uint64_t *values); /* at NULL where there is none */
 uint64_t collected_length(struct archive *a, struct bh_place file, int despite_conflicts);          /* 0 where there is none */
+uint64_t told_length(struct archive *a, struct bh_place file); /* the same, and nothing is told where there is none */
 
 /* ---- recording.c: bytes with packets among them, a batch at a time. */
 struct recording {

@@ -59,9 +59,9 @@ void point_into(struct archive *a, uint8_t *image, uint64_t store_size)
 /* A record from before a place had all its numbers is shorter: each place then means what stands here behind the bytes that it has. */
 int take_record(uint8_t *record, const uint8_t *from, uint64_t length)
 {
-    static const uint8_t meant[BH_PLACE] = {[OLD_PLACE] = 2}; /* the edition */
+    static const uint8_t meant[BH_PLACE] = {[OLD_PLACE] = 2, [EDITION_PLACE] = BH_ROW_ORDER}; /* the edition, the order */
     size_t n = (size_t)length / BH_PLACES;
-    if (length != OLD_RECORD && length != BH_RECORD)
+    if (length != OLD_RECORD && length != EDITION_RECORD && length != BH_RECORD)
         return -1;
     memset(record, 0, BH_RECORD);
     for (size_t i = 0; i < BH_PLACES; i++) {

@@ -16,8 +16,8 @@ enum {
 /* the head, which never changes */
 enum { AT_VERSION = 8, AT_STORE_SIZE = 16, AT_HEAD_CHECK = 24, HEAD = 28 };
 
-/* a place, and a record, of before editions */
-enum { OLD_PLACE = 16, OLD_RECORD = 128 };
+/* a place, and a record, of before editions, and of before orders */
+enum { OLD_PLACE = 16, OLD_RECORD = 128, EDITION_PLACE = 18, EDITION_RECORD = 144 };
 
 /* a state: the record, with room for one of 256 bytes, sixteen counters for each place, and a mark of its own */
 enum { AT_GENERATION = 0, AT_RECORD_LENGTH = 8, AT_RECORD = 16, AT_COUNTERS = 272, AT_MARK = 1296, AT_STATE_CHECK = 2044, STATE = 2048 };

@@ -17,20 +17,22 @@ static const struct command {
     int (*run)(const struct arguments *);
     const char *form, *what;
 } commands[] = {
-    {"pack", "resource type update protection rows size edition output force", pack,
+    {"pack", "resource type update protection rows size edition order output force", pack,
      "pack FILE -o PACKETS --resource N [--type 1|2] [--update U]\n"
-     "                 [--protection 0|1] [--rows M] [--size P] [--edition 1|2] [--force]",
+     "                 [--protection 0|1] [--rows M] [--size P] [--edition 1|2] [--order rows|columns] [--force]",
      "writes all packets of FILE end to end. Where none of protection, rows and size is named, the\n"
      "      house setting: protection 1, tables of 32 rows, payloads of 255 bytes. The edition is that of the\n"
-     "      spare bits: 1 all one (GY/T 268.2), 2 all zero, which is meant where none is named"},
+     "      spare bits: 1 all one (GY/T 268.2), 2 all zero, which is meant where none is named. The order is that in\n"
+     "      which the table of a protected file is sent: by rows, which is meant where none is named, or by columns"},
     {"new", "size", make_archive, "new ARCHIVE --size BYTES",
      "makes an archive with a store of so many bytes (4M, 512K), at most 16M. C packets with payloads\n"
      "      of P bytes take C * (P + 2) of them"},
-    {"open", "resource type update protection rows size edition count wait", open_place,
+    {"open", "resource type update protection rows size edition order count wait", open_place,
      "open ARCHIVE --resource N --count C [--type 1|2] [--update U]\n"
-     "                 [--protection 0|1] [--rows M] [--size S] [--edition 1|2] [--wait SECONDS]",
+     "                 [--protection 0|1] [--rows M] [--size S] [--edition 1|2] [--order rows|columns] [--wait SECONDS]",
      "opens a place for the C packets of a file (type 1), or of its description (type 2) beside it: a\n"
-     "      slot of S bytes for each, settings as in pack. It takes packets of its own edition alone"},
+     "      slot of S bytes for each, settings as in pack. It takes packets of its own edition alone. By columns\n"
+     "      S is exactly the size that the station sends, and packets may be lacking at the end"},
     {"offer", "json each strict wait", offer, "offer ARCHIVE RECORDING.. [--each] [--json] [--strict] [--wait SECONDS]",
      "offers every packet found in the recordings (- for standard input), past noise, as they come, and\n"
      "      tells the tally, bytes mended among it; with --each also a line for every packet: resource, type,\n"
@@ -40,11 +42,13 @@ static const struct command {
      "how far each place, or one, has come, what was refused of it, and the room in the store"},
     {"verify", "resource type json mend wait", verify, "verify ARCHIVE [--resource N [--type 1|2]] [--mend] [--json] [--wait SECONDS]",
      "looks whether every packet is as it was stored, and names those that are not; with --mend puts\n"
-     "      right what can be: rows with at most eight wrong bytes"},
+     "      right what can be: rows with at most eight wrong bytes; and empties a damaged slot that was sent by\n"
+     "      columns, so that it counts as lost and can be offered again"},
     {"hand-out", "resource type length output force despite-conflicts wait", hand_out,
      "hand-out ARCHIVE --resource N [--type 1|2] [--length L] -o FILE [--force]\n"
      "                 [--despite-conflicts] [--wait SECONDS]",
-     "writes what a place has collected, L bytes, once every packet is there and as it was stored. Without\n"
+     "writes what a place has collected, L bytes, once every packet is there, or by columns so many that the\n"
+     "      rest can be restored, and each is as it was stored. Without\n"
      "      --length a file has the length that its collected description names, and a description ends with\n"
      "      its last line"},
     {"close", "resource type force wait", close_place, "close ARCHIVE --resource N [--type 1|2] [--force] [--wait SECONDS]",

@@ -16,7 +16,7 @@ struct tally {
     uint64_t mended; /* bytes, in the packets stored and repeated */
     uint64_t lost; /* packets of open places that were sound and were refused */
     char cause[LAST + 1][128]; /* of the first refusal with this number */
-    char hint[256]; /* what to do for the first sound packet of the other edition than its place's */
+    char hint[2][256]; /* what to do for the first sound packet of the other edition than its place's, and for the first that was sent in the other order */
 };
 
 struct offering {
@@ -30,18 +30,34 @@ struct offering {
 
 /* ---- one packet */
 
-/* Whether its CRC agrees, after repair of its rows where it is protected: what is refused for its header before that is looked at may be noise. */
+/* Whether its CRC agrees as it stands. */
+static int is_as_sent(const uint8_t *packet, size_t n)
+{
+    const uint8_t *crc = packet + n - BH_CRC;
+    return bh_crc32(packet, n - BH_CRC) == ((uint32_t)crc[0] << 24 | (uint32_t)crc[1] << 16 | (uint32_t)crc[2] << 8 | crc[3]);
+}
+
+/* Whether its CRC agrees, as it came or, where it is protected and whole rows, after repair of them: what is refused for its header before that is looked at may
+ * be noise. Nothing in a packet says in which order it was sent. */
 static int is_sound(const uint8_t *packet, size_t n)
 {
     uint8_t copy[BH_LARGEST_PACKET];
-    memcpy(copy, packet, n);
-    if ((packet[12] >> 4 & 3) == 1 && mend_rows(copy + BH_HEADER, n - BH_HEADER - BH_CRC) < 0)
+    size_t payload = n - BH_HEADER - BH_CRC;
+    if (is_as_sent(packet, n))
+        return 1;
+    if ((packet[12] >> 4 & 3) != 1 || payload % BH_ROW != 0)
         return 0;
-    const uint8_t *crc = packet + n - BH_CRC;
-    return bh_crc32(copy, n - BH_CRC) == ((uint32_t)crc[0] << 24 | (uint32_t)crc[1] << 16 | (uint32_t)crc[2] << 8 | crc[3]);
+    memcpy(copy, packet, n);
+    return mend_rows(copy + BH_HEADER, payload) >= 0 && is_as_sent(copy, n);
 }
 
-/* fields of a packet, as bh_read_fields gives them */
+/* Whether it was sent by columns and refused for what rows have to be: they are not whole, or no coded rows, though the CRC says that nothing in it has changed. */
+static int is_by_columns(const uint8_t *packet, size_t n, unsigned number)
+{
+    return (number == BH_ROWS || number == BH_REPAIR || number == BH_CRC_BAD) && is_as_sent(packet, n);
+}
+
+/* fields of a packet, as bh_read_header gives them */
 enum field { RESOURCE = 0, NUMBER = 1, UPDATE = 2, COUNT = 4, TYPE = 5, PROTECTION = 6, ROWS = 7, RESERVED = 8, EDITION = 9 };
 
 /* The edition of a packet beside that of its place; where it has neither, what it has instead. Under protection its rows say nothing of it. */
@@ -75,11 +91,17 @@ static void tell_cause(char *to, size_t room, unsigned number, struct bh_place p
         }
 }
 
-static void tell_packet(struct offering *o, const uint32_t *fields, uint64_t answer, const char *cause)
+/* A packet that was sent by columns, where no place in that order has its resource and type. */
+static void tell_order(char *to, size_t room, struct bh_place p, const uint8_t *packet)
+{
+    const char *held = p.resource == 0 ? "not open" : p.protection ? "held by rows" : "held without protection";
+    snprintf(to, room, "%s: sent by columns, %s", place_words((uint16_t)(packet[3] << 8 | packet[4]), packet[12] >> 6), held);
+}
+
+static void tell_packet(struct offering *o, const uint32_t *fields, uint64_t answer, int unread, const char *cause)
 {
     unsigned number = bh_number(answer);
     const char *words = number != BH_ACCEPTED ? "refused" : bh_is_repeat(answer) ? "repeated" : "stored";
-    int unread = number >= BH_SHORT && number <= BH_RESOURCE;
     if (o->json && unread)
         fputs("{\"resource\": null, \"type\": null, \"number\": null", o->lines);
     else if (unread)
@@ -120,7 +142,7 @@ static int is_unfit(unsigned number)
 }
 
 /* counts for the command, and for the place if the packet names one; damaged: what stands in its slot is not what was stored */
-static void count_packet(struct offering *o, int place, uint64_t answer, int sound, int damaged)
+static void count_packet(struct offering *o, int place, uint64_t answer, int sound, int by_columns, int damaged)
 {
     struct tally *t = &o->tally;
     unsigned number = bh_number(answer);
@@ -138,8 +160,10 @@ static void count_packet(struct offering *o, int place, uint64_t answer, int sou
         which = OTHERS;
     if (number == BH_EDITION && sound)
         which = EDITIONS;
+    if (by_columns && place >= 0)
+        which = ORDERS;
     t->mended += bh_mended(answer);
-    t->lost += sound && (number == BH_CONFLICT || number == BH_SLOT || is_unfit(number));
+    t->lost += sound && (number == BH_CONFLICT || number == BH_SLOT || is_unfit(number) || which == ORDERS);
     if (which == COUNTERS)
         return;
     count_more(&o->archive, place, which, 1);
@@ -148,12 +172,23 @@ static void count_packet(struct offering *o, int place, uint64_t answer, int sou
 }
 
 /* A place that was opened in the wrong edition collects nothing: what would. A packet of neither edition fits no place, and nothing can be said for it. */
-static void give_hint(struct tally *t, struct bh_place p, uint32_t edition)
+static void hint_edition(struct tally *t, struct bh_place p, uint32_t edition)
 {
-    if (edition != 0 && t->hint[0] == '\0')
-        snprintf(t->hint, sizeof t->hint,
+    if (edition != 0 && t->hint[0][0] == '\0')
+        snprintf(t->hint[0], sizeof t->hint[0],
                  "%s, is open in edition %u, and sound packets of edition %" PRIu32 " came: a place that is opened with --edition %" PRIu32 " takes them, once this one is closed",
                  place_words(p.resource, p.type), p.edition, edition, edition);
+}
+
+/* The same of one that was opened in the wrong order. The size is told by any packet but the last. */
+static void hint_order(struct tally *t, struct bh_place p, const uint32_t *fields, size_t payload)
+{
+    char size[32] = " and the size of its packets";
+    if (fields[NUMBER] + 1 < fields[COUNT])
+        snprintf(size, sizeof size, " --size %zu", payload);
+    if (t->hint[1][0] == '\0')
+        snprintf(t->hint[1], sizeof t->hint[1], "%s, is open %s, and sound packets came that were sent by columns: a place that is opened with --order columns%s takes them, once this one is closed",
+                 place_words(p.resource, p.type), p.protection ? "by rows" : "without protection", size);
 }
 
 /* Answers whether the search may go on behind the packet: whether it is one, by its CRC. */
@@ -166,21 +201,25 @@ static int take_packet(struct offering *o, const uint8_t *packet, size_t n)
     int place = find_place(a->record, (uint16_t)(packet[3] << 8 | packet[4]), packet[12] >> 6), damaged = 0;
     int judged = number == BH_ACCEPTED || number == BH_CONFLICT || number == BH_SLOT;
     char cause[sizeof o->tally.cause[0]] = "";
-    bh_read_fields(packet, n, fields, BH_FIELDS);
+    int unread = bh_number(bh_read_header(packet, n, fields, BH_FIELDS)) != BH_ACCEPTED, by_columns = is_by_columns(packet, n, number);
     if (is_unfit(number))
         tell_cause(cause, sizeof cause, number, place_of(a->record, place), fields, n);
     if (number == BH_CONFLICT || number == BH_SLOT)
         damaged = tell_damage(a, place_of(a->record, place), fields[NUMBER], cause, sizeof cause);
+    if (by_columns)
+        tell_order(cause, sizeof cause, place_of(a->record, place), packet);
     if (number == BH_ACCEPTED && !bh_is_repeat(answer))
         keep_slot(a, place, fields[NUMBER]);
-    int unjudged = is_unfit(number) || (number == BH_UNKNOWN && o->found == 0), sound = judged || (unjudged && is_sound(packet, n));
-    count_packet(o, place, answer, sound, damaged);
+    int unjudged = is_unfit(number) || (number == BH_UNKNOWN && o->found == 0), sound = judged || by_columns || (unjudged && is_sound(packet, n));
+    count_packet(o, place, answer, sound, by_columns, damaged);
     if (number == BH_EDITION && sound)
-        give_hint(&o->tally, place_of(a->record, place), fields[EDITION]);
+        hint_edition(&o->tally, place_of(a->record, place), fields[EDITION]);
+    if (by_columns && place >= 0)
+        hint_order(&o->tally, place_of(a->record, place), fields, n - BH_HEADER - BH_CRC);
     if (*cause && o->tally.cause[number][0] == '\0')
         memcpy(o->tally.cause[number], cause, sizeof cause);
     if (o->each)
-        tell_packet(o, fields, answer, cause);
+        tell_packet(o, fields, answer, unread, cause);
     return judged;
 }
 
@@ -341,8 +380,9 @@ int offer(const struct arguments *a)
         tell_tally(&o.tally, a->json);
     if (o.tally.lost > 0)
         complain("%" PRIu64 " packets that name an open resource and its type were sound and were refused: something of what was sent may be missing", o.tally.lost);
-    if (o.tally.hint[0] != '\0')
-        complain("%s", o.tally.hint);
+    for (int k = 0; k < 2; k++)
+        if (o.tally.hint[k][0] != '\0')
+            complain("%s", o.tally.hint[k]);
     if (result == EXIT_ACCEPTED && (o.tally.lost > 0 || (a->strict && all_refused(&o.tally) > 0)))
         result = EXIT_REFUSED;
     fflush(stdout);

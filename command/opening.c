@@ -19,7 +19,8 @@ static uint64_t open_one(struct archive *archive, uint8_t *record, const struct 
 {
     if (s->house)
         return bh_open_house(record, BH_RECORD, archive->store, archive->store_size, s->resource, s->type, s->update, count);
-    return bh_open_as(record, BH_RECORD, archive->store, archive->store_size, s->resource, s->type, s->update, count, s->protection, s->rows, s->size, s->edition);
+    return bh_open_as(record, BH_RECORD, archive->store, archive->store_size, s->resource, s->type, s->update, count, s->protection, s->rows, s->size, s->edition,
+                      s->order);
 }
 
 static int not_opened(uint64_t answer, const struct archive *archive, const struct settings *s, uint32_t count)
@@ -30,7 +31,7 @@ static int not_opened(uint64_t answer, const struct archive *archive, const stru
     if (number == BH_FIELD)
         return refused_since(answer, what, "%s", field_cause(s, count));
     if (number == BH_HELD)
-        return refused_since(answer, what, "update %u, %" PRIu32 " packets, edition %u", p.update, p.count, p.edition);
+        return refused_since(answer, what, "update %u, %" PRIu32 " packets, edition %u%s", p.update, p.count, p.edition, p.order == BH_COLUMN_ORDER ? ", by columns" : "");
     if (number == BH_ROOM)
         return refused_since(answer, what, "%" PRIu64 " bytes are needed, the largest gap has %" PRIu64 " of the store's %zu", (uint64_t)count * (s->size + 2u),
                              largest_gap(archive->record, archive->store_size), archive->store_size);
@@ -84,8 +85,8 @@ int open_place(const struct arguments *a)
     int result = EXIT_ACCEPTED;
     if (bh_number(answer) == BH_ACCEPTED) {
         publish_opened(&archive, find_place(record, s.resource, s.type), record);
-        detail("%s: %s, is open for %lld packets of edition %u; %" PRIu64 " bytes of the store are used", a->names[0], place_words(s.resource, s.type), a->packets, s.edition,
-               bytes_used(record));
+        detail("%s: %s, is open for %lld packets of edition %u%s; %" PRIu64 " bytes of the store are used", a->names[0], place_words(s.resource, s.type), a->packets, s.edition,
+               s.order == BH_COLUMN_ORDER ? ", by columns" : "", bytes_used(record));
     } else {
         result = not_opened(answer, &archive, &s, (uint32_t)a->packets);
     }
@@ -95,12 +96,15 @@ int open_place(const struct arguments *a)
 
 /* ---- close */
 
-/* complete, or damaged and perhaps so, and nobody has it */
-static int is_unread(const struct archive *a, int place)
+/* complete, or with so much of it there that the rest can be restored, or damaged and perhaps so, and nobody has it */
+static int is_unread(struct archive *a, int place)
 {
     struct bh_place p = place_of(a->record, place);
     uint64_t answer = bh_status(a->record, BH_RECORD, a->store, a->store_size, p.resource, p.type);
-    return (bh_number(answer) != BH_ACCEPTED || bh_lowest_empty(answer) < 0) && count_of(a, place, HANDED_OUT) == 0;
+    if (count_of(a, place, HANDED_OUT) > 0 || bh_number(answer) != BH_ACCEPTED || bh_lowest_empty(answer) < 0)
+        return count_of(a, place, HANDED_OUT) == 0;
+    enum reached reached = p.order == BH_COLUMN_ORDER ? reach_of(a, p).what : LACKING;
+    return reached == SUFFICIENT || reached == BY_LENGTH;
 }
 
 int close_place(const struct arguments *a)
@@ -118,7 +122,8 @@ int close_place(const struct arguments *a)
     } else if (bh_number(answer) != BH_ACCEPTED) {
         result = refused(answer, of_place("close", resource, type));
     } else if (!a->force && is_unread(&archive, place)) {
-        complain("%s refused: it is complete and was never handed out; --force gives it up all the same", of_place("close", resource, type));
+        complain("%s refused: it is complete%s and was never handed out; --force gives it up all the same", of_place("close", resource, type),
+                 place_of(archive.record, place).order == BH_COLUMN_ORDER ? ", or can be restored," : "");
         result = EXIT_REFUSED;
     } else {
         publish_record(&archive, place_of(archive.record, place), place, record);

@@ -7,7 +7,7 @@ static uint64_t pack_one(struct bytes file, const struct settings *s, uint32_t n
 {
     if (s->house)
         return bh_pack_house(file.at, file.n, s->resource, s->type, s->update, number, packet, BH_LARGEST_PACKET);
-    return bh_pack_as(file.at, file.n, s->resource, s->type, s->update, s->protection, s->rows, s->size, s->edition, number, packet, BH_LARGEST_PACKET);
+    return bh_pack_as(file.at, file.n, s->resource, s->type, s->update, s->protection, s->rows, s->size, s->edition, s->order, number, packet, BH_LARGEST_PACKET);
 }
 
 static int not_packed(uint64_t answer, const struct arguments *a, struct bytes file, const struct settings *s)

@@ -47,6 +47,8 @@ uint64_t joined_length(uint8_t *store, struct bh_place p)
 uint64_t whole_length(uint8_t *store, struct bh_place p)
 {
     uint64_t joined = joined_length(store, p);
+    if (p.order == BH_COLUMN_ORDER)
+        return tables_of(store, p).least * p.rows * BH_ROW_INFO;
     return p.protection ? joined / BH_ROW / p.rows * p.rows * BH_ROW_INFO : joined;
 }
 

@@ -39,10 +39,13 @@ static const struct {
     {"Output", "the output is too short"},
     [BH_LINE] = {"Line", "a line of the description has a fault"},
     [BH_EXTRA] = {"Extra", "bytes stand behind line 15 of the description"},
+    [BH_LOST] = {"Lost", "a row lacks more than sixteen bytes, so it cannot be restored yet"},
+    [BH_CODE] = {"Code", "what came of a row fits no coded row"},
     [BH_EDITION] = {"Edition", "the packet is not of the edition that was opened"},
 };
 
 enum talk talk = PLAIN;
+int hushed;
 
 const char *colour(FILE *to, enum colour which)
 {
@@ -83,18 +86,19 @@ void usage(const char *format, ...)
 
 void complain(const char *format, ...)
 {
-    SAY(YELLOW);
+    if (!hushed)
+        SAY(YELLOW);
 }
 
 void remark(const char *format, ...)
 {
-    if (talk > QUIET)
+    if (talk > QUIET && !hushed)
         SAY(NO_COLOUR);
 }
 
 void detail(const char *format, ...)
 {
-    if (talk == VERBOSE)
+    if (talk == VERBOSE && !hushed)
         SAY(NO_COLOUR);
 }
 
