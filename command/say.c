@@ -32,7 +32,7 @@ static const struct {
     {"Full", "all eight places are in use"},
     {"Room", "the store has no room for so many slots"},
     {"Missing", "a packet has not come yet"},
-    {"Shape", "the rows that came are not whole tables"},
+    {"Shape", "what came is not whole tables"},
     {"Size", "the length is not one that the file can have"},
     {"Padding", "a byte beyond the length is not 0, so the length is wrong"},
     {"Count", "the file would need more than 1048575 packets"},
