@@ -8,9 +8,9 @@ _brithelva() {
         return
     fi
     case ${COMP_WORDS[1]} in
-    pack) options='--resource --type --update --protection --rows --size --edition --output --force' ;;
+    pack) options='--resource --type --update --protection --rows --size --edition --order --output --force' ;;
     new) options='--size' ;;
-    open) options='--resource --count --type --update --protection --rows --size --edition --wait' ;;
+    open) options='--resource --count --type --update --protection --rows --size --edition --order --wait' ;;
     offer) options='--each --json --strict --wait' ;;
     status) options='--resource --type --json --wait' ;;
     verify) options='--resource --type --mend --json --wait' ;;
@@ -27,6 +27,7 @@ _brithelva() {
     esac
     case $before in
     --type | --edition) mapfile -t COMPREPLY < <(compgen -W '1 2' -- "$word") ;;
+    --order) mapfile -t COMPREPLY < <(compgen -W 'rows columns' -- "$word") ;;
     --protection) mapfile -t COMPREPLY < <(compgen -W '0 1' -- "$word") ;;
     --mode) mapfile -t COMPREPLY < <(compgen -W 'stream file' -- "$word") ;;
     --resource | --count | --update | --rows | --size | --length | --wait | --service | --kind | --charset | --name | --title | --summary | --keywords | --path | --from | --until) ;;

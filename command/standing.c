@@ -54,11 +54,11 @@ static void say_edition(struct bh_place p, uint64_t answer, uint64_t refused)
         printf("  nothing of edition %u has come; the station may send edition %d, for which a place is opened with --edition %d\n", p.edition, 3 - p.edition, 3 - p.edition);
 }
 
-/* The same of the order. */
-static void say_order(struct bh_place p, uint64_t answer, uint64_t refused)
+/* The same of the order. A packet of zeros alone is a coded row, and stored in the wrong order too. */
+static void say_order(uint64_t answer, uint64_t refused)
 {
-    if (bh_number(answer) == BH_ACCEPTED && bh_filled(answer) == 0 && refused > 0)
-        printf("  nothing %s has come; the station may send by columns, for which a place is opened with --order columns\n", p.protection ? "that was sent by rows" : "without protection");
+    if (bh_number(answer) == BH_ACCEPTED && refused > bh_filled(answer))
+        puts("  more packets came that were sent by columns than were stored; the station may send so, and a place that is opened with --order columns takes them");
 }
 
 /* Whether what came by columns suffices. */
@@ -99,7 +99,7 @@ static void say_place(struct archive *a, int i, uint64_t answer)
     else
         printf("handed out %" PRIu64 " time%s\n", handed, handed == 1 ? "" : "s");
     say_edition(p, answer, count_of(a, i, EDITIONS));
-    say_order(p, answer, count_of(a, i, ORDERS));
+    say_order(answer, count_of(a, i, ORDERS));
     if (bh_number(answer) == BH_ACCEPTED && p.order == BH_COLUMN_ORDER)
         say_reach(a, p);
 }

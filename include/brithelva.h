@@ -28,9 +28,10 @@
  * loses the packet. What was lost is restored when the file is handed out, in every row that lacks at most sixteen bytes. A place is opened in
  * one order; nothing in a packet says which one its sender uses. Where none is named row order is meant, and without protection there is no
  * other. What a caller can get wrong, though each call does what is said here:
- * - Packets sent by columns of a size that is no multiple of 255 are 7 at a row place, and of a size that is one, 13 or 14: a place in the wrong
- *   order collects nothing. The other way round packets sent by rows may be stored in a column place, if count and M agree; that is
- *   found when the file is handed out, nearly always by 32.
+ * - A place in the wrong order collects nothing of use. Packets sent by columns are 7 at a row place where their size is no multiple of 255, and
+ *   else 13 or 14, unless their bytes are coded rows all the same, as zeros alone are (where M is 1 both orders are one). Packets sent by
+ *   rows are stored in a column place, if count and M agree and they came without a wrong byte; that is found when the file is handed out,
+ *   nearly always by 32.
  * - Wrong bytes are found by a row with at most fifteen losses, and never put right: 32. A row with sixteen losses fits some coded row whatever
  *   its other bytes are, so a wrong one goes unnoticed there, and the row is filled with other bytes than were sent. A store that may have
  *   changed since is judged by checks of the caller's own before a file is handed out of it.
