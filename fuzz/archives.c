@@ -1,11 +1,12 @@
 /*
- * Damaged archives, chosen by bytes: a small archive of version 1 or 2, the latter with editions in its record or from before them, with some of its bytes
+ * Damaged archives, chosen by bytes: a small archive of version 1 or 2, the latter with all that its record has or from before orders, or editions, with some of its bytes
  * altered, changes put into its journal, and its CRCs made right again where that is chosen, so that what stands behind them is reached. The same bytes make
  * the same archive, whether a fuzzer or the random driver below chose them.
  *
  * It is opened to be read and to be written. What is refused stays as it was, byte for byte, with nothing beside it. Looking changes nothing, what was mended
- * is sound, and what was accepted and changed is accepted again, as it was left. A record from before editions is carried over by the first change, that is
- * told once, and its places mean edition 2; a packet is taken by a place of its own edition alone. The command's own files are at work here; only its messages
+ * is sound, and what was accepted and changed is accepted again, as it was left. A record from before is carried over by the first change, that is told once,
+ * and its places mean row order, and edition 2 where they have none; a packet is taken by a place of its own edition alone. What is said of a place in column
+ * order, whether what came suffices, is what the library then does. The command's own files are at work here; only its messages
  * are not.
  */
 #define _GNU_SOURCE
@@ -118,6 +119,14 @@ void detail(const char *format, ...)
     (void)format;
 }
 
+/* no description is listened to here */
+uint64_t told_length(struct archive *a, struct bh_place file)
+{
+    (void)a;
+    (void)file;
+    return 0;
+}
+
 /* ---- the file */
 
 static char folder[256], path[300];
@@ -199,19 +208,20 @@ ssize_t getrandom(void *to, size_t n, unsigned flags)
     return (ssize_t)n;
 }
 
-/* ---- the archives that are damaged: two places with protection, two without, one of each in edition 1, a file and a description under one resource, a gap, and
- * three changes that have not gone to their place */
+/* ---- the archives that are damaged: two places with protection, two without, one of each in edition 1, a file and a description under one resource, a gap, one
+ * in column order, which the older ones do not have, and changes that have not gone to their place */
 
-enum form { VERSION_1, BEFORE_EDITIONS, USUAL, FORMS };
+enum form { VERSION_1, BEFORE_EDITIONS, BEFORE_ORDERS, USUAL, FORMS };
+static const size_t place_length[FORMS] = {OLD_PLACE, OLD_PLACE, EDITION_PLACE, BH_PLACE};
 static uint8_t whole[FORMS][ROOM], image[ROOM], after[ROOM];
 static size_t whole_size[FORMS], size;
 static struct archive parts; /* of the image, if it is of version 2 */
 
 static const struct {
     uint16_t resource, slot;
-    uint8_t type, protection, edition;
+    uint8_t type, protection, rows, edition, order;
     uint32_t count;
-} plan[] = {{7, 510, 1, 1, 2, 3}, {8, 20, 2, 0, 1, 20}, {9, 30, 1, 0, 2, 3}, {10, 300, 1, 0, 2, 2}, {7, 255, 2, 1, 1, 2}};
+} plan[] = {{7, 510, 1, 1, 1, 2, 0, 3}, {8, 20, 2, 0, 1, 1, 0, 20}, {9, 30, 1, 0, 1, 2, 0, 3}, {10, 300, 1, 0, 1, 2, 0, 2}, {7, 255, 2, 1, 1, 1, 0, 2}, {11, 30, 1, 1, 2, 2, 1, 17}};
 enum { PLANNED = sizeof plan / sizeof *plan, CLOSED = 2 };
 
 /* What is refused for its edition, or accepted, is not that of its place, or is. */
@@ -224,17 +234,27 @@ static void judge_edition(const struct archive *a, size_t k, unsigned edition, u
         fault("a packet was refused for the edition that its place has");
 }
 
-/* Offers a packet of the plan in an edition, with so many bytes altered in each of its rows; answers what the library does. */
+static size_t length_of_content(size_t k)
+{
+    if (plan[k].order == BH_COLUMN_ORDER)
+        return (size_t)BH_ROW_INFO * plan[k].rows;
+    return plan[k].count * (size_t)(plan[k].protection ? plan[k].slot / BH_ROW * BH_ROW_INFO : plan[k].slot);
+}
+
+/* Offers a packet of the plan in an edition, with so many bytes altered in each of its rows, or in all by columns; answers what the library does. */
 static uint64_t offer_packet(struct archive *a, size_t k, uint32_t number, unsigned edition, unsigned wrong)
 {
     static uint8_t content[2000], sent[BH_LARGEST_PACKET];
-    size_t n = plan[k].count * (size_t)(plan[k].protection ? plan[k].slot / BH_ROW * BH_ROW_INFO : plan[k].slot);
+    size_t n = length_of_content(k);
     for (size_t i = 0; i < n; i++)
         content[i] = (uint8_t)(i * i + k);
-    uint64_t packed = bh_pack_as(content, n, plan[k].resource, plan[k].type, 0, plan[k].protection, 1, plan[k].slot, (uint16_t)edition, number, sent, sizeof sent);
+    uint64_t packed = bh_pack_as(content, n, plan[k].resource, plan[k].type, 0, plan[k].protection, plan[k].rows, plan[k].slot, (uint16_t)edition, plan[k].order, number, sent,
+                                 sizeof sent);
     if (bh_number(packed) != BH_ACCEPTED)
         fail("a packet of the plan cannot be made");
     uint32_t altered = 0;
+    for (unsigned i = 0; plan[k].order == BH_COLUMN_ORDER && i < wrong && BH_HEADER + i + BH_CRC < bh_value(packed); i++, altered++)
+        sent[BH_HEADER + i] ^= (uint8_t)(i + 1);
     for (size_t row = BH_HEADER; plan[k].protection && row + BH_ROW + BH_CRC <= bh_value(packed); row += BH_ROW)
         for (unsigned i = 0; i < wrong; i++, altered++)
             sent[row + (number * 7 + i * 31) % BH_ROW] ^= (uint8_t)(i + 1);
@@ -253,7 +273,7 @@ static void count_offer(struct archive *a, int place, uint64_t answer)
 
 static void store_packet(struct archive *a, size_t k, uint32_t number)
 {
-    uint64_t answer = offer_packet(a, k, number, plan[k].edition, number);
+    uint64_t answer = offer_packet(a, k, number, plan[k].edition, plan[k].order == BH_COLUMN_ORDER ? 0 : number);
     if (bh_number(answer) != BH_ACCEPTED || bh_is_repeat(answer))
         fail("a packet of the sound archive was not stored");
     count_offer(a, (int)k, answer);
@@ -272,8 +292,8 @@ static void make_settled(void)
     struct archive a = {0};
     point_into(&a, fresh, SMALL_STORE);
     for (size_t k = 0; k < PLANNED; k++) {
-        if (bh_open_as(a.record, BH_RECORD, a.store, a.store_size, plan[k].resource, plan[k].type, 0, plan[k].count, plan[k].protection, 1, plan[k].slot,
-                       plan[k].edition) != BH_ACCEPTED)
+        if (bh_open_as(a.record, BH_RECORD, a.store, a.store_size, plan[k].resource, plan[k].type, 0, plan[k].count, plan[k].protection, plan[k].rows,
+                       plan[k].slot, plan[k].edition, plan[k].order) != BH_ACCEPTED)
             fail("a place of the sound archive was refused");
         for (uint32_t number = 0; number < plan[k].count; number += 2)
             store_packet(&a, k, number);
@@ -297,11 +317,17 @@ static void keep_slot(struct archive *a, struct bh_place p, uint32_t number)
     settle(a);
 }
 
-/* A record as it was before editions: of each place its first bytes. */
-static void shorten(uint8_t *to, const uint8_t *record)
+/* A record as it was before: of each place its first bytes, and none in column order. */
+static void shorten(uint8_t *to, const uint8_t *record, size_t n)
 {
-    for (int i = 0; i < BH_PLACES; i++)
-        memmove(to + OLD_PLACE * i, record + BH_PLACE * i, OLD_PLACE);
+    uint8_t before[BH_RECORD];
+    memcpy(before, record, BH_RECORD);
+    for (int i = 0; i < BH_PLACES; i++) {
+        if (place_of(before, i).order == BH_COLUMN_ORDER)
+            memset(to + n * (size_t)i, 0, n);
+        else
+            memcpy(to + n * (size_t)i, before + BH_PLACE * i, n);
+    }
 }
 
 /* and one more of each place is in the journal */
@@ -323,7 +349,7 @@ static void make_whole(void)
     memcpy(old, archive_magic, sizeof archive_magic);
     put_number(old + AT_VERSION, 4, 1);
     put_number(old + AT_STORE_SIZE, 8, SMALL_STORE);
-    shorten(old + OLD_RECORDS, a.record);
+    shorten(old + OLD_RECORDS, a.record, OLD_PLACE);
     memcpy(old + OLD_STORE, a.store, SMALL_STORE);
     whole_size[VERSION_1] = OLD_STORE + SMALL_STORE;
     close_archive(&a);
@@ -356,7 +382,7 @@ static uint8_t *some_change(void)
 static uint64_t some_number(void)
 {
     const uint64_t journal = (uint64_t)(parts.journal - image), store = (uint64_t)(parts.store - image);
-    const uint64_t edges[] = {0, 1, OLD_RECORD, BH_RECORD, HEAD, STATE, AT_STATES, AT_STATES + PAGE, AT_CHECKS, journal, store, parts.size, parts.journal_size, SMALL_STORE,
+    const uint64_t edges[] = {0, 1, OLD_RECORD, EDITION_RECORD, BH_RECORD, HEAD, STATE, AT_STATES, AT_STATES + PAGE, AT_CHECKS, journal, store, parts.size, parts.journal_size, SMALL_STORE,
                               BH_USABLE_STORE, UINT32_MAX, (uint64_t)1 << 32, (uint64_t)1 << 63, UINT64_MAX};
     uint64_t edge = edges[pick() % (sizeof edges / sizeof *edges)];
     unsigned way = pick() % 8;
@@ -390,19 +416,20 @@ static uint8_t *some_state(void)
 
 static void alter_record_length(void)
 {
-    unsigned way = pick() % 4;
-    put_number(some_state() + AT_RECORD_LENGTH, 4, way == 0 ? some_number() : way == 1 ? OLD_RECORD : way == 2 ? BH_RECORD : BH_RECORD + 16);
+    static const uint16_t lengths[] = {OLD_RECORD, EDITION_RECORD, BH_RECORD, BH_RECORD + 16};
+    unsigned way = pick() % 5;
+    put_number(some_state() + AT_RECORD_LENGTH, 4, way == 4 ? some_number() : lengths[way]);
 }
 
-/* the edition has a place's last two bytes, in a record that has it */
+/* edition and order have a place's last bytes, in a record that has them */
 static void alter_place(enum form form)
 {
     static const struct {
         uint8_t at, n;
-    } fields[] = {{0, 2}, {2, 1}, {3, 1}, {4, 4}, {8, 1}, {9, 1}, {10, 2}, {12, 4}, {16, 2}};
-    unsigned which = pick() % (form == USUAL ? 9 : 8), place = pick() % BH_PLACES, way = pick() % 4;
+    } fields[] = {{0, 2}, {2, 1}, {3, 1}, {4, 4}, {8, 1}, {9, 1}, {10, 2}, {12, 4}, {16, 2}, {18, 2}};
+    unsigned which = pick() % (8 + (place_length[form] - OLD_PLACE) / 2), place = pick() % BH_PLACES, way = pick() % 4;
     uint8_t *record = form == VERSION_1 ? image + OLD_RECORDS + pick() % 2 * OLD_RECORD : some_state() + AT_RECORD;
-    uint8_t *field = record + (form == USUAL ? BH_PLACE : OLD_PLACE) * place + fields[which].at;
+    uint8_t *field = record + place_length[form] * place + fields[which].at;
     put_number(field, fields[which].n, way == 0 ? some_number() : number_at(field, fields[which].n) + (uint64_t)(int64_t)(int8_t)pick());
 }
 
@@ -533,21 +560,22 @@ static void make_right(int within)
     }
 }
 
-/* the usual archive as it was before editions, in its states and in the changes of its journal */
-static void make_narrow(void)
+/* the usual archive as it was before editions, or before orders, in its states and in the changes of its journal */
+static void make_narrow(enum form form)
 {
+    size_t length = BH_PLACES * place_length[form];
     memcpy(image, whole[USUAL], whole_size[USUAL]);
     uint8_t *states[8] = {image + AT_STATES, image + AT_STATES + PAGE};
     size_t n = 2;
     for (uint8_t *head = parts.journal; n < 8 && (head = change_behind(head)) != NULL;)
         states[n++] = head - STATE;
     for (size_t k = 0; k < n; k++) {
-        shorten(states[k] + AT_RECORD, states[k] + AT_RECORD);
-        memset(states[k] + AT_RECORD + OLD_RECORD, 0, BH_RECORD - OLD_RECORD);
-        put_number(states[k] + AT_RECORD_LENGTH, 4, OLD_RECORD);
+        shorten(states[k] + AT_RECORD, states[k] + AT_RECORD, place_length[form]);
+        memset(states[k] + AT_RECORD + length, 0, BH_RECORD - length);
+        put_number(states[k] + AT_RECORD_LENGTH, 4, length);
     }
     make_right(1);
-    memcpy(whole[BEFORE_EDITIONS], image, whole_size[BEFORE_EDITIONS] = whole_size[USUAL]);
+    memcpy(whole[form], image, whole_size[form] = whole_size[USUAL]);
 }
 
 /* ---- what is done with an archive, and judged */
@@ -582,6 +610,31 @@ static struct archive *try_to_open(int writing)
     return NULL;
 }
 
+/* What is said of a place in column order is what the library does with the length for which it is said; with no room for it nothing is written. */
+static void judge_reach(struct archive *a, struct bh_place p)
+{
+    if (bh_number(bh_status(a->record, BH_RECORD, a->store, a->store_size, p.resource, p.type)) != BH_ACCEPTED)
+        return;
+    struct reach r = reach_of(a, p);
+    uint64_t length = r.rows > 0 ? r.longest : whole_length(a->store, p);
+    unsigned number = bh_number(bh_hand_out(a->record, BH_RECORD, a->store, a->store_size, p.resource, p.type, length, NULL, 0));
+    int suffices = number == BH_CODE || number == BH_PADDING || number == BH_OUTPUT, unfit = number == BH_SIZE || number == BH_SHAPE;
+    if (suffices != (r.what == SUFFICIENT || r.what == BY_LENGTH) || (number == BH_LOST) != (r.what == LACKING) || unfit != (r.what == MISSHAPEN || r.what == NO_FILE))
+        fault("what is said of a place in column order is not so");
+    if (r.what == BY_LENGTH && bh_number(bh_hand_out(a->record, BH_RECORD, a->store, a->store_size, p.resource, p.type, r.longest + 1, NULL, 0)) != BH_LOST)
+        fault("what is said to depend on the length does not");
+}
+
+/* What was sent by columns is emptied where it is damaged, and the others beside it. */
+static void look_at_losable(struct archive *a, struct bh_place p, uint32_t k, int keep_it)
+{
+    empty_slot(a, p, k);
+    if (p.order != BH_COLUMN_ORDER || length_of(slot_of(a->store, p, k)) != 0)
+        fault("what was to be emptied is not empty");
+    if (keep_it)
+        keep_slot(a, p, k);
+}
+
 static void look_at_slots(struct archive *a, struct bh_place p, int mend, int keep_it)
 {
     for (uint32_t k = 0; k < p.count; k++) {
@@ -590,6 +643,10 @@ static void look_at_slots(struct archive *a, struct bh_place p, int mend, int ke
             fault("a finding that says two things");
         if (!mend || f.what == SOUND || f.what == BROKEN)
             continue;
+        if (f.what == LOSABLE) {
+            look_at_losable(a, p, k, keep_it);
+            continue;
+        }
         if (judge_slot(a, p, k, 0).what != SOUND)
             fault("what was mended is not sound");
         if (!keep_it)
@@ -613,12 +670,21 @@ static void look_at(struct archive *a, int mend, int keep_it)
             continue;
         if (find_place(a->record, p.resource, p.type) != i)
             fault("two places of one resource and type");
-        if (p.edition != 2 && (p.edition != 1 || older(a) != NULL))
+        int before_editions = a->version == 1 || number_at(a->state + AT_RECORD_LENGTH, 4) == OLD_RECORD;
+        if (p.edition != 2 && (p.edition != 1 || before_editions))
             fault("an edition that there is not, or was not");
-        if (whole_length(a->store, p) > joined_length(a->store, p))
+        if (p.order != BH_ROW_ORDER && (p.order != BH_COLUMN_ORDER || !p.protection || older(a) != NULL))
+            fault("an order that there is not, or was not");
+        if (p.order == BH_COLUMN_ORDER)
+            judge_reach(a, p);
+        else if (whole_length(a->store, p) > joined_length(a->store, p))
             fault("a file longer than what came");
         look_at_slots(a, p, mend, keep_it);
     }
+    for (int i = 0; mend && i < BH_PLACES; i++)
+        for (uint32_t k = 0; place_of(a->record, i).order == BH_COLUMN_ORDER && k < place_of(a->record, i).count; k++)
+            if (judge_slot(a, place_of(a->record, i), k, 0).what == LOSABLE)
+                fault("what could be emptied was not");
     if (!mend && memcmp(before, a->image, a->size) != 0)
         fault("looking changed the archive");
 }
@@ -746,16 +812,17 @@ static void use_image(unsigned way)
 int LLVMFuzzerTestOneInput(const uint8_t *data, size_t n)
 {
     static const uint8_t nothing[1];
-    static const enum form forms[] = {VERSION_1, BEFORE_EDITIONS, USUAL, USUAL};
+    static const enum form forms[] = {VERSION_1, BEFORE_EDITIONS, BEFORE_ORDERS, USUAL, USUAL, USUAL};
     if (whole_size[USUAL] == 0) {
         make_whole();
-        make_narrow();
+        make_narrow(BEFORE_EDITIONS);
+        make_narrow(BEFORE_ORDERS);
     }
     make_unknown(data, n);
     choice = n ? data : nothing;
     choices = n;
     unsigned way = pick(), how = pick();
-    enum form form = forms[pick() % 4];
+    enum form form = forms[pick() % 6];
     memset(image, 0, sizeof image);
     memcpy(image, whole[form], size = whole_size[form]);
     while (choices > 0)
