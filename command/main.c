@@ -32,7 +32,7 @@ static const struct command {
      "                 [--protection 0|1] [--rows M] [--size S] [--edition 1|2] [--order rows|columns] [--wait SECONDS]",
      "opens a place for the C packets of a file (type 1), or of its description (type 2) beside it: a\n"
      "      slot of S bytes for each, settings as in pack. It takes packets of its own edition alone. By columns\n"
-     "      S is exactly the size that the station sends, and packets may be lacking at the end"},
+     "      S has to be the size that the station sends, and not every packet has to come"},
     {"offer", "json each strict wait", offer, "offer ARCHIVE RECORDING.. [--each] [--json] [--strict] [--wait SECONDS]",
      "offers every packet found in the recordings (- for standard input), past noise, as they come, and\n"
      "      tells the tally, bytes mended among it; with --each also a line for every packet: resource, type,\n"
@@ -48,11 +48,10 @@ static const struct command {
      "hand-out ARCHIVE --resource N [--type 1|2] [--length L] -o FILE [--force]\n"
      "                 [--despite-conflicts] [--wait SECONDS]",
      "writes what a place has collected, L bytes, once every packet is there, or by columns so many that the\n"
-     "      rest can be restored, and each is as it was stored. Without\n"
-     "      --length a file has the length that its collected description names, and a description ends with\n"
-     "      its last line"},
+     "      rest can be restored, and each is as it was stored. Without --length a file has the length that its\n"
+     "      collected description names, and a description ends with its last line"},
     {"close", "resource type force wait", close_place, "close ARCHIVE --resource N [--type 1|2] [--force] [--wait SECONDS]",
-     "gives a place up; one that is complete and was never handed out only with --force"},
+     "gives a place up; one that is complete, or can be restored, and was never handed out only with --force"},
     {"describe", "json", describe, "describe TEXT [--json]",
      "what a description file (- for standard input) says: name, title, dates, kind, length and the rest"},
     {"description", "service mode resource update name kind title summary keywords charset path length file from until delete output force", description,

@@ -263,7 +263,8 @@ static inline int32_t bh_lowest_empty(uint64_t answer) { return (int32_t)(bh_val
  * taken too, up to the end of the last table, and zeros are written behind the file; without, only the one that came.
  * Refusals: 9; 10; 15; 21 a packet is missing; 22; 23 the length is not the one that came; 24; 26 room is below length.
  * Of a column place: the bytes of empty slots are losses, and every row that lacks at most sixteen bytes is restored; nothing else in a row
- * changes. How long a lost last packet was is told by `length` alone, through the number of tables that it needs. Where a slot is longer than a
+ * changes. A description can be had there at 239 * M * T, with the T for which 255 * M * T / slot, rounded up, is the count; of several the
+ * least where the last packet is lost. How long a lost last packet was is told by `length` alone, through the number of tables that it needs. Where a slot is longer than a
  * table, and the last packet is lost, files of several numbers of tables have the same count: one table too many is then 31, but one too
  * few is not found, and the file comes without its end. So the length has to come from where the file does, from its description.
  * Refusals there: 9; 10; 15; 23 `length` is 0 or above 16,777,216, or a file of this length has another count; 22 a slot that is filled has
