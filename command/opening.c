@@ -72,6 +72,15 @@ static void publish_opened(struct archive *a, int place, const uint8_t *record)
     publish_record(a, p, place, record);
 }
 
+/* By columns the count follows from the length, M and the size: one that no file has is told at once, and not when all has come. */
+static void doubt_count(struct archive *a, struct bh_place p)
+{
+    struct tables t = p.order == BH_COLUMN_ORDER ? tables_of(a->store, p) : (struct tables){0, 0};
+    if (t.least > t.most)
+        complain("%s: %s, is open, but no file has %" PRIu32 " packets of %u bytes in tables of %u rows: --count, --size or --rows may be wrong", a->path, place_words(p.resource, p.type), p.count, p.slot,
+                 p.rows);
+}
+
 int open_place(const struct arguments *a)
 {
     want(a->count == 1, "open", "one archive");
@@ -85,6 +94,7 @@ int open_place(const struct arguments *a)
     int result = EXIT_ACCEPTED;
     if (bh_number(answer) == BH_ACCEPTED) {
         publish_opened(&archive, find_place(record, s.resource, s.type), record);
+        doubt_count(&archive, place_of(record, find_place(record, s.resource, s.type)));
         detail("%s: %s, is open for %lld packets of edition %u%s; %" PRIu64 " bytes of the store are used", a->names[0], place_words(s.resource, s.type), a->packets, s.edition,
                s.order == BH_COLUMN_ORDER ? ", by columns" : "", bytes_used(record));
     } else {
