@@ -51,10 +51,11 @@ static int is_sound(const uint8_t *packet, size_t n)
     return mend_rows(copy + BH_HEADER, payload) >= 0 && is_as_sent(copy, n);
 }
 
-/* Whether it was sent by columns and refused for what rows have to be: they are not whole, or no coded rows, though the CRC says that nothing in it has changed. */
+/* Whether it was sent by columns and refused for what rows have to be: they are not whole, or no coded rows, though the CRC says that nothing in it has changed.
+ * A stream is never collected, in whichever order. */
 static int is_by_columns(const uint8_t *packet, size_t n, unsigned number)
 {
-    return (number == BH_ROWS || number == BH_REPAIR || number == BH_CRC_BAD) && is_as_sent(packet, n);
+    return packet[12] >> 6 != 0 && (number == BH_ROWS || number == BH_REPAIR || number == BH_CRC_BAD) && is_as_sent(packet, n);
 }
 
 /* fields of a packet, as bh_read_header gives them */
