@@ -8,7 +8,7 @@ Without FILE it reads standard input. The exit status is 1 if a line says wrong.
 
 import functools, re, sys
 
-from receiver import PLACE, TEN, Packer, Receiver, Refused, crc32, encode_row, house, read_description, read_fields, repair_row, span, write_description
+from receiver import PLACE, TEN, Packer, Receiver, Refused, crc32, encode_row, house, read_description, read_fields, read_header, repair_row, span, write_description
 
 LIMITS = {"file": 1_048_577, "store": 262_144, "held": 256, "bytes": 8_192, "out": 131_072}
 LONG, WORD, HALF, BYTE = 1 << 64, 1 << 32, 1 << 16, 1 << 8
@@ -111,7 +111,7 @@ class Run:
 
     def __init__(self):
         self.file, self.store, self.held, self.bytes, self.out = (bytearray() for _ in range(5))
-        self.settings, self.answer, self.packer = {**settings_of(0, 0, 0, 0, 0, 0), "edition": 2}, Answer(0, 0), None
+        self.settings, self.answer, self.packer = {**settings_of(0, 0, 0, 0, 0, 0), "edition": 2, "order": 0}, Answer(0, 0), None
 
     def do(self, line):
         words = line.split(" ")
@@ -230,6 +230,9 @@ class Run:
     def do_edition(self, words):
         self.settings["edition"] = numbers(words)[0] % HALF
 
+    def do_order(self, words):
+        self.settings["order"] = numbers(words)[0] % HALF
+
     def do_show_held(self, words):
         at, length = numbers(words)[:2]
         self.set("out", self.held[at : at + length])
@@ -256,8 +259,8 @@ class Run:
         return Receiver(self.held, self.store)
 
     def unnamed(self):
-        """The settings of a call that names no edition."""
-        return {**self.settings, "edition": 2}
+        """The settings of a call that names no edition and no order."""
+        return {**self.settings, "edition": 2, "order": 0}
 
     def house(self):
         return house(self.settings["resource"], self.settings["type"], self.settings["update"])
@@ -279,13 +282,19 @@ class Run:
             return mended
         self.call(work)
 
-    def do_read(self, words):
+    def read(self, reader, words):
         def work():
-            fields = read_fields(self.bytes)
+            fields = reader(self.bytes)
             if numbers(words)[0] < len(TEN):
                 raise Refused(26)
             overwrite(self.out, 0, b"".join(fields[name].to_bytes(4, "big") for name in TEN))
         self.call(work)
+
+    def do_read(self, words):
+        self.read(read_fields, words)
+
+    def do_read_header(self, words):
+        self.read(read_header, words)
 
     def do_describe(self, words):
         def work():

@@ -1,7 +1,7 @@
 #!/usr/bin/env python3
 """largest.py: reads the packets of the largest protected file from standard input and compares each, byte for byte, with its own.
 
-The file is 16,777,216 bytes from seed 1 (README.md here), resource 1, type 1, update 0, protection 1, M 255, P 255, edition 2: 276 tables of 255 packets.
+The file is 16,777,216 bytes from seed 1 (README.md here), resource 1, type 1, update 0, protection 1, M 255, P 255, edition 2, row order: 276 tables of 255 packets.
 Says how many there were, or names the first packet that differs and exits with 1. About half a minute of processor time, on as many as there are."""
 
 import multiprocessing, sys
@@ -9,7 +9,7 @@ import multiprocessing, sys
 from cases import generated
 from receiver import LIMIT, Packer, up
 
-SETTINGS = {"resource": 1, "type": 1, "update": 0, "protection": 1, "rows": 255, "size": 255, "edition": 2}
+SETTINGS = {"resource": 1, "type": 1, "update": 0, "protection": 1, "rows": 255, "size": 255, "edition": 2, "order": 0}
 LENGTH = 273
 TABLES = up(LIMIT, 239 * 255)
 PACKER = Packer(generated(1, LIMIT))

@@ -1,13 +1,13 @@
 """A second receiver and packer, written from documents 01, 02, 001 and 000 alone, to compare with.
 
 It shares nothing with the library: no table, no code, and other methods where another is natural. Products and CRC go bit by bit, checks come from
-the matrix of the code, repair is by Euclid's algorithm, fields are cut from one long number, tables are filled by a plain loop, lines of a
-description are taken by regular expressions, its texts and dates by the standard library. Plain on purpose."""
+the matrix of the code, repair is by Euclid's algorithm, losses are restored by elimination in that matrix, fields are cut from one long number, tables
+are filled by a plain loop, lines of a description are taken by regular expressions, its texts and dates by the standard library. Plain on purpose."""
 
 import datetime, functools, itertools, re
 
 LIMIT = 16_777_216
-REFUSALS = (*range(1, 27), 29, 30, 33)
+REFUSALS = (*range(1, 27), *range(29, 34))
 GENERATOR = [1, 59, 13, 104, 189, 68, 209, 30, 8, 163, 65, 41, 229, 98, 50, 36, 59]
 
 
@@ -196,6 +196,54 @@ def repair_rows(payload):
     return bytes(fixed), places_apart(fixed, payload)
 
 
+# ---- losses of a row, document 02, R-8
+
+
+def rest_of_one(i):
+    """What a row leaves that is 0 but for a 1 at byte i."""
+    return MATRIX[i] if i < 239 else bytes(i == 239 + j for j in range(16))
+
+
+def scaled(line, by):
+    return line.translate(MUL[by])
+
+
+def plus(a, b):
+    return bytes(x ^ y for x, y in zip(a, b))
+
+
+@functools.lru_cache(maxsize=4096)
+def elimination(lost):
+    """Of a row with these losses, at most sixteen: sixteen combinations of what its known bytes leave. The first ones are the lost bytes in their order,
+    the others have to be 0. Found by elimination: a line says how much of each lost byte's rest stands in one byte of the whole rest, and behind that
+    which bytes of it were combined."""
+    rests = [rest_of_one(i) for i in lost]
+    lines = [bytes(rest[j] for rest in rests) + bytes(j == i for i in range(16)) for j in range(16)]
+    for k in range(len(lost)):
+        pivot = next(j for j in range(k, 16) if lines[j][k])
+        lines[k], lines[pivot] = lines[pivot], lines[k]
+        lines[k] = scaled(lines[k], INVERSE[lines[k][k]])
+        lines = [plus(line, scaled(lines[k], line[k])) if j != k else line for j, line in enumerate(lines)]
+    # by bytes of the rest: what each of them adds to all sixteen
+    return [bytes(line[len(lost) + j] for line in lines) for j in range(16)]
+
+
+def restored_row(row, lost):
+    """The one coded row that has the known bytes of this one; the bytes at the lost places, at most sixteen, are not looked at."""
+    fixed = bytearray(row)
+    for i in lost:
+        fixed[i] = 0
+    told = 0
+    for byte, adds in zip(rest_of(fixed), elimination(tuple(lost))):
+        told ^= int.from_bytes(scaled(adds, byte), "big")
+    told = told.to_bytes(16, "big")
+    if any(told[len(lost) :]):
+        raise Refused(32)
+    for i, byte in zip(lost, told):
+        fixed[i] = byte
+    return bytes(fixed)
+
+
 # ---- fields, section 2: one long number, cut into its fields
 
 WIDTHS = [("mark", 24), ("resource", 16), ("number", 20), ("update", 4), ("length", 12), ("count", 20), ("type", 2), ("protection", 2), ("rows", 8), ("reserved", 4)]
@@ -241,7 +289,12 @@ def number_fits(f):
     return f["number"] < f["count"]
 
 
-def read_fields(packet):
+def read_header(packet):
+    """The same as read_fields for packets of either order: any payload will do (document 02, R-8)."""
+    return read_fields(packet, whole_rows=False)
+
+
+def read_fields(packet, whole_rows=True):
     """The fields as sent and the packet's edition, or the first refusal of 1 to 8."""
     if len(packet) < 19:
         raise Refused(1)
@@ -256,7 +309,7 @@ def read_fields(packet):
         raise Refused(5)
     if not number_fits(f):
         raise Refused(6)
-    if f["protection"] == 1 and (len(packet) - 18) % 255:
+    if whole_rows and f["protection"] == 1 and (len(packet) - 18) % 255:
         raise Refused(7)
     if f["resource"] == 0:
         raise Refused(8)
@@ -266,36 +319,50 @@ def read_fields(packet):
 # ---- packing, sections 3 and 4
 
 
-def size_fits(protection, size):
-    """The range of P, which is that of S too."""
-    return 1 <= size <= 4077 if protection == 0 else 255 <= size <= 3825 and size % 255 == 0
+ROWS, COLUMNS = 0, 1
+
+
+def size_fits(s):
+    """The range of P, which is that of S too. Whole rows are asked for only where rows are sent."""
+    return 255 <= s["size"] <= 3825 and s["size"] % 255 == 0 if s["protection"] and s["order"] == ROWS else 1 <= s["size"] <= 4077
+
+
+def order_fits(s):
+    """Columns are those of a coded table, so without protection there are none."""
+    return s["order"] == ROWS or s["order"] == COLUMNS and s["protection"] == 1
 
 
 def settings_fit(s):
     """M is not judged without protection."""
     return (1 <= s["resource"] <= 65535 and s["type"] in (1, 2) and 0 <= s["update"] <= 15 and s["protection"] in (0, 1)
-            and (s["protection"] == 0 or 1 <= s["rows"] <= 255) and size_fits(s["protection"], s["size"]) and s["edition"] in (1, 2))
+            and (s["protection"] == 0 or 1 <= s["rows"] <= 255) and size_fits(s) and s["edition"] in (1, 2) and order_fits(s))
 
 
 def house(resource, kind, update):
-    return {"resource": resource, "type": kind, "update": update, "protection": 1, "rows": 32, "size": 255, "edition": 2}
+    return {"resource": resource, "type": kind, "update": update, "protection": 1, "rows": 32, "size": 255, "edition": 2, "order": ROWS}
 
 
 def up(a, b):
     return -(-a // b)
 
 
-def coded_table(file, m, t):
-    """The rows of table t with their checks. It is filled position by position, down each column, as the text says it."""
+def coded_table(file, m, t, order=ROWS):
+    """Table t as it is sent: its rows with their checks, or the columns of these. It is filled position by position, down each column, as the text says
+    it."""
     table = [bytearray(239) for _ in range(m)]
     for place, byte in enumerate(file[t * 239 * m : (t + 1) * 239 * m]):
         table[place % m][place // m] = byte
-    return b"".join(row + encode_row(row) for row in table)
+    rows = [row + encode_row(row) for row in table]
+    return b"".join(rows if order == ROWS else map(bytes, zip(*rows)))
 
 
-def coded_file(file, m):
+def coded_file(file, m, order=ROWS):
     """All bytes that are sent under protection, table after table."""
-    return b"".join(coded_table(file, m, t) for t in range(up(len(file), 239 * m)))
+    return b"".join(coded_table(file, m, t, order) for t in range(up(len(file), 239 * m)))
+
+
+def coded_length(length, m):
+    return 255 * m * up(length, 239 * m)
 
 
 class Packer:
@@ -304,17 +371,17 @@ class Packer:
     def __init__(self, file):
         self.file, self.kept = bytes(file), {}
 
-    def table(self, m, t):
-        if (m, t) not in self.kept:
-            self.kept[m, t] = coded_table(self.file, m, t)
-        return self.kept[m, t]
+    def table(self, m, order, t):
+        if (m, order, t) not in self.kept:
+            self.kept[m, order, t] = coded_table(self.file, m, t, order)
+        return self.kept[m, order, t]
 
-    def sent(self, m, start, end):
+    def sent(self, m, order, start, end):
         """These bytes of what is sent: of the file itself where m is 0, else of the tables in which they stand."""
         if m == 0:
             return self.file[start:end]
         first = start // (255 * m)
-        tables = b"".join(self.table(m, t) for t in range(first, up(end, 255 * m)))
+        tables = b"".join(self.table(m, order, t) for t in range(first, up(end, 255 * m)))
         return tables[start - first * 255 * m : end - first * 255 * m]
 
     def packet(self, s, n, room):
@@ -324,7 +391,7 @@ class Packer:
         if not 1 <= len(self.file) <= LIMIT:
             raise Refused(23)
         m, size = s["rows"] if s["protection"] else 0, s["size"]
-        length = 255 * m * up(len(self.file), 239 * m) if m else len(self.file)
+        length = coded_length(len(self.file), m) if m else len(self.file)
         count = up(length, size)
         if count > 1048575:
             raise Refused(25)
@@ -332,7 +399,7 @@ class Packer:
             raise Refused(6)
         if 18 + min(size, length - n * size) > room:
             raise Refused(26)
-        payload = self.sent(m, n * size, min((n + 1) * size, length))
+        payload = self.sent(m, s["order"], n * size, min((n + 1) * size, length))
         header = header_of({**s, "mark": MARK, "number": n, "length": 18 + len(payload), "count": count, "rows": m, "reserved": 0})
         packet = in_edition(header, m, s["edition"]) + payload
         return packet + crc32(packet).to_bytes(4, "big")
@@ -340,7 +407,7 @@ class Packer:
 
 # ---- the record, section 5: eight places of equal length, one behind the other, numbers little-endian. A place is in use if its resource is not 0
 
-PLACE = [("resource", 2), ("type", 1), ("update", 1), ("count", 4), ("protection", 1), ("rows", 1), ("slot", 2), ("start", 4), ("edition", 2)]
+PLACE = [("resource", 2), ("type", 1), ("update", 1), ("count", 4), ("protection", 1), ("rows", 1), ("slot", 2), ("start", 4), ("edition", 2), ("order", 2)]
 PLACE_LENGTH = sum(width for _, width in PLACE)
 RECORD_LENGTH = 8 * PLACE_LENGTH
 
@@ -444,7 +511,7 @@ class Receiver:
         """The payload in slot k, empty for an empty slot."""
         at = p["start"] + k * (p["slot"] + 2)
         length = self.store[at] + 256 * self.store[at + 1]
-        if length > p["slot"] or (p["protection"] == 1 and length % 255):
+        if length > p["slot"] or (p["protection"] == 1 and p["order"] == ROWS and length % 255):
             raise Refused(15)
         return bytes(self.store[at + 2 : at + 2 + length])
 
@@ -452,9 +519,9 @@ class Receiver:
         return [self.slot(p, k) for k in range(p["count"])]
 
     def offer(self, packet):
-        """Stored or Repeat, and how many bytes of the payload were mended: 0 without protection."""
-        self.used()
-        f = read_fields(packet)
+        """Stored or Repeat, and how many bytes of the payload were mended: 0 without protection, and in column order, where nothing is."""
+        columns = [named(p) for p in self.used().values() if p["order"] == COLUMNS]
+        f = read_header(packet) if named(fields_of(packet)) in columns else read_fields(packet)
         _, p = self.find(*named(f))
         if any(f[k] != p[k] for k in ("update", "count", "protection")) or (f["protection"] == 1 and f["rows"] != p["rows"]):
             raise Refused(11)
@@ -463,7 +530,7 @@ class Receiver:
         payload, mended = bytes(packet[14:-4]), 0
         if len(payload) > p["slot"]:
             raise Refused(12)
-        if f["protection"] == 1:
+        if f["protection"] == 1 and p["order"] == ROWS:
             payload, mended = repair_rows(payload)
         if crc32(packet[:14] + payload) != int.from_bytes(packet[-4:], "big"):
             raise Refused(14)
@@ -489,12 +556,10 @@ class Receiver:
         """The file of that length, for an output of that room."""
         _, p = self.find(resource, kind)
         slots = self.slots(p)
-        if b"" in slots:
-            raise Refused(21, slots.index(b""))
-        sent = b"".join(slots)
-        file = undo_tables(sent, p["rows"], length) if p["protection"] else sent
-        if length != len(file):
-            raise Refused(23)
+        if p["order"] == COLUMNS:
+            file = file_of_columns(slots, p["rows"], p["slot"], length)
+        else:
+            file = file_of_rows(slots, p["rows"] if p["protection"] else 0, length)
         if room < length:
             raise Refused(26)
         return file
@@ -504,21 +569,60 @@ class Receiver:
         self.held[span(i)] = bytes(PLACE_LENGTH)
 
 
+def file_of_rows(slots, m, length):
+    """The file of that length out of what all slots hold; m is 0 without protection. Refusals 21 to 24."""
+    if b"" in slots:
+        raise Refused(21, slots.index(b""))
+    sent = b"".join(slots)
+    file = undo_tables(sent, m, length) if m else sent
+    if length != len(file):
+        raise Refused(23)
+    return file
+
+
+def file_of_columns(slots, m, size, length):
+    """The file of that length out of what some slots hold; refusals 23, 22, 31, 32, 24."""
+    total = coded_length(length, m)
+    if not 1 <= length <= LIMIT or up(total, size) != len(slots):
+        raise Refused(23)
+    sizes = [min(size, total - k * size) for k in range(len(slots))]
+    if any(payload and len(payload) != n for payload, n in zip(slots, sizes)):
+        raise Refused(22)
+    sent = b"".join(payload.ljust(n, b"\0") for payload, n in zip(slots, sizes))
+    lacks = b"".join(bytes([not payload]) * n for payload, n in zip(slots, sizes))
+    starts = [at + row for at in range(0, total, 255 * m) for row in range(m)]
+    lost = [[c for c, gone in enumerate(lacks[at : at + 255 * m : m]) if gone] for at in starts]
+    for k, places in enumerate(lost):
+        if len(places) > 16:
+            raise Refused(31, k)
+    rows = [restored_row(sent[at : at + 255 * m : m], places) for at, places in zip(starts, lost)]
+    return cut_padding(joined_tables(rows, m), length)
+
+
 def undo_tables(sent, m, length):
     """The file of that length out of the joined rows; refusals 22, 23, 24."""
-    rows = len(sent) // 255
-    if rows % m:
+    rows = [sent[at : at + 255] for at in range(0, len(sent), 255)]
+    if len(rows) % m:
         raise Refused(22)
-    if up(length, 239 * m) != rows // m:
+    if up(length, 239 * m) != len(rows) // m:
         raise Refused(23)
+    return cut_padding(joined_tables(rows, m), length)
+
+
+def joined_tables(rows, m):
+    """What stands in the information columns of all tables, down each column."""
     whole = bytearray()
-    for t in range(rows // m):
+    for t in range(len(rows) // m):
         for column in range(239):
             for row in range(m):
-                whole.append(sent[(t * m + row) * 255 + column])
+                whole.append(rows[t * m + row][column])
+    return bytes(whole)
+
+
+def cut_padding(whole, length):
     if any(whole[length:]):
         raise Refused(24)
-    return bytes(whole[:length])
+    return whole[:length]
 
 
 # ---- description files, document 02, R-4, and 001, section 7.2. An attribute a line, by the line's number: a text as its bytes, a number, a time as
