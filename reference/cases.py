@@ -25,7 +25,7 @@ def steps(x):
         yield x >> 24
 
 
-@functools.lru_cache(maxsize=32)
+@functools.lru_cache(maxsize=512)
 def generated(seed, length):
     """The first bytes of `steps`, in a loop of its own: files have up to a million."""
     x, out = seed, bytearray(length)

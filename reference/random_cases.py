@@ -8,12 +8,13 @@ import random, sys
 
 from cases import Case, Run
 from random_descriptions import Choices, Descriptions
-from receiver import GENERATOR, MARK, PLACE, PLACE_LENGTH, RECORD_LENGTH, header_of, place_at, read_description, up
+from receiver import COLUMNS, GENERATOR, MARK, PLACE, PLACE_LENGTH, RECORD_LENGTH, ROWS, coded_length, header_of, place_at, read_description, up
 
 FIELDS = ["resource", "type", "update", "protection", "rows", "size"]
 RESOURCES = list(range(1, 12)) + [256, 65535]
 ODD_TYPES = [0, 0, 0, 0, 3, 3, 5, 6, 129, 255]
 ODD_EDITIONS = [0, 3, 255, 256, 257, 258, 513, 32769, 65535]
+ODD_ORDERS = [2, 3, 255, 256, 257, 32768, 65535]
 
 
 def named(s):
@@ -30,8 +31,11 @@ def hexes(data):
 
 def count_of(s):
     """The number of packets of a sender's file."""
-    m = s["rows"]
-    return up(255 * m * up(s["length"], 239 * m) if s["protection"] else s["length"], s["size"])
+    return up(coded_length(s["length"], s["rows"]) if s["protection"] else s["length"], s["size"])
+
+
+def in_columns(s):
+    return s["order"] == COLUMNS
 
 
 class Writer(Choices):
@@ -82,14 +86,22 @@ class Writer(Choices):
 
     def any_file(self):
         s = {"resource": self.pick(*RESOURCES), "type": self.pick(1, 2), "update": self.below(16), "protection": self.pick(0, 1), "edition": self.pick(1, 2),
-             "seed": self.below(1 << 32)}
+             "order": ROWS, "seed": self.below(1 << 32)}
         if s["protection"]:
             s["rows"], s["size"] = self.pick(1, 2, 2, 3, 4, 5, 9), 255 * self.pick(1, 1, 1, 2, 2, 3, 15)
             s["length"] = 1 + self.below(239 * s["rows"] * self.pick(1, 1, 1, 2, 3))
+            if self.often(0.35):
+                s["order"], s["size"] = COLUMNS, self.column_size(s)
         else:
             s["rows"], s["size"] = self.pick(0, 0, 0, 7, 255), self.pick(1, 2, 7, 8, 30, 30, 100, 100, 255, 1000, 4077)
             s["length"] = 1 + self.below(s["size"] * self.pick(1, 3, 8, 12))
         return s
+
+    def column_size(self, s):
+        """Mostly such that a lost packet costs a row no more than sixteen bytes, and no more than some hundred packets."""
+        columns = self.pick(1, 1, 2, 3, 5, 8, 15, 16, 17)
+        size = self.pick(1, s["rows"], 255, 256, 510, 1000, 4077, *[max(s["rows"] * columns + self.pick(-1, 0, 0, 1), 1)] * 8)
+        return max(size, up(coded_length(s["length"], s["rows"]), 400))
 
     def any_sender(self):
         if self.senders and self.often(0.9):
@@ -99,7 +111,9 @@ class Writer(Choices):
     def broken(self, s):
         """The same with one setting out of its range or at its edge."""
         wrong = {"resource": [0], "type": [0, 3, 4, 255], "update": [16, 255], "protection": [2, 3, 255], "rows": [0, 255],
-                 "size": [0, 1, 254, 256, 3825, 3826, 4077, 4078, 4080, 65535], "edition": ODD_EDITIONS}
+                 "size": [0, 1, 254, 256, 3825, 3826, 4077, 4078, 4080, 65535], "edition": ODD_EDITIONS, "order": [1 - s["order"], *ODD_ORDERS]}
+        if in_columns(s):
+            wrong["protection"] = [0, 0, 2]
         name = self.pick(*wrong)
         return {**s, name: self.pick(*wrong[name])}
 
@@ -109,6 +123,12 @@ class Writer(Choices):
         ranges = [65536, 256, 256, 256, 256, 65536]
         self.say("settings " + " ".join(str(self.wrapped(s[name], r)) for name, r in zip(FIELDS, ranges)))
         self.say_edition(s["edition"])
+        self.say_order(s["order"])
+
+    def say_order(self, order):
+        """Only where it is another, since settings leave it."""
+        if self.run.settings["order"] != order or self.often(0.1):
+            self.say(f"order {self.wrapped(order, 65536)}")
 
     def say_edition(self, edition):
         """Only where it is another, since settings leave it."""
@@ -116,11 +136,14 @@ class Writer(Choices):
             self.say(f"edition {self.wrapped(edition, 65536)}")
 
     def named_or_not(self, call, s):
-        """The call by its name that takes the edition; or, where that is the one meant without a name, now and then by the other, whatever is set."""
-        if s["edition"] != 2 or self.often(0.5):
+        """The call by its name that takes edition and order; or, where these are the ones meant without a name, now and then by the other, whatever is
+        set."""
+        if s["edition"] != 2 or s["order"] != ROWS or self.often(0.5):
             return call + "-as"
         if self.often(0.3):
             self.say_edition(self.pick(1, 1, *ODD_EDITIONS))
+        if self.often(0.3):
+            self.say_order(self.pick(COLUMNS, COLUMNS, *ODD_ORDERS))
         return call
 
     def say_file(self, s):
@@ -161,14 +184,14 @@ class Writer(Choices):
         """Mostly such as may stand in a packet of this sender."""
         if self.often(0.2):
             return self.pick(0, 1, 2, 254, 256, 4077, 4078)
-        return 255 * self.pick(1, 1, 2, 3, 15) if s["protection"] else self.pick(1, s["size"], min(s["size"] + 1, 4077))
+        return 255 * self.pick(1, 1, 2, 3, 15) if s["protection"] and (not in_columns(s) or self.often(0.4)) else self.pick(1, s["size"], s["size"], min(s["size"] + 1, 4077))
 
     # ---- steps: a new record and store, opening and closing
 
     def step_fresh(self):
         self.senders = {}
         if self.often(0.3):
-            self.say(f"held {self.pick(0, 1, 128, RECORD_LENGTH - 1, RECORD_LENGTH + 1, 256)}")
+            self.say(f"held {self.pick(0, 1, 128, 144, RECORD_LENGTH - 1, RECORD_LENGTH + 1, 256)}")
             self.any_call()
         self.say(f"store {self.below(256)} {self.pick(self.below(100), 1500, 6000, 6000, 20000, 20000, 60000, 60000)}")
         self.say(f"held {RECORD_LENGTH}")
@@ -189,8 +212,8 @@ class Writer(Choices):
         self.call(f"{self.pick('open', 'open-as', 'open-as')} {self.pick(count_of(s), count_of(s), 0, 1, 1048575, 1048576, 4294967295)}")
 
     def open_house(self, s):
-        s = {**s, "protection": 1, "rows": 32, "size": 255, "edition": 2, "length": 1 + self.below(7648)}
-        self.say_settings({**s, "rows": self.below(256), "size": self.below(5000), "edition": self.pick(1, 2, *ODD_EDITIONS)})
+        s = {**s, "protection": 1, "rows": 32, "size": 255, "edition": 2, "order": ROWS, "length": 1 + self.below(7648)}
+        self.say_settings({**s, "rows": self.below(256), "size": self.below(5000), "edition": self.pick(1, 2, *ODD_EDITIONS), "order": self.pick(0, 1, *ODD_ORDERS)})
         if self.call(f"open-house {count_of(s)}"):
             self.senders[named(s)] = s
 
@@ -203,7 +226,7 @@ class Writer(Choices):
     def step_offer(self):
         s = self.any_sender()
         s = self.pick(s, s, s, s, s, {**s, "seed": s["seed"] + 1}, {**s, "update": (s["update"] + 1) % 16}, {**s, "type": 3 - s["type"]},
-                      {**s, "edition": 3 - s["edition"]}, {**s, "edition": 3 - s["edition"], "seed": s["seed"] + 1})
+                      {**s, "edition": 3 - s["edition"]}, {**s, "edition": 3 - s["edition"], "seed": s["seed"] + 1}, {**s, "order": 1 - s["order"]})
         self.say_packet(s, self.below(count_of(s)))
         for _ in range(self.pick(0, 0, 0, 1, 1, 1, 2)):
             self.pick(self.spoil_rows, self.spoil_rows, self.spoil_each_row, self.spoil_each_row, self.spoil_row, self.spoil_bits, self.spoil_header,
@@ -215,13 +238,13 @@ class Writer(Choices):
     def offer_mendable(self, s, n):
         """Altered where that can be mended."""
         self.say_packet(s, n)
-        if s["protection"]:
+        if s["protection"] and not in_columns(s):
             self.spoil_each_row()
         self.call("offer")
 
     def step_mend(self):
-        """Packets of a protected file, each in copies that are altered in other places; mostly into a place that is opened anew for them."""
-        protected = [s for s in self.senders.values() if s["protection"]]
+        """Packets of a protected file in row order, each in copies that are altered in other places; mostly into a place that is opened anew for them."""
+        protected = [s for s in self.senders.values() if s["protection"] and not in_columns(s)]
         if not protected:
             return self.step_open()
         s = self.pick(*protected)
@@ -240,7 +263,7 @@ class Writer(Choices):
         s = self.any_sender()
         sent = {**s, "edition": self.pick(s["edition"], 3 - s["edition"], 3 - s["edition"]), "seed": s["seed"] + self.pick(0, 0, 0, 1)}
         if self.often(0.2):
-            self.say(f"random {self.below(1000)} {min(18 + s['size'] + (255 if s['protection'] else 1), 4095)}")
+            self.say(f"random {self.below(1000)} {min(18 + s['size'] + (255 if s['protection'] and not in_columns(s) else 1), 4095)}")
             self.say_header(**self.header_fields(sent))
             self.say("seal")
         else:
@@ -249,6 +272,65 @@ class Writer(Choices):
             self.spoil_spare()
         number = int.from_bytes(self.run.bytes[5:8].ljust(3, b"\0"), "big") >> 4
         self.random.choices([self.offer, self.offer_spoilt, self.offer_other_update, lambda: self.offer_to_damaged_slot(s, number)], [3, 2, 1, 2])[0]()
+
+    def step_rows(self):
+        """A packet of a column sender at whatever holds its resource and type, or only one of them, or nothing; its header altered as a rule."""
+        of_columns = [s for s in self.senders.values() if in_columns(s)]
+        s = self.pick(*of_columns) if of_columns and self.often(0.8) else {**self.any_file(), "protection": 1, "rows": 2, "size": 7, "length": 300, "order": COLUMNS}
+        self.say_packet(s, self.below(count_of(s)))
+        for _ in range(self.pick(0, 0, 1, 1, 2)):
+            self.say(self.pick("flip 7 1", "flip 11 1", "flip 13 16", "flip 13 15", "flip 13 1", "flip 12 192", "flip 12 192", "flip 12 48", "flip 4 1", "flip 4 3", "put 3 00 00",
+                               f"cut {self.below(60)}", "grow 4095", f"put 8 {hexes([len(self.run.bytes) >> 4 & 255, (len(self.run.bytes) & 15) << 4])}"))
+        if self.often(0.8):
+            self.say("seal")
+        self.call("offer")
+        self.call(f"{self.pick('read', 'read-header')} 10")
+
+    def step_columns(self):
+        """A file in column order, all or most of its packets sent; then losses up to and beyond what can be restored, a wrong byte or a wrong length in a
+        slot now and then, and the file handed out."""
+        of_columns = [s for s in self.senders.values() if in_columns(s)]
+        if not of_columns:
+            return self.open_well({**self.any_file(), "protection": 1, "rows": 2, "size": self.pick(1, 2, 16, 32, 33, 255), "length": 1 + self.below(900), "order": COLUMNS})
+        s = self.pick(*of_columns)
+        self.say_file(s)
+        self.say_settings(s)
+        count = count_of(s)
+        self.call(f"send {count} {self.pick(1, 7, 11)} {count} 0 {self.pick(0, 0, 1)} {self.below(1 << 32)}")
+        for _ in range(self.pick(1, 2, 4)):
+            self.lose_and_hand_out(s, count)
+
+    def lose_and_hand_out(self, s, count):
+        """As many packets as cost a row about so many bytes, in a run or anywhere; some are offered again."""
+        gone = max(self.pick(0, 1, 1, 8, 15, 15, 15, 16, 16, 17, 20) * s["rows"] // s["size"], self.pick(0, 1, 1))
+        first = self.pick(0, max(count - gone, 0), self.below(count))
+        lost = self.pick(list(range(first, min(first + gone, count))), self.random.sample(range(count), min(gone, count)))
+        for k in lost:
+            self.say(f"poke {self.slot_at(s, k)} 00 00" + self.pick("", "", f" {self.below(256):02x}"))
+        k = self.below(count)
+        kept = self.slot_at(s, k) + 2 + self.below(s["size"]), self.slot_at(s, k)
+        before = [self.run.store[at : at + 2] for at in kept]
+        if self.often(0.3):
+            self.say(f"poke {kept[0]} {self.below(256):02x}")
+        if self.often(0.15):
+            length = self.pick(1, s["size"] - 1, s["size"], s["size"] + 1)
+            self.say(f"poke {kept[1]} {length % 256:02x} {length // 256:02x}")
+        for _ in range(self.pick(1, 1, 2)):
+            self.hand_out_columns(s)
+        for at, there in zip(kept, before):
+            if there:
+                self.say(f"poke {at} {hexes(there)}")
+        for k in lost if len(lost) < 6 or self.often(0.5) else []:
+            self.say_packet(s, k)
+            self.call("offer")
+
+    def hand_out_columns(self, s):
+        table = 239 * s["rows"]
+        length = self.pick(*[s["length"]] * 6, s["length"] - 1, s["length"] - 1, s["length"] + 1, up(s["length"], table) * table, s["length"] + table, 0, 1, 16777216, 16777217)
+        self.say_file(s)
+        self.say(f"out {self.below(256)} {self.pick(length, length, length, length + 5, max(length - 1, 0)) if length < 100000 else 50}")
+        if self.call(f"hand {words(s)} {length}"):
+            self.case("file" if self.run.out[: s["length"]] == self.run.file else "out")
 
     def offer(self):
         self.call("offer")
@@ -386,7 +468,7 @@ class Writer(Choices):
         s = self.any_sender()
         size, total = s["size"], 0
         for k in range(min(count_of(s), 20)):
-            length = 255 * (1 + self.below(max(size // 255, 1))) if s["protection"] else 1 + self.below(size)
+            length = 255 * (1 + self.below(max(size // 255, 1))) if s["protection"] and not in_columns(s) else 1 + self.below(size)
             self.say(f"poke {self.slot_at(s, k)} {length % 256:02x} {length // 256:02x}")
             total += length
         self.say(f"out 0 {total + 10}")
@@ -415,6 +497,18 @@ class Writer(Choices):
         i = self.pick(*used) if used and self.often(0.7) else self.below(8)
         before = place_at(self.run.held, i)
         self.say_place(i, {**before, "edition": self.pick(3 - before["edition"] % 3, *ODD_EDITIONS)})
+        for _ in range(self.pick(1, 2, 3)):
+            self.any_call()
+        if i in used:
+            self.say_place(i, before)
+            self.refresh_senders()
+
+    def step_held_order(self):
+        """A place, mostly one in use, whose order is the other or none, some calls, and the place as it was."""
+        used = [i for i in range(8) if place_at(self.run.held, i)["resource"]]
+        i = self.pick(*used) if used and self.often(0.7) else self.below(8)
+        before = place_at(self.run.held, i)
+        self.say_place(i, {**before, "order": self.pick(COLUMNS, COLUMNS, ROWS, ROWS, *ODD_ORDERS)})
         for _ in range(self.pick(1, 2, 3)):
             self.any_call()
         if i in used:
@@ -456,6 +550,9 @@ class Writer(Choices):
         self.say("settings 5 1 3 0 0 1")
         self.say("out 0 19")
         self.call(f"{self.pick('pack', 'pack-as')} {self.pick(0, 1048574, 1048575, 1048577)}")
+        self.say(f"file {self.below(2)} {self.pick(982768, 982769)}")
+        self.say_settings({"resource": 5, "type": 1, "update": 3, "protection": 1, "rows": 1, "size": self.pick(1, 1, 2), "edition": 2, "order": COLUMNS})
+        self.call(f"pack-as {self.pick(0, 524407, 524408, 1048559, 1048560)}")
         self.say("file 0 0")
 
     def step_read(self):
@@ -465,11 +562,11 @@ class Writer(Choices):
         stream = {"type": 0, "count": 0} if self.often(0.3) else {}
         self.say_header(**self.edged({**self.header_fields(s), **stream}, length, self.pick(0, 0, 0, 1, 1, 1, 2, 3, 5)))
         self.say(f"out {self.below(256)} {self.pick(0, 36, 39, 40, 40, 44)}")
-        self.call(f"read {self.pick(10, 10, 10, 11, 9, 8, 0)}")
+        self.call(f"{self.pick('read', 'read', 'read-header')} {self.pick(10, 10, 10, 11, 9, 8, 0)}")
         self.some_bytes_of_out()
         for _ in range(self.pick(0, 1, 2)):
             self.spoil_spare()
-            self.call("read 10")
+            self.call(self.pick("read 10", "read 10", "read-header 10"))
             self.some_bytes_of_out()
 
     def step_encode(self):
@@ -557,8 +654,8 @@ class Writer(Choices):
 
     # ---- all together
 
-    WEIGHTS = {"fresh": 3, "open": 16, "close": 5, "offer": 26, "offer_made": 7, "offer_noise": 3, "edition": 14, "mend": 6, "status": 5, "hand": 7,
-               "complete": 6, "poke": 5, "fill_slots": 3, "place": 6, "held_edition": 5, "pack": 8, "pack_many": 1, "read": 12, "encode": 2, "repair": 5, "crc": 2,
+    WEIGHTS = {"fresh": 3, "open": 16, "close": 5, "offer": 28, "offer_made": 7, "offer_noise": 3, "edition": 18, "rows": 12, "columns": 14, "mend": 7, "status": 5, "hand": 7,
+               "complete": 6, "poke": 8, "fill_slots": 3, "place": 6, "held_edition": 5, "held_order": 5, "pack": 12, "pack_many": 1, "read": 22, "encode": 2, "repair": 5, "crc": 2,
                "describe": 12, "edit_lines": 2, "compose": 8}
 
     def look(self):

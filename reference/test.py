@@ -291,8 +291,8 @@ def test_mended_without_protection():
 # ---- headers and packing
 
 
-def settings(resource, kind, update, protection, rows, size, edition=2):
-    return {"resource": resource, "type": kind, "update": update, "protection": protection, "rows": rows, "size": size, "edition": edition}
+def settings(resource, kind, update, protection, rows, size, edition=2, order=0):
+    return {"resource": resource, "type": kind, "update": update, "protection": protection, "rows": rows, "size": size, "edition": edition, "order": order}
 
 
 def test_headers():
@@ -354,22 +354,22 @@ def test_editions_packed():
 
 def test_editions_held():
     """An unprotected place holds M 0 in either edition; a place in use with no edition spoils the record for every call, an unused one does not."""
-    same((r.PLACE_LENGTH, r.RECORD_LENGTH), (18, 144))
+    same((r.PLACE_LENGTH, r.RECORD_LENGTH), (20, 160))
     for edition, rows in itertools.product((1, 2), (0, 7, 255)):
-        record = r.Receiver(bytearray(144), bytearray(20))
+        record = r.Receiver(bytearray(160), bytearray(20))
         record.open(settings(9, 1, 1, 0, rows, 8, edition), 1)
-        same(r.place_at(record.held, 0), {"resource": 9, "type": 1, "update": 1, "count": 1, "protection": 0, "rows": 0, "slot": 8, "start": 0, "edition": edition})
-        same(record.held[16:18], bytes([edition, 0]))
+        same(r.place_at(record.held, 0), {"resource": 9, "type": 1, "update": 1, "count": 1, "protection": 0, "rows": 0, "slot": 8, "start": 0, "edition": edition, "order": 0})
+        same(record.held[16:20], bytes([edition, 0, 0, 0]))
     for edition in ODD_EDITIONS:
         refused(17, 0, record.open, settings(9, 1, 1, 0, 0, 8, edition), 1)
         refused(17, 0, record.open, settings(10, 1, 1, 0, 0, 8, edition), 100)
     for i, edition in itertools.product(range(8), ODD_EDITIONS):
-        held = bytearray(144)
+        held = bytearray(160)
         held[r.span(i)] = r.bytes_of({**r.place_at(record.held, 0), "edition": edition})
         bad, unused = r.Receiver(held, bytearray(20)), r.Receiver(bytearray(held), bytearray(20))
         for call, *arguments in ((bad.status, 9, 1), (bad.hand_out, 9, 1, 1, 1), (bad.close, 9, 1), (bad.offer, b""), (bad.open, settings(0, 1, 1, 0, 0, 8), 1)):
             refused(9, 0, call, *arguments)
-        unused.held[18 * i] = 0
+        unused.held[20 * i] = 0
         refused(10, 0, unused.status, 9, 1)
 
 
@@ -386,7 +386,7 @@ def test_editions_offered():
         packet = packets_of(s, b"12345678")[0]
         count = r.fields_of(packet)["count"]
         for edition, rows, reserved in itertools.product((1, 2), (0, 1, 15, 240, 254, 255), range(16)):
-            record = r.Receiver(bytearray(144), bytearray(600))
+            record = r.Receiver(bytearray(160), bytearray(600))
             record.open({**s, "edition": edition}, count)
             offered = in_spare(packet, rows, reserved)
             if edition_by_words(s["protection"], rows, reserved) == edition:
@@ -401,7 +401,7 @@ def test_edition_in_order():
     """33 straight after 11, and before 12 to 16, whichever of the two is of edition 1."""
     for edition in (1, 2):
         s, other = settings(9, 1, 1, 1, 1, 255, edition), settings(9, 1, 1, 1, 1, 255, 3 - edition)
-        record, file = r.Receiver(bytearray(144), bytearray(600)), some(239)
+        record, file = r.Receiver(bytearray(160), bytearray(600)), some(239)
         record.open(s, 1)
         own, (packet,) = packets_of(s, file)[0], packets_of(other, file)
         refused(9, 0, r.Receiver(bytearray(128), bytearray(600)).offer, packet)
@@ -423,6 +423,288 @@ def test_edition_in_order():
         refused(33, 0, record.offer, packet)
         refused(33, 0, record.offer, packets_of(other, some(239))[0])
         refused(16, 0, record.offer, packets_of(s, some(239))[0])
+
+
+# ---- column order, document 02, R-8
+
+ODD_ORDERS = (2, 3, 255, 256, 257, 65535)
+
+
+def sent_by_words(file, m):
+    """As the request says it: table byte j is row j mod M, column j div M; a row is its information and behind it its checks."""
+    out = bytearray()
+    for t in range(-(-len(file) // (239 * m))):
+        part = file[t * 239 * m : (t + 1) * 239 * m].ljust(239 * m, b"\0")
+        rows = [bytes(part[c * m + k] for c in range(239)) for k in range(m)]
+        rows = [row + r.encode_row(row) for row in rows]
+        out += bytes(rows[j % m][j // m] for j in range(255 * m))
+    return bytes(out)
+
+
+def test_columns_packed():
+    """Packets carry the tables column by column; the header is that of a row packet, with a count of its own."""
+    for m, size, length in ((1, 1, 5), (2, 2, 470), (2, 16, 478), (3, 7, 1500), (2, 255, 479), (2, 510, 900), (32, 4077, 7649), (255, 4077, 3)):
+        file, s = some(length), settings(0x1234, 2, 15, 1, m, size, order=1)
+        sent = sent_by_words(file, m)
+        same(r.coded_file(file, m, r.COLUMNS), sent)
+        same(r.Packer(file).packet(s, 0, 4095)[14:-4], sent[:size])
+        packer, count = r.Packer(file), -(-len(sent) // size)
+        same(b"".join(packer.packet(s, n, 4095)[14:-4] for n in range(count)), sent)
+        for n in {0, count // 2, count - 1}:
+            packet, part = packer.packet(s, n, 4095), sent[n * size : (n + 1) * size]
+            same((len(packet), packet[14:-4], crc_by_mirror(packet[:-4])), (18 + len(part), part, int.from_bytes(packet[-4:], "big")))
+            fields = {"resource": 0x1234, "number": n, "update": 15, "length": len(packet), "count": count, "type": 2, "protection": 1, "rows": m, "reserved": 0, "edition": 2}
+            same({k: r.read_header(packet)[k] for k in r.TEN}, fields)
+            if len(part) % 255:
+                refused(7, 0, r.read_fields, packet)
+            else:
+                same(r.read_fields(packet), r.read_header(packet))
+            same(packer.packet({**s, "edition": 1}, n, 4095)[:14], packet[:13] + bytes([packet[13] | 15]))
+        refused(6, 0, packer.packet, s, count, 4095)
+        refused(26, 0, packer.packet, s, 0, 17 + min(size, len(sent)))
+    same((r.house(9, 1, 2)["order"], r.ROWS, r.COLUMNS), (0, 0, 1))
+
+
+def test_columns_range():
+    """The order and the size in packing, in opening and in a place; columns only with protection."""
+    file, big = b"1", bytes(982769)
+    for order, protection, size in itertools.product((0, 1, *ODD_ORDERS), (0, 1, 2), (0, 1, 254, 255, 256, 510, 3825, 4077, 4078, 4080, 65535)):
+        fits = protection == 0 and order == 0 and 1 <= size <= 4077 or protection == 1 and (order == 0 and size in (255, 510, 3825) or order == 1 and 1 <= size <= 4077)
+        s = settings(9, 1, 1, protection, 2, size, 2, order)
+        record = r.Receiver(bytearray(160), bytearray(4079))
+        held = bytearray(160)
+        held[20:40] = b"".join(n.to_bytes(w, "little") for n, w in ((9, 2), (1, 1), (1, 1), (1, 4), (protection, 1), (2 * (protection == 1), 1), (size, 2), (0, 4), (2, 2), (order, 2)))
+        if fits:
+            r.Packer(file).packet(s, 0, 4095)
+            record.open(s, 1)
+            same(record.held[:20], held[20:40])
+            same(r.Receiver(held, bytearray(4079)).status(9, 1), (0, 0))
+            record.close(9, 1)
+            same(record.held, bytes(160))
+        else:
+            refused(17, 0, r.Packer(b"").packet, s, 9, 0)
+            refused(17, 0, record.open, s, 1)
+            bad = r.Receiver(held, bytearray(4079))
+            for call, *arguments in ((bad.status, 9, 1), (bad.hand_out, 9, 1, 1, 1), (bad.close, 9, 1), (bad.offer, b""), (bad.open, settings(0, 1, 1, 0, 0, 8), 1)):
+                refused(9, 0, call, *arguments)
+            held[20:22] = b"\0\0"
+            refused(10, 0, bad.status, 9, 1)
+    s = settings(9, 1, 1, 1, 1, 1, order=1)
+    refused(25, 0, r.Packer(big).packet, s, 0, 0)
+    same(len(r.Packer(big[1:]).packet(s, 1048559, 19)), 19)
+    refused(6, 0, r.Packer(big[1:]).packet, s, 1048560, 19)
+    refused(23, 0, r.Packer(b"").packet, s, 0, 0)
+
+
+def test_header_read():
+    """The reader without Rows refuses what the other does, but that; any payload of a protected packet passes."""
+    fields = {"mark": r.MARK, "resource": 5, "number": 0, "update": 3, "count": 1, "type": 1, "protection": 1, "rows": 2, "reserved": 0}
+    for length in (19, 20, 272, 273, 274, 528, 4095):
+        packet = r.header_of({**fields, "length": length}) + bytes(length - 14)
+        same(r.read_header(packet)["length"], length)
+        for name, n, number in (("resource", 0, 8), ("count", 0, 6), ("number", 1, 6), ("rows", 0, 5), ("protection", 2, 5), ("type", 3, 4), ("length", length - 1, 3), ("mark", 1, 2)):
+            bad = r.header_of({**fields, "length": length, name: n}) + bytes(length - 14)
+            refused(number, 0, r.read_header, bad)
+            refused(7 if number == 8 and length not in (273, 528) else number, 0, r.read_fields, bad)
+        refused(1, 0, r.read_header, packet[:18])
+
+
+def row_by_places(row, lost):
+    """A second way to restore: the lost bytes are wrong by what sixteen sums say of them, and all sixteen have to agree. None where they do not."""
+    fixed = bytearray(row)
+    for i in lost:
+        fixed[i] = 0
+    s, powers = sums(fixed), [[r.ALPHA[j * (254 - i) % 255] for i in lost] for j in range(16)]
+    for i, byte in zip(lost, solve(powers[: len(lost)], s[: len(lost)]) if lost else []):
+        fixed[i] = byte
+    return bytes(fixed) if not any(sums(fixed)) else None
+
+
+def both_restore(row, lost, *wanted):
+    second = row_by_places(row, lost)
+    if second is None:
+        refused(32, 0, r.restored_row, row, lost)
+    else:
+        same(r.restored_row(row, lost), second)
+    if wanted:
+        same((second, *wanted), (*wanted, second))
+
+
+def test_restored_rows():
+    """Up to sixteen losses anywhere; what stood in the lost places does not count. A wrong byte beside at most fifteen is always seen, beside sixteen never."""
+    for number in range(17):
+        for lost in [sorted(RANDOM.sample(range(255), number)) for _ in range(4)] + [list(range(number)), list(range(255 - number, 255)), list(range(231, 231 + number))]:
+            row = coded_row()
+            both_restore(altered(row, lost), lost, row)
+            known = RANDOM.choice([i for i in range(255) if i not in lost])
+            wrong = altered(row, [known])
+            both_restore(wrong, lost)
+            if number < 16:
+                refused(32, 0, r.restored_row, wrong, lost)
+            else:
+                fixed = r.restored_row(wrong, lost)
+                same(([i for i in range(255) if fixed[i] != row[i]] == sorted(lost + [known]), r.rest_of(fixed)), (True, [0] * 16))
+    for _ in range(10):
+        both_restore(some(255), sorted(RANDOM.sample(range(255), 16)))
+        both_restore(some(255), sorted(RANDOM.sample(range(255), RANDOM.randrange(16))))
+
+
+def in_columns(m, size, length, edition=2):
+    """Settings, a file, its packets, and a record in which all of them were offered, in any order and twice."""
+    s, file = settings(9, 1, 1, 1, m, size, edition, 1), some(length)
+    packer, count = r.Packer(file), -(-len(sent_by_words(bytes(length), m)) // size)
+    packets = [packer.packet(s, n, 4095) for n in range(count)]
+    record = r.Receiver(bytearray(160), bytearray(b"\xee" * (count * (size + 2) + 3)))
+    record.open(s, count)
+    for n in RANDOM.sample(range(count), count):
+        same([record.offer(packets[n]), record.offer(packets[n])], [("Stored", 0), ("Repeat", 0)])
+    same(record.status(9, 1), (count, None))
+    return s, file, packets, record
+
+
+def empty(record, size, *slots):
+    """The slots of the place at 0 as they are before anything comes; what they held stays behind."""
+    for k in slots:
+        record.store[k * (size + 2) : k * (size + 2) + 2] = b"\0\0"
+
+
+def losses(m, size, count, slots):
+    """How many bytes each row lacks, by counting each byte of the slots."""
+    lacks = [0] * (-(-(count * size) // (255 * m)) * m)
+    for k in slots:
+        for i in range(k * size, (k + 1) * size):
+            lacks[i // (255 * m) * m + i % m] += 1
+    return lacks
+
+
+def test_columns_restored():
+    """Slots emptied one after the other, at random and at the ends: the file as long as no row lacks more than sixteen bytes, else the first row that does."""
+    for m, size, length, edition in ((1, 1, 239, 2), (2, 2, 470, 1), (2, 16, 478, 2), (3, 7, 1500, 2), (3, 5, 700, 1), (32, 255, 7000, 2), (32, 100, 7649, 2), (255, 4077, 60000, 2)):
+        s, file, packets, record = in_columns(m, size, length, edition)
+        count, whole = len(packets), bytes(record.store)
+        for order in (list(range(count)), list(range(count))[::-1], RANDOM.sample(range(count), count)):
+            record.store[:] = whole
+            same(record.hand_out(9, 1, length, length), file)
+            for done in range(1, 40):
+                empty(record, size, order[done - 1])
+                rows = 255 * m * -(-length // (239 * m)) // 255
+                short = [k for k, n in enumerate(losses(m, size, count, order[:done])[:rows]) if n > 16]
+                if short:
+                    refused(31, short[0], record.hand_out, 9, 1, length, 0)
+                    break
+                same(record.hand_out(9, 1, length, length), file)
+            same((record.status(9, 1)[0], record.status(9, 1)[1]), (count - done, min(order[:done])))
+            for n in order[:done]:
+                same(record.offer(packets[n]), ("Stored", 0))
+            same(bytes(record.store) == whole, True)
+
+
+def test_columns_refused():
+    """Each refusal of hand out before each that comes behind it; nothing is written."""
+    s, file, packets, record = in_columns(2, 16, 470)
+    whole = bytes(record.store)
+
+    def hand(number, value, length=470, room=470, **slots):
+        record.store[:] = whole
+        for name, n in slots.items():
+            at = 18 * int(name[1:])
+            record.store[at : at + 2] = n.to_bytes(2, "little") if n >= 0 else record.store[at : at + 2]
+            record.store[at + 2] ^= n < 0
+        before = bytes(record.store)
+        refused(number, value, record.hand_out, 9, 1, length, room)
+        same(bytes(record.store) == before, True)
+
+    wrong, lost, short = {"_4": -1}, {"_7": 0, "_8": 0, "_9": 0}, {"_12": 15}
+    hand(15, 0, 0, 0, _3=17, **short)
+    for length in (0, 479, 16777216, 16777217, 1 << 63):
+        hand(23, 0, length, 0, **short, **lost)
+    hand(22, 0, 469, 0, **short, **lost, **wrong)
+    for n in (1, 13, 15, 16):
+        hand(22, 0, 470, 470, _31=n)
+    hand(31, 0, 469, 0, **lost, **wrong)
+    hand(32, 0, 469, 0, **wrong)
+    hand(24, 0, 469, 0, _29=0)
+    hand(24, 0, 469, 0)
+    hand(26, 0, 470, 469, _29=0, _31=0)
+    same(record.hand_out(9, 1, 470, 470), file)
+    same(record.hand_out(9, 1, 478, 478), file + bytes(8))
+    refused(10, 0, record.hand_out, 9, 2, 470, 470)
+    record.held[18] = 2
+    refused(9, 0, record.hand_out, 9, 2, 470, 470)
+
+
+def test_columns_wrong():
+    """Any one byte of the store's payloads altered is 32 where its row lacks at most fifteen bytes, and never where it lacks sixteen."""
+    s, file, packets, record = in_columns(2, 2, 470)
+    whole = bytes(record.store)
+    for number in (0, 1, 15, 16):
+        for _ in range(10):
+            gone = RANDOM.sample(range(255), number + 1)
+            k = gone.pop()
+            record.store[:] = whole
+            empty(record, 2, *gone)
+            record.store[4 * k + 2 + RANDOM.randrange(2)] ^= 1 + RANDOM.randrange(255)
+            if number < 16:
+                refused(32, 0, record.hand_out, 9, 1, 470, 470)
+                refused(32, 0, record.hand_out, 9, 1, 469, 0)
+                continue
+            try:
+                out = record.hand_out(9, 1, 470, 470)
+                same((len(out), out != file or min(gone + [k]) >= 239), (470, True))
+            except r.Refused as no:
+                same(no.number, 24)
+
+
+def test_columns_offered():
+    """No repair in column order: any altered byte is 14. Slot judges S alone; the order of the refusals stands."""
+    for size in (16, 255, 510):
+        s, file, packets, record = in_columns(2, size, 470)
+        other = r.Packer(some(470)).packet(s, 0, 4095)
+        empty(record, size, 0)
+        before = bytes(record.store)
+        for i in range(14, len(packets[0])):
+            refused(14, 0, record.offer, altered(packets[0], [i]))
+        record.store[0:2] = (size + 1).to_bytes(2, "little")
+        refused(15, 0, record.offer, packets[0])
+        refused(14, 0, record.offer, altered(packets[0], [20]))
+        refused(15, 0, record.status, 9, 1)
+        for n in (1, 5, size - 1):
+            record.store[0:2] = n.to_bytes(2, "little")
+            refused(16, 0, record.offer, packets[0])
+            same(record.status(9, 1), (len(packets), None))
+        record.store[0:2] = b"\0\0"
+        same(bytes(record.store) == before, True)
+        same(record.offer(packets[0]), ("Stored", 0))
+        refused(16, 0, record.offer, other)
+        f = r.fields_of(packets[0])
+        wide = r.header_of({**f, "length": f["length"] + 1}) + packets[0][14:] + b"\0"
+        refused(12, 0, record.offer, wide)
+        refused(33, 0, record.offer, in_spare(wide, 0, 15))
+        refused(11, 0, record.offer, r.header_of({**f, "length": f["length"] + 1, "rows": 3, "reserved": 15}) + packets[0][14:] + b"\0")
+
+
+def test_rows_passed_over():
+    """By the packet's own resource and type alone: for each of file and description a place in columns, in rows, without protection or none."""
+    ways = {"columns": settings(9, 1, 1, 1, 2, 16, 2, 1), "rows": settings(9, 1, 1, 1, 2, 255), "plain": settings(9, 1, 1, 0, 0, 16)}
+    packet = r.Packer(some(470)).packet(ways["columns"], 0, 4095)
+    f = r.fields_of(packet)
+    for first, second in itertools.product([*ways, None], repeat=2):
+        record = r.Receiver(bytearray(160), bytearray(20000))
+        for kind, way in ((1, first), (2, second)):
+            if way:
+                record.open({**ways[way], "type": kind}, 32)
+        for kind, way in ((1, first), (2, second)):
+            named = r.header_of({**f, "type": kind}) + packet[14:-4]
+            named += r.crc32(named).to_bytes(4, "big")
+            if way != "columns":
+                refused(7, 0, record.offer, named)
+                continue
+            same(record.offer(named), ("Stored", 0))
+            for name, n, number in (("update", 2, 11), ("count", 33, 11), ("rows", 3, 11), ("reserved", 15, 33), ("reserved", 1, 33), ("rows", 0, 5), ("number", 32, 6), ("type", 3, 4), ("length", 9, 3), ("mark", 3, 2)):
+                refused(number, 0, record.offer, r.header_of({**f, "type": kind, name: n}) + packet[14:])
+        refused(7, 0, record.offer, r.header_of({**f, "resource": 0}) + packet[14:])
+        refused(7, 0, record.offer, r.header_of({**f, "resource": 10}) + packet[14:])
+        refused(7, 0, record.offer, r.header_of({**f, "type": 0, "count": 0}) + packet[14:])
 
 
 def test_tables():
@@ -483,17 +765,17 @@ def test_places():
 
 def test_unused_places():
     """What an unused place holds is not judged and stays; opening writes all of it, closing makes it zero."""
-    unused = bytes(2) + b"\xff" * 16
+    unused = bytes(2) + b"\xff" * 18
     held = bytearray(unused) * 8
     record = r.Receiver(held, bytearray(100))
     for kind in (0, 1, 255):
         refused(10, 0, record.status, 0, kind)
         refused(10, 0, record.close, 0, kind)
     record.open(settings(3, 2, 1, 0, 0, 8), 1)
-    same(held[:18].hex(), "030002010100000000000800000000000200")
-    same(held[18:], unused * 7)
+    same(held[:20].hex(), "0300020101000000000008000000000002000000")
+    same(held[20:], unused * 7)
     record.close(3, 2)
-    same(held, bytes(18) + unused * 7)
+    same(held, bytes(20) + unused * 7)
 
 
 def test_usable_store():
@@ -503,7 +785,7 @@ def test_usable_store():
     record.open(settings(1, 1, 0, 0, 0, 14), 1048575)
     record.open(settings(2, 1, 0, 0, 0, 14), 1)
     refused(20, 0, record.open, settings(3, 1, 0, 0, 0, 1), 1)
-    held[18 + 12] += 1
+    held[20 + 12] += 1
     refused(9, 0, record.status, 2, 1)
 
 
@@ -582,7 +864,7 @@ def test_streams():
 
 def test_shares():
     """Any two places that have both resource and type are refused; that have one of them are not."""
-    place = {"update": 0, "count": 1, "protection": 0, "rows": 0, "slot": 8, "edition": 2}
+    place = {"update": 0, "count": 1, "protection": 0, "rows": 0, "slot": 8, "edition": 2, "order": 0}
     for i, j in itertools.combinations(range(8), 2):
         for resource, kind in itertools.product((5, 6), (1, 2)):
             held = bytearray(r.RECORD_LENGTH)
@@ -837,7 +1119,7 @@ held 127
 store 0 400
 status 5 1
 case held-127 refused 9
-held 144
+held 160
 status 5 1
 case unknown refused 10
 open 3
@@ -947,7 +1229,7 @@ status 5 1
 case one-filled accepted 33554433
 # handing out: 22 to 24
 store 0 300
-held 144
+held 160
 place 0 9 1 1 1 1 2 255 0 2
 poke 0 ff 00
 hand 9 1 10
@@ -963,6 +1245,38 @@ case output-before-nothing refused 26
 hand 9 1 2
 case two-bytes accepted
 case two-bytes-out bytes 0 00 01 aa aa
+# handing out by columns: 31, 32
+store 0 768
+held 160
+edition 2
+order 1
+settings 9 1 1 1 1 1
+open-as 255
+case opened-in-columns accepted
+file 1 239
+send 255 1 255 0 0 0
+case sent-in-columns accepted 255
+out 170 239
+poke 3 00 00
+hand 9 1 239
+case a-byte-restored file
+poke 8 01
+hand 9 1 239
+case a-byte-wrong refused 32
+poke 717 00 00 00 00 00 00 00 00 00 00 00 00 00 00 00 00 00 00 00 00 00 00 00 00 00 00 00 00 00 00 00 00 00 00 00 00 00 00 00 00 00 00 00 00 00 00 00 00
+hand 9 1 239
+case seventeen-lost refused 31
+out 0 19
+pack-as 254
+take 19
+read-header 10
+case header-read accepted
+read 10
+case rows-of-one-byte refused 7
+order 2
+pack-as 254
+case no-order refused 17
+order 0
 # packing: 17, 23, 25, 6, 26
 settings 5 1 3 0 0 1
 file 1 1048576
@@ -1054,8 +1368,8 @@ def test_commands():
     same(len(at_hand("bytes", "out 1 8000", "take 8000", "append 8000")), 8192)
     same(at_hand("file", "file 1 3", "file-put 2 aa bb")[2:], b"\xaa")
     same(at_hand("store", "store 1 3", "poke 1 02 03 04", "poke 9 01"), b"\1\2\3")
-    same(at_hand("held", "held 22", "place 1 258 1 2 3 1 5 255 9"), bytes(18) + b"\2\1\1\2")
-    same(at_hand("out", "held 144", "place 7 65541 257 2 3 1 5 255 9 65794", "show-held 126 20").hex(), "05000102030000000105ff00090000000201")
+    same(at_hand("held", "held 24", "place 1 258 1 2 3 1 5 255 9"), bytes(20) + b"\2\1\1\2")
+    same(at_hand("out", "held 160", "place 7 65541 257 2 3 1 5 255 9 65794 66052", "show-held 140 22").hex(), "05000102030000000105ff000900000002010402")
     same(at_hand("out", "store 3 5", "show-store 3 9"), b"\3\3")
     same(at_hand("out", "out 3 2", "nonsense 5", "file_put 1 00"), b"\3\3")
     same(at_hand("bytes", "line", "line ", "line a  b ", "bytes 41", "line c", "line caf\xe9"), b"Ac\ncaf\xe9\n")
@@ -1070,7 +1384,7 @@ def test_commands():
 
 def test_edition_commands():
     """What `edition` sets is taken by the calls that name it and by `send`; it begins as 2, and settings leave it."""
-    start = ["file 1 8", "out 0 26", "held 144", "store 0 20", "settings 5 1 3 0 7 8"]
+    start = ["file 1 8", "out 0 26", "held 160", "store 0 20", "settings 5 1 3 0 7 8"]
     spare = lambda *lines: at_hand("out", *start, *lines)[12:14].hex()
     same([spare("pack 0"), spare("pack-as 0")], ["4000", "4000"])
     same([spare("edition 1", "pack 0"), spare("edition 1", "pack-as 0"), spare("edition 65537", "settings 5 1 3 0 0 8", "pack-as 0")], ["4000", "4fff", "4fff"])
@@ -1079,6 +1393,21 @@ def test_edition_commands():
     same([at_hand("held", *start, "edition 1", call)[16] for call in ("open 1", "open-as 1")], [2, 1])
     same(at_hand("held", *start, "store 0 257", "edition 1", "open-house 1")[16], 2)
     same([at_hand("store", *start, *lines, "send 1 1 1 0 0 0")[0] for lines in (["open 1"], ["edition 1", "open 1"], ["edition 1", "open-as 1"])], [8, 0, 8])
+
+
+def test_order_commands():
+    """What `order` sets is taken by the calls that name it and by `send`; it begins as 0, and settings leave it."""
+    start = ["file 1 470", "out 0 300", "held 160", "store 0 1000", "settings 5 1 3 1 2 255"]
+    sent = {order: r.coded_file(cases.generated(1, 470), 2, order)[:255] for order in (0, 1)}
+    payload = lambda *lines: at_hand("out", *start, *lines)[14:269]
+    same([payload("pack-as 0"), payload("order 1", "pack 0"), payload("order 9", "pack 0")], [sent[0]] * 3)
+    same([payload("order 1", "pack-as 0"), payload("order 65537", "settings 5 1 3 1 2 255", "pack-as 0"), payload("order 1", "edition 1", "pack-as 0")], [sent[1]] * 3)
+    same([payload(f"order {n}", "pack-as 0") for n in (2, 257)], [bytes(255)] * 2)
+    same(payload("order 1", "order", "pack-as 0"), sent[0])
+    same([at_hand("held", *start, "order 1", call)[18] for call in ("open 1", "open-as 1", "open-house 1")], [0, 1, 0])
+    same([at_hand("store", *start, "order 1", "open-as 2", *lines, "send 2 1 2 0 0 0")[2:257] for lines in ([], ["order 0"])], [sent[1], sent[0]])
+    lines = [*start, "order 1", "settings 5 1 3 1 2 7", "pack-as 0", "take 25", "out 170 40"]
+    same([at_hand("out", *lines, call)[:4].hex() for call in ("read 10", "read-header 9", "read-header 10")], ["aaaaaaaa", "aaaaaaaa", "00000005"])
 
 
 def test_damage():
@@ -1091,7 +1420,7 @@ def test_damage():
 
 
 def test_send():
-    start = ["file 3 2000", "held 144", "store 0 20000", "settings 9 1 1 1 4 255", "open 12"]
+    start = ["file 3 2000", "held 160", "store 0 20000", "settings 9 1 1 1 4 255", "open 12"]
     for line, answer in (("send 12 1 12 4 1 5", "accepted 12"), ("send 12 5 7 3 0 5", "accepted 7"), ("send 12 1 30 0 0 5", "accepted 12"),
                          ("send 0 1 30 0 0 5", "accepted"), ("send 13 1 13 0 0 5", "refused 6"), ("send 13 1 12 2 1 4294967295", "accepted 12")):
         run = cases.Run()
@@ -1139,14 +1468,14 @@ def told_of_mended(run, call):
         return f"repair: {value}"
     if call == "offer" and number == 0:
         return f"{'Repeat' if value % 2 else 'Stored'}: {value // 2 if value < 18 else 'more than a row can have'}"
-    if call == "offer" and number in (14, 15, 16) and r.fields_of(run.bytes)["protection"] == 1 and r.repair_rows(run.bytes[14:-4])[1]:
+    if call == "offer" and number in (14, 15, 16) and place_of(run, *r.named(r.fields_of(run.bytes)))["order"] == 0 and r.fields_of(run.bytes)["protection"] == 1 and r.repair_rows(run.bytes[14:-4])[1]:
         return f"mended, and refused {number}"
     return None
 
 
 def told_of_an_offer(run):
     """How the edition of an offered packet, whose fields were taken, stands to that of its place; and what 33 came before."""
-    number, f = run.answer.number, r.read_fields(run.bytes)
+    number, f = run.answer.number, r.read_header(run.bytes)
     _, p = r.Receiver(run.held, run.store).find(f["resource"], f["type"])
     apart = "its own" if f["edition"] == p["edition"] else f"edition {f['edition']}"
     told = {f"{apart} at a place of edition {p['edition']}, protection {p['protection']}: {number}"}
@@ -1190,8 +1519,72 @@ def told_of_held_editions(run, words, places):
     return {f"{words[0]} with an odd edition held: {run.answer.number}"} if r.places_in_use(held, len(run.store)) else set()
 
 
+def place_of(run, resource, kind):
+    """The place of a resource and type in a record that is not refused, or None."""
+    try:
+        return r.Receiver(run.held, run.store).find(resource, kind)[1]
+    except r.Refused:
+        return None
+
+
+def told_of_rows(run):
+    """What an offer of a packet whose payload is no whole rows shows of the place that holds its resource and type, or of what does not."""
+    if len(run.bytes) < 19 or run.answer.number in (1, 2, 3, 4, 5, 6, 9) or (f := r.fields_of(run.bytes))["protection"] != 1 or (len(run.bytes) - 18) % 255 == 0:
+        return set()
+    places = {k: place_of(run, f["resource"], k) for k in (f["type"], 3 - f["type"])}
+    orders = [None if p is None else p["order"] for p in places.values()]
+    return {f"rows at {orders[0]}: {run.answer.number}", f"rows at {orders[0]} beside {orders[1]}: {run.answer.number}"}
+
+
+def told_of_a_hand_out(run, words):
+    """Of a column place: the answer, and how many bytes a row lacked at most where it was accepted."""
+    p, number = place_of(run, int(words[1]) % 65536, int(words[2]) % 256), run.answer.number
+    if p is None or p["order"] != 1:
+        return set()
+    told = {f"hand in columns: {number}"} | ({"hand in columns: 31 behind row 0"} if number == 31 and run.answer.value else set())
+    if number in (0, 24, 26, 32):
+        slots = r.Receiver(run.held, run.store).slots(p)
+        most = max(losses(p["rows"], p["slot"], p["count"], [k for k, b in enumerate(slots) if not b]))
+        told.add(f"{number} where a row lacks {'nothing' if not most else most if most in (1, 15, 16) else 'some'}")
+    return told
+
+
+def told_of_orders(run, words, places):
+    """What a call's answer shows of the order; its words, and the places in use before it."""
+    number, call = run.answer.number, words[0]
+    told = told_of_rows(run) if call == "offer" else told_of_a_hand_out(run, words) if call == "hand" else set()
+    if call == "offer" and number in (0, 11, 12, 14, 15, 16, 33) and (p := place_of(run, *r.named(r.fields_of(run.bytes)))) and p["order"] == 1:
+        told.add(f"offer in columns: {number}")
+    if call in ("open-as", "pack-as") and number == 17 and any(r.settings_fit({**run.settings, "order": n}) for n in (0, 1)):
+        told.add(f"{call} by its order: 17")
+    if call in ("open", "pack") and run.settings["order"] and number == 0:
+        told.add(f"{call} beside order {min(run.settings['order'], 2)}: 0")
+    if call == "read-header":
+        told.add(f"read-header: {number}" if number or len(run.bytes) % 255 == 18 else "read-header: 0 where read says 7")
+    if number == 9 and call in ("status", "hand", "close", "offer", "open", "open-as", "open-house") and len(run.held) == r.RECORD_LENGTH:
+        for order in (0, 1):
+            held = b"".join(r.bytes_of({**p, "order": order if not r.order_fits(p) or not r.size_fits({**p, "size": p["slot"]}) else p["order"]}) for p in places)
+            if r.places_in_use(held.ljust(r.RECORD_LENGTH, b"\0"), len(run.store)):
+                told.add(f"{call} with an order held: 9")
+    return told
+
+
+def every_order(told):
+    """Column order in each way: Rows passed over and not, each refusal of hand out, what is restored and what is not, 17 and 9 by the order alone."""
+    wanted = {f"offer in columns: {number}" for number in (0, 11, 12, 14, 15, 16, 33)} | {f"rows at 1: {number}" for number in (0, 11, 12, 14, 33)}
+    wanted |= {"rows at 0: 7", "rows at None: 7", "rows at None beside 1: 7", "rows at 0 beside 1: 7"}
+    wanted |= {f"hand in columns: {number}" for number in (0, 15, 22, 23, 24, 26, 31, 32)} | {"hand in columns: 31 behind row 0"}
+    wanted |= {f"0 where a row lacks {n}" for n in ("nothing", 1, "some", 15, 16)} | {f"32 where a row lacks {n}" for n in ("nothing", "some", 15)}
+    wanted |= {"24 where a row lacks some", "26 where a row lacks some"}
+    wanted |= {f"{call} by its order: 17" for call in ("open-as", "pack-as")} | {f"{call} beside order {n}: 0" for call in ("open", "pack") for n in (1, 2)}
+    wanted |= {f"read-header: {number}" for number in (0, 2, 3, 4, 5, 6, 8, 26)} | {"read-header: 0 where read says 7"}
+    wanted |= {f"{call} with an order held: 9" for call in ("status", "hand", "close", "offer", "open", "open-as", "open-house")}
+    same(wanted - told, set())
+    same([t for t in told if t and t.startswith(("rows at 0:", "rows at None:", "rows at 1: 7", "hand in columns: 21", "offer in columns: 13", "read-header: 7")) and t not in wanted], [])
+
+
 class Watched(random_cases.Writer):
-    """Writes a random file, and keeps what its answers show of resource and type together, of what was mended, and of editions."""
+    """Writes a random file, and keeps what its answers show of resource and type together, of what was mended, of editions and of orders."""
 
     def __init__(self, seed):
         super().__init__(seed)
@@ -1202,7 +1595,7 @@ class Watched(random_cases.Writer):
         super().say(line)
         if words[0] in ("status", "hand", "close", "offer", "open", "open-as", "open-house"):
             self.told |= {told_of_types(self.run, words, places), told_of_shares(self.run, places)} | told_of_held_editions(self.run, words, places)
-        self.told |= {told_of_mended(self.run, words[0])} | told_of_editions(self.run, words)
+        self.told |= {told_of_mended(self.run, words[0])} | told_of_editions(self.run, words) | told_of_orders(self.run, words, places)
 
 
 def every_way(told):
@@ -1241,10 +1634,11 @@ def every_edition(told):
 
 def test_random_files():
     writer = Watched(6)
-    lines = writer.write(2500)
+    lines = writer.write(4000)
     every_way(writer.told)
     every_number(writer.told)
     every_edition(writer.told)
+    every_order(writer.told)
     same([n for n in r.REFUSALS if not any(f" refused {n} " in line + " " for line in lines)], [])
     for call in ("describe", "compose"):
         answers = {answer.split(" ", 2)[2] for line, answer in zip(lines, lines[1:]) if line.startswith(call + " ")}
