@@ -4,8 +4,10 @@
  * Every lent part ends at a page that nobody may touch and has known bytes before it. After each call: the answer's number is one that the
  * call may give; a refusal has changed nothing; what an accepted call may not touch is as it was; what it says it has mended is what
  * differs from what came; a packet in the two editions differs in its spare bits and its CRC alone, and only in its own edition does a
- * place take one; and a call about one type has left status and file of the other type under that resource. With a transcript open, each
- * call is written in the language of reference/README.md with what was answered, for the second program to check.
+ * place take one; Rows is passed over exactly where a place in column order has the packet's resource and type; what a column place hands
+ * out is the file that was packed as long as no row lacks more than sixteen bytes, and what it refuses is what its slots show; and a call
+ * about one type has left status and file of the other type under that resource. With a transcript open, each call is written in the
+ * language of reference/README.md with what was answered, for the second program to check.
  */
 #include "lent.h"
 
@@ -19,10 +21,12 @@
 struct settings {
     uint16_t resource;
     uint8_t type, update, protection, rows;
-    uint16_t size, edition;
+    uint16_t size, edition, order;
 } now;
 
-/* how a call comes to its edition, and what stands behind its name for it */
+enum order { IN_ROWS, IN_COLUMNS };
+
+/* how a call comes to its edition and order, and what stands behind its name for it */
 enum naming { HOUSE, UNNAMED, NAMED };
 static const char *const behind[] = {"-house", "", "-as"};
 
@@ -38,6 +42,18 @@ static unsigned edition_of(enum naming how)
     return how == NAMED ? now.edition : 2;
 }
 
+/* the order that such a call means */
+static unsigned order_of(enum naming how)
+{
+    return how == NAMED ? now.order : IN_ROWS;
+}
+
+/* columns are those of a coded table */
+static int is_order(unsigned order, unsigned protection)
+{
+    return order == IN_ROWS || (order == IN_COLUMNS && protection == 1);
+}
+
 static int is_edition(unsigned edition)
 {
     return edition == 1 || edition == 2;
@@ -50,7 +66,7 @@ static unsigned other_type(void)
 
 static void say_settings(void)
 {
-    SAY("settings %u %u %u %u %u %u\nedition %u\n", now.resource, now.type, now.update, now.protection, now.rows, now.size, now.edition);
+    SAY("settings %u %u %u %u %u %u\nedition %u\norder %u\n", now.resource, now.type, now.update, now.protection, now.rows, now.size, now.edition, now.order);
 }
 
 /* mostly one of the two; else one beside them, also in the upper byte, or any number */
@@ -58,6 +74,24 @@ static uint16_t some_edition(void)
 {
     unsigned way = pick();
     return (uint16_t)(way < 4 ? wide() : way < 8 ? way % 4 : way < 12 ? 256 + way % 4 : 1 + way % 2);
+}
+
+/* mostly one that the protection allows; else one beside them, also in the upper byte, or any number */
+static uint16_t some_order(void)
+{
+    unsigned way = pick();
+    return (uint16_t)(way < 4 ? wide() : way < 8 ? 1 + way % 2 : way < 12 ? 255 + way % 4 : now.protection ? way % 2 : 0);
+}
+
+/* a size for what is sent under these settings: whole rows, or any number of bytes, mostly some columns */
+static uint16_t some_size(void)
+{
+    if (now.protection && now.order != IN_COLUMNS)
+        return (uint16_t)(255 * (1 + pick() % 3));
+    if (!now.protection)
+        return (uint16_t)(1 + pick());
+    unsigned way = pick();
+    return (uint16_t)(way % 8 == 0 ? 1 + wide() % BH_LARGEST_PAYLOAD : way % 8 == 1 ? 255 : 1 + now.rows * (way / 8 % 17) + pick() % 2);
 }
 
 static void choose_settings(void)
@@ -68,22 +102,24 @@ static void choose_settings(void)
     now.update = (uint8_t)(pick() % 16 == 0 ? pick() : way % 3);
     now.protection = (uint8_t)(pick() % 16 == 0 ? pick() : way / 16 % 2);
     now.rows = (uint8_t)(pick() % 8 == 0 ? pick() : 1 + way % 3);
-    now.size = (uint16_t)(pick() % 8 == 0 ? wide() : now.protection ? 255 * (1 + pick() % 3) : 1 + pick());
+    now.order = some_order();
+    now.size = (uint16_t)(pick() % 8 == 0 ? wide() : some_size());
     now.edition = some_edition();
     say_settings();
 }
 
-/* one of them another: a packet of another update, size, shape or edition for the same resource */
+/* one of them another: a packet of another update, size, shape, edition or order for the same resource */
 static void vary_settings(void)
 {
-    unsigned way = pick() % 7;
+    unsigned way = pick() % 8;
     now.update = (uint8_t)(way == 0 ? pick() % 16 : now.update);
     now.rows = (uint8_t)(way == 1 ? pick() % 4 : now.rows);
-    now.size = (uint16_t)(way == 2 ? (now.protection ? 255 * (pick() % 16) : pick()) : now.size);
+    now.size = (uint16_t)(way == 2 ? (now.protection && now.order != IN_COLUMNS ? 255 * (pick() % 16) : pick()) : now.size);
     now.resource = (uint16_t)(way == 3 ? pick() % 10 : now.resource);
     now.type = (uint8_t)(way == 4 ? (pick() % 4 ? other_type() : pick() % 4) : now.type);
     now.protection = (uint8_t)(way == 5 ? pick() % 3 : now.protection);
     now.edition = way == 6 ? some_edition() : now.edition;
+    now.order = way == 7 ? some_order() : now.order;
     say_settings();
 }
 
@@ -127,7 +163,7 @@ static const uint8_t *slot_of(struct bh_place p, size_t k)
     return store.at + p.start + k * (p.slot + 2u);
 }
 
-/* only a record of its length is taken in which each place in use has an edition */
+/* only a record of its length is taken in which each place in use has an edition, and an order that its protection allows */
 static void judge_record(uint64_t a)
 {
     if (bh_number(a) == BH_RECORD_BAD)
@@ -137,13 +173,18 @@ static void judge_record(uint64_t a)
     for (unsigned i = 0; i < BH_PLACES; i++)
         if (bh_place_at(record.at, i).resource != 0 && !is_edition(bh_place_at(record.at, i).edition))
             fail("a place in use has no edition, and the record was taken");
+        else if (bh_place_at(record.at, i).resource != 0 && !is_order(bh_place_at(record.at, i).order, bh_place_at(record.at, i).protection))
+            fail("a place in use has no order, or columns without protection, and the record was taken");
 }
 
-/* the length at which this place's file is handed out with every slot filled: all that came, or all of its tables */
+/* the length at which this place's file is handed out with every slot filled: all that came, or all of its tables; by columns as many tables as
+ * the count gives */
 static uint64_t length_in_place(uint16_t resource, uint8_t type)
 {
     struct bh_place p = place_of(resource, type);
     size_t sum = 0;
+    if (p.order == IN_COLUMNS)
+        return 239 * (uint64_t)p.rows * ((uint64_t)p.count * p.slot / (255u * p.rows));
     for (size_t k = 0; k < p.count; k++)
         sum += little(slot_of(p, k), 2);
     return p.protection ? sum / 255 * 239 : sum;
@@ -233,20 +274,25 @@ static uint64_t open_by(enum naming how, uint32_t count)
         return bh_open_house(record.at, record.n, store.at, store.n, now.resource, now.type, now.update, count);
     if (how == UNNAMED)
         return bh_open(record.at, record.n, store.at, store.n, now.resource, now.type, now.update, count, now.protection, now.rows, now.size);
-    return bh_open_as(record.at, record.n, store.at, store.n, now.resource, now.type, now.update, count, now.protection, now.rows, now.size, now.edition);
+    return bh_open_as(record.at, record.n, store.at, store.n, now.resource, now.type, now.update, count, now.protection, now.rows, now.size, now.edition,
+                      now.order);
 }
 
-/* the place holds the edition that was meant, which is one, and M 0 without protection */
+/* the place holds the edition and the order that were meant, which are some, and M 0 without protection */
 static void judge_opened(enum naming how)
 {
     struct bh_place p = place_of(now.resource, now.type);
     if (p.edition != edition_of(how) || !is_edition(p.edition))
         fail("opened in another edition than was meant");
+    if (p.order != order_of(how) || !is_order(p.order, p.protection))
+        fail("opened in another order than was meant");
+    if (p.slot < 1 || p.slot > BH_LARGEST_PAYLOAD || (p.protection && p.order == IN_ROWS && p.slot % BH_ROW != 0))
+        fail("opened with slots that the order does not have");
     if (p.protection == 0 && p.rows != 0)
         fail("an unprotected place holds rows");
 }
 
-/* a call that names no edition has done what edition 2, named, does */
+/* a call that names no edition and no order has done what edition 2 and rows, named, do */
 static void judge_unnamed_opening(uint64_t a, enum naming how, uint32_t count)
 {
     static uint8_t again[OUT_ROOM], slots[OUT_ROOM];
@@ -254,9 +300,9 @@ static void judge_unnamed_opening(uint64_t a, enum naming how, uint32_t count)
     memcpy(again, record.copy, record.n);
     memcpy(slots, store.copy, store.n);
     uint64_t b = bh_open_as(again, record.n, slots, store.n, now.resource, now.type, now.update, count, house ? 1 : now.protection, house ? 32 : now.rows,
-                            house ? 255 : now.size, 2);
+                            house ? 255 : now.size, 2, IN_ROWS);
     if (a != b || memcmp(again, record.at, record.n) != 0 || memcmp(slots, store.at, store.n) != 0)
-        fail("opening without an edition is not opening in edition 2");
+        fail("opening without edition and order is not opening in edition 2 by rows");
 }
 
 static void open_count(uint32_t count)
@@ -294,13 +340,14 @@ static void open_beside(void)
     open_place();
 }
 
-static uint64_t pack_by(enum naming how, unsigned edition, uint32_t n, uint8_t *to)
+static uint64_t pack_by(enum naming how, unsigned edition, unsigned order, uint32_t n, uint8_t *to)
 {
     if (how == HOUSE)
         return bh_pack_house(file.at, file.n, now.resource, now.type, now.update, n, to, out.n);
     if (how == UNNAMED)
         return bh_pack(file.at, file.n, now.resource, now.type, now.update, now.protection, now.rows, now.size, n, to, out.n);
-    return bh_pack_as(file.at, file.n, now.resource, now.type, now.update, now.protection, now.rows, now.size, (uint16_t)edition, n, to, out.n);
+    return bh_pack_as(file.at, file.n, now.resource, now.type, now.update, now.protection, now.rows, now.size, (uint16_t)edition, (uint16_t)order, n, to,
+                      out.n);
 }
 
 /* the numbers of a packet whose fields have to be taken */
@@ -312,8 +359,8 @@ static struct fields read_packet(const uint8_t *p, size_t n)
 {
     struct fields f;
     uint32_t told[BH_FIELDS];
-    if (bh_read_fields(p, n, told, BH_FIELDS) != 0)
-        fail("the fields of a packet that was packed, or judged by a place, are refused");
+    if (bh_read_header(p, n, told, BH_FIELDS) != 0)
+        fail("the header of a packet that was packed, or judged by a place, is refused");
     memcpy(&f, told, sizeof f);
     return f;
 }
@@ -333,6 +380,40 @@ static void judge_twins(const uint8_t *one, const uint8_t *two, size_t n)
     }
 }
 
+/* the checks of row r of table t of the file, and behind its information bytes */
+static void coded_row_of(size_t t, size_t r, uint8_t *row)
+{
+    size_t m = now.rows;
+    for (size_t c = 0; c < BH_ROW_INFO; c++) {
+        size_t i = t * BH_ROW_INFO * m + c * m + r;
+        row[c] = i < file.n ? file.at[i] : 0;
+    }
+    bh_encode_row(row, BH_ROW_INFO, row + BH_ROW_INFO, BH_ROW_CHECKS);
+}
+
+/* a packet in column order: sent byte i is of table i / (255 M), there of row j mod M and column j div M; every payload is full but the last, whose rest
+ * is what 255 M T leaves */
+static void judge_columns(const uint8_t *p, size_t n)
+{
+    struct fields f = read_packet(p, n);
+    uint8_t row[BH_ROW];
+    size_t m = now.rows, all = BH_ROW * m * ((file.n + BH_ROW_INFO * m - 1) / (BH_ROW_INFO * m)), from = (size_t)f.number * now.size;
+    if (f.rows != m || f.protection != 1 || f.count != (all + now.size - 1) / now.size || n - 18 != (all - from < now.size ? all - from : now.size))
+        fail("a column packet of another shape than its file has");
+    /* rows are encoded at a handful of bytes, the file's own are looked at everywhere */
+    for (size_t i = from; i < from + n - 18; i++) {
+        size_t t = i / (BH_ROW * m), j = i % (BH_ROW * m), at = t * BH_ROW_INFO * m + j;
+        if (j < BH_ROW_INFO * m) {
+            if (p[14 + i - from] != (at < file.n ? file.at[at] : 0))
+                fail("an information byte stands in the wrong column");
+        } else if (i == from + n - 19 || i % 64 == 0) {
+            coded_row_of(t, j % m, row);
+            if (p[14 + i - from] != row[j / m])
+                fail("a check stands in the wrong column");
+        }
+    }
+}
+
 /* what was answered, and stands in the output, beside the same packet in each edition by name */
 static void judge_packed(uint64_t a, enum naming how, uint32_t n)
 {
@@ -340,12 +421,16 @@ static void judge_packed(uint64_t a, enum naming how, uint32_t n)
     struct settings kept = now;
     if (how == HOUSE)
         now.protection = 1, now.rows = 32, now.size = 255;
-    uint64_t one = pack_by(NAMED, 1, n, twins[0]), two = pack_by(NAMED, 2, n, twins[1]);
-    unsigned edition = how == NAMED ? kept.edition : 2;
+    unsigned edition = edition_of(how), order = order_of(how);
+    uint64_t one = pack_by(NAMED, 1, order, n, twins[0]), two = pack_by(NAMED, 2, order, n, twins[1]);
     if (one != two || a != (is_edition(edition) ? one : BH_FIELD))
         fail("an edition changes more of an answer than it may");
     if (bh_number(one) == 0)
         judge_twins(twins[0], twins[1], (size_t)bh_value(one));
+    if (!is_order(order, now.protection) && bh_number(a) != BH_FIELD)
+        fail("packed in no order, or in columns without protection");
+    if (bh_number(one) == 0 && order == IN_COLUMNS)
+        judge_columns(twins[0], (size_t)bh_value(one));
     if (bh_number(a) == 0 && memcmp(out.at, twins[edition - 1], (size_t)bh_value(a)) != 0)
         fail("packed in another edition than was meant");
     now = kept;
@@ -356,7 +441,7 @@ static int pack_number(enum naming how, uint32_t n)
 {
     keep_all();
     SAY("pack%s %" PRIu32 "\n", behind[how], n);
-    uint64_t a = pack_by(how, now.edition, n, out.at);
+    uint64_t a = pack_by(how, now.edition, now.order, n, out.at);
     judge(a, may(bh_number(a), 25, 26, "\x06\x11\x17"), (size_t)bh_value(a), 0, 0);
     judge_packed(a, how, n);
     if (bh_number(a) != 0)
@@ -405,11 +490,11 @@ static void into_stream(void)
     packet.at[9] &= 0xF0, packet.at[10] = packet.at[11] = 0, packet.at[12] &= 0x3F;
 }
 
-/* a byte more of payload, with protection a row; and so more than a slot of its place holds, where the packet was a full one */
+/* a byte more of payload, with protection and in row order a row; and so more than a slot of its place holds, where the packet was a full one */
 static void widen(void)
 {
     static uint8_t held[BH_LARGEST_PACKET];
-    size_t n = packet.n + (now.protection ? BH_ROW : 1);
+    size_t n = packet.n + (now.protection && now.order != IN_COLUMNS ? BH_ROW : 1);
     if (n > BH_LARGEST_PACKET)
         return;
     memset(held, 0, sizeof held);
@@ -481,6 +566,24 @@ static size_t first_beyond(void)
     return k;
 }
 
+/* Rows is told exactly where the payload of a protected packet, of which nothing before it is wrong, is no whole rows, and no place in column order has
+ * its resource and type */
+static void judge_rows(uint64_t a)
+{
+    uint32_t told[BH_FIELDS];
+    unsigned number = bh_number(bh_read_fields(packet.at, packet.n, told, BH_FIELDS)), headed = bh_number(bh_read_header(packet.at, packet.n, told, BH_FIELDS));
+    if (bh_number(a) == BH_RECORD_BAD)
+        return;
+    int columns = 0;
+    for (unsigned i = 0; i < BH_PLACES && packet.n >= BH_SMALLEST_PACKET; i++) {
+        struct bh_place p = bh_place_at(record.at, i);
+        columns |= p.order == IN_COLUMNS && p.resource != 0 && p.resource == (packet.at[3] << 8 | packet.at[4]) && p.type == packet.at[12] >> 6;
+    }
+    unsigned first = columns ? headed : number;
+    if (first != 0 ? a != first : (bh_number(a) != 0 && bh_number(a) < BH_UNKNOWN))
+        fail("an offer does not stop where reading its fields stops");
+}
+
 /* an offer that was judged by a place: 33 exactly where the packet is not of the place's edition, but 11 before it */
 static void judge_offered_edition(uint64_t a)
 {
@@ -491,6 +594,24 @@ static void judge_offered_edition(uint64_t a)
         fail("11 where nothing is other, or another answer where something is");
     if (!other && (f.edition != p.edition) != (bh_number(a) == BH_EDITION))
         fail("a place took another edition than its own, or refused its own");
+    if (p.order == IN_COLUMNS && (bh_number(a) == BH_REPAIR || bh_mended(a) != 0))
+        fail("something was repaired in column order");
+}
+
+/* at a column place that took the fields: 12, 14, 15 and 16 in this order, by what the packet and the slot before it show */
+static void judge_column_offer(uint64_t a)
+{
+    struct fields f = read_packet(packet.at, packet.n);
+    struct bh_place p = place_of(f.resource, f.type);
+    if (p.order != IN_COLUMNS || bh_number(a) == BH_OTHER || bh_number(a) == BH_EDITION)
+        return;
+    const uint8_t *crc = packet.at + packet.n - 4, *slot = store.copy + p.start + f.number * (p.slot + 2u);
+    size_t length = packet.n - 18, there = little(slot, 2);
+    int agrees = bh_crc32(packet.at, packet.n - 4) == ((uint32_t)crc[0] << 24 | (uint32_t)crc[1] << 16 | (uint32_t)crc[2] << 8 | crc[3]);
+    int alike = there == length && memcmp(slot + 2, packet.at + 14, length) == 0;
+    uint64_t due = length > p.slot ? BH_WIDE : !agrees ? BH_CRC_BAD : there > p.slot ? BH_SLOT : alike ? 256 : there > 0 ? BH_CONFLICT : 0;
+    if (a != due)
+        fail("an offer in column order is answered by other than width, CRC and slot");
 }
 
 /* a refusal is no repeat, has mended nothing, and has no value but the row that 13 names */
@@ -532,6 +653,7 @@ static void offer_one(void)
     uint64_t a = bh_offer(record.at, record.n, store.at, store.n, packet.at, packet.n);
     judge(a, may(bh_number(a), 1, 16, "\x21"), 0, 1, 0);
     judge_record(a);
+    judge_rows(a);
     if (bh_number(a) == 0)
         judge_taken_offer(a);
     else
@@ -540,6 +662,7 @@ static void offer_one(void)
         if (type != 1 && type != 2)
             fail("a packet of a type that no place has was judged by a place");
         judge_offered_edition(a);
+        judge_column_offer(a);
     }
     ask_after(type);
 }
@@ -552,6 +675,20 @@ static unsigned edition_told(const struct fields *f)
     return f->reserved == 0 && (f->protection == 1 || f->rows == 0) ? 2 : 0;
 }
 
+/* the two readers say the same but where the one says Rows: then the payload is no whole rows, and the other goes on to the resource and the room */
+static void judge_readers(size_t room)
+{
+    uint32_t told[2][BH_FIELDS] = {{0}};
+    uint64_t strict = bh_read_fields(packet.at, packet.n, told[0], room), header = bh_read_header(packet.at, packet.n, told[1], room);
+    int no_rows = packet.n >= BH_SMALLEST_PACKET && (packet.n - 18) % BH_ROW != 0 && (packet.at[12] >> 4 & 3) == 1;
+    if (bh_number(header) == BH_ROWS || (bh_number(strict) == BH_ROWS) != (no_rows && (header == 0 || header == BH_RESOURCE || header == BH_OUTPUT)))
+        fail("Rows is told by the wrong reader, or of the wrong packet");
+    if (bh_number(strict) != BH_ROWS && (strict != header || memcmp(told[0], told[1], sizeof told[0]) != 0))
+        fail("the two readers differ");
+    if (bh_number(strict) == BH_ROWS && header != 0 && header != (packet.at[3] == 0 && packet.at[4] == 0 ? BH_RESOURCE : BH_OUTPUT))
+        fail("the reader of headers stops elsewhere behind Rows");
+}
+
 static void read_one(void)
 {
     uint32_t fields[BH_FIELDS + 1], before[BH_FIELDS + 1];
@@ -562,10 +699,11 @@ static void read_one(void)
         into_stream();
     if (packet.n > 18 && pick() % 4 == 0)
         spoil_spare();
+    int header = pick() % 2;
     keep_all();
     say_bytes(&packet, "bytes");
-    SAY("read %zu\n", room);
-    uint64_t a = bh_read_fields(packet.at, packet.n, fields, room);
+    SAY("read%s %zu\n", header ? "-header" : "", room);
+    uint64_t a = (header ? bh_read_header : bh_read_fields)(packet.at, packet.n, fields, room);
     if (bh_number(a) != 0 ? memcmp(fields, before, sizeof fields) != 0 : fields[BH_FIELDS] != before[BH_FIELDS])
         fail("a number beyond the fields changed");
     if (bh_number(a) == 0) {
@@ -576,6 +714,7 @@ static void read_one(void)
             out.at[i] = (uint8_t)(fields[i / 4] >> (24 - 8 * (i % 4)));
     }
     judge(a, may(bh_number(a), 1, 8, "\x1a"), out.n, 0, 0);
+    judge_readers(room);
 }
 
 /* no place has another type than 1 and 2 */
@@ -597,6 +736,58 @@ static void status_one(void)
     only_unknown(a, type);
 }
 
+/* the rows of a column place's file, what each lacks, and the lengths of its slots, beside the answer: 15, 23, 22 and 31 exactly as they show, and
+ * with nothing lost in a file that the answer gives, its bytes are those of the slots. Answers whether it comes to 32, 24 or 26 */
+static int judge_losses(uint64_t a, struct bh_place p, uint64_t length)
+{
+    uint64_t m = p.rows, tables = (length + BH_ROW_INFO * m - 1) / (BH_ROW_INFO * m), all = BH_ROW * m * tables, due = 0;
+    for (uint32_t k = 0; k < p.count; k++)
+        if (little(slot_of(p, k), 2) > p.slot)
+            due = BH_SLOT;
+    if (due == 0 && (length == 0 || length > BH_LARGEST_FILE || (all + p.slot - 1) / p.slot != p.count))
+        due = BH_SIZE;
+    for (uint32_t k = 0; k < p.count && due == 0; k++) {
+        uint64_t left = all - (uint64_t)k * p.slot, there = little(slot_of(p, k), 2);
+        if (there != 0 && there != (left < p.slot ? left : p.slot))
+            due = BH_SHAPE;
+    }
+    for (uint64_t row = 0; row < tables * m && due == 0; row++) {
+        unsigned lacks = 0;
+        for (uint64_t c = 0; c < BH_ROW; c++)
+            lacks += little(slot_of(p, (size_t)((row / m * BH_ROW * m + c * m + row % m) / p.slot)), 2) == 0;
+        if (lacks > 16)
+            due = 256 * row + BH_LOST;
+    }
+    if (due != 0 ? a != due : !may(bh_number(a), BH_PADDING, BH_PADDING, "\x20\x1a") || bh_value(a) != 0)
+        fail("a column place is handed out by other than its slots show");
+    return due == 0;
+}
+
+/* what came out at a column place: wherever a byte of the file was not lost, it is the byte of its slot */
+static void judge_kept_bytes(struct bh_place p, uint64_t length)
+{
+    uint64_t m = p.rows;
+    for (uint64_t i = 0; i < length; i++) {
+        uint64_t at = i / (BH_ROW_INFO * m) * BH_ROW * m + i % (BH_ROW_INFO * m);
+        const uint8_t *slot = slot_of(p, (size_t)(at / p.slot));
+        if (little(slot, 2) != 0 && out.at[i] != slot[2 + at % p.slot])
+            fail("a byte that was not lost came out changed");
+    }
+}
+
+static void judge_hand_out(uint64_t a, uint16_t resource, uint8_t type, uint64_t length)
+{
+    if (bh_number(a) == BH_RECORD_BAD || bh_number(a) == BH_UNKNOWN)
+        return;
+    struct bh_place p = place_of(resource, type);
+    if (p.order != IN_COLUMNS) {
+        if (may(bh_number(a), BH_LOST, BH_CODE, "") && bh_number(a) != 0)
+            fail("31 or 32 of a place in row order");
+    } else if (judge_losses(a, p, length) && bh_number(a) == 0) {
+        judge_kept_bytes(p, length);
+    }
+}
+
 static void hand_one(void)
 {
     uint64_t length = pick() % 4 == 0 ? number_of(pick()) : file.n + pick() % 8 / 7;
@@ -604,9 +795,10 @@ static void hand_one(void)
     keep_all();
     SAY("hand %u %u %" PRIu64 "\n", now.resource, type, length);
     uint64_t a = bh_hand_out(record.at, record.n, store.at, store.n, now.resource, type, length, out.at, out.n);
-    judge(a, may(bh_number(a), 21, 24, "\x09\x0a\x0f\x1a"), (size_t)length, 0, 0);
+    judge(a, may(bh_number(a), 21, 24, "\x09\x0a\x0f\x1a\x1f\x20"), (size_t)length, 0, 0);
     judge_record(a);
     only_unknown(a, type);
+    judge_hand_out(a, now.resource, type, length);
 }
 
 /* whatever changed in the record is a place that is all 0 now */
@@ -703,7 +895,7 @@ static void disturb(void)
     size_t place = BH_PLACE * (pick() % BH_PLACES);
     if (way == 0) {
         /* a fresh record but for its length, or one with bytes in it */
-        static const uint8_t lengths[] = {0, 128, BH_RECORD - 1, BH_RECORD + 1, BH_RECORD + 16, 255};
+        static const uint8_t lengths[] = {0, 128, 144, BH_RECORD - 1, BH_RECORD + 1, BH_RECORD + 16, 255};
         int other = pick() % 4 == 0;
         size_of(&record, other ? lengths[pick() % sizeof lengths] : BH_RECORD);
         for (size_t i = 0; i < record.n; i++)
@@ -711,9 +903,9 @@ static void disturb(void)
     } else if (record.n == BH_RECORD && way < 3) {
         /* a place of the other type, so that two may share both */
         record.at[place + 2] ^= 3;
-    } else if (record.n == BH_RECORD && way < 5) {
-        /* a place of the other edition, or of none */
-        record.at[place + 16 + pick() % 4 / 3] = (uint8_t)(pick() % 4);
+    } else if (record.n == BH_RECORD && way < 6) {
+        /* a place of the other edition or order, or of none */
+        record.at[place + 16 + pick() % 4] = (uint8_t)(pick() % 4);
     } else if (record.n > 0) {
         record.at[pick() % record.n] = (uint8_t)pick();
     }
@@ -803,13 +995,134 @@ static void mend_round(void)
         }
 }
 
+/* the bytes of row r of table t that stand in empty slots */
+static unsigned lacking(struct bh_place p, uint64_t row)
+{
+    unsigned lacks = 0;
+    for (uint64_t c = 0; c < BH_ROW; c++)
+        lacks += little(slot_of(p, (size_t)((row / p.rows * BH_ROW * p.rows + c * p.rows + row % p.rows) / p.slot)), 2) == 0;
+    return lacks;
+}
+
+/* the file as it is or with one byte more or less, and what is told of it: the file itself as long as no row lacks more than sixteen bytes; with a byte of
+ * a slot altered 32 always, where its row lacks at most fifteen */
+static void hand_out_columns(int altered, uint64_t row)
+{
+    struct bh_place p = place_of(now.resource, now.type);
+    uint64_t length = file.n + (pick() % 8 == 0) - (pick() % 8 == 0), rows = p.rows * ((file.n + 239u * p.rows - 1) / (239u * p.rows));
+    unsigned most = 0;
+    for (uint64_t k = 0; k < rows; k++)
+        most = lacking(p, k) > most ? lacking(p, k) : most;
+    fill_out(pick(), pick() % 8 ? file.n + 3 : file.n - 1);
+    keep_all();
+    SAY("hand %u %u %" PRIu64 "\n", now.resource, now.type, length);
+    uint64_t a = bh_hand_out(record.at, record.n, store.at, store.n, now.resource, now.type, length, out.at, out.n);
+    judge(a, may(bh_number(a), 22, 24, "\x1a\x1f\x20"), (size_t)length, 0, 0);
+    judge_hand_out(a, now.resource, now.type, length);
+    if (most > 16 || length != file.n)
+        return;
+    if (!altered && (out.n < length ? a != BH_OUTPUT : a != 0 || memcmp(out.at, file.at, file.n) != 0))
+        fail("a file that lacks at most sixteen bytes a row did not come out");
+    if (altered && lacking(p, row) < 16 && a != BH_CODE)
+        fail("a wrong byte beside at most fifteen losses was not seen");
+}
+
+/* a file in column order in a place of its own, its packets stored but for some; then slots made empty, the bytes that they held staying or not, and a byte
+ * of another altered now and then, and each time it is handed out */
+static void column_round(void)
+{
+    new_store(), new_file(), fill_out(0, BH_LARGEST_PACKET);
+    now = (struct settings){.resource = (uint16_t)(1 + pick() % 4), .type = (uint8_t)(1 + pick() % 2), .update = (uint8_t)(pick() % 16), .protection = 1,
+                            .rows = (uint8_t)(1 + pick() % 9), .edition = (uint16_t)(1 + pick() % 2), .order = IN_COLUMNS};
+    now.size = some_size();
+    say_settings();
+    uint32_t all = packets();
+    /* no more packets than a transcript can bear, of no longer a file than the store holds */
+    if (file.n == 0 || all > 600 || all * (now.size + 2u) > store.n)
+        return;
+    enum naming how = NAMED;
+    SAY("open-as %" PRIu32 "\n", all);
+    keep_all();
+    uint64_t opened = open_by(how, all);
+    judge(opened, opened == 0, 0, 1, 1);
+    judge_opened(how);
+    SAY("send %" PRIu32 " 1 %" PRIu32 " 0 0 0\n", all, all);
+    for (uint32_t n = 0; n < all; n++) {
+        uint64_t made = pack_by(how, now.edition, now.order, n, out.at);
+        if (bh_number(made) != 0 || bh_offer(record.at, record.n, store.at, store.n, out.at, (size_t)bh_value(made)) != 0)
+            fail("a column packet was not stored");
+    }
+    SAY("out 0 %d\n", BH_LARGEST_PACKET);
+    struct bh_place p = place_of(now.resource, now.type);
+    for (unsigned turn = 0; turn < 3; turn++) {
+        unsigned gone = now.size >= now.rows * 16u ? pick() % 3 : (unsigned)(pick() % 19 * now.rows / now.size + pick() % 2);
+        for (uint32_t from = wide() % all, run = pick() % 2; gone > 0; gone--) {
+            size_t at = (size_t)(slot_of(p, run ? (from + gone) % all : wide() % all) - store.at);
+            poke(at, 0), poke(at + 1, 0);
+            if (pick() % 4 == 0)
+                poke(at + 2, (uint8_t)pick());
+        }
+        /* one byte of a filled slot, by its row */
+        uint64_t sent = wide() % ((uint64_t)(all - 1) * now.size + little(slot_of(p, all - 1), 2) + (all == 1)), row = sent / (BH_ROW * p.rows) * p.rows + sent % p.rows;
+        size_t at = (size_t)(slot_of(p, (size_t)(sent / p.slot)) - store.at) + 2 + (size_t)(sent % p.slot);
+        int altered = pick() % 2 && little(slot_of(p, (size_t)(sent / p.slot)), 2) > sent % p.slot;
+        uint8_t before = store.at[at];
+        if (altered)
+            poke(at, before ^ (uint8_t)(1 + pick() % 255));
+        hand_out_columns(altered, row);
+        if (altered)
+            poke(at, before);
+        /* a slot of another length */
+        if (pick() % 4 == 0) {
+            size_t slot = (size_t)(slot_of(p, wide() % all) - store.at);
+            uint8_t low = store.at[slot];
+            poke(slot, (uint8_t)(low ^ (1 << pick() % 8)));
+            hand_one();
+            poke(slot, low);
+        }
+        hand_one();
+        status_one();
+    }
+}
+
+/* packets of a file in column order to whatever is open, with the other type's place in it now and then, and parts of the header altered */
+static void rows_round(void)
+{
+    if (pick() % 2) {
+        now.protection = 1, now.order = IN_COLUMNS, now.rows = (uint8_t)(1 + pick() % 3), now.size = some_size();
+        say_settings();
+        if (pick() % 4)
+            open_place();
+    }
+    for (unsigned k = 0; k < 4; k++) {
+        if (!pack_number(NAMED, packets() ? wide() % packets() : 0))
+            return;
+        unsigned way = pick() % 8;
+        if (way < 3)
+            packet.at[way == 0 ? 12 : way == 1 ? 7 : 13] ^= (uint8_t)(way == 0 ? 0xC0 : 1u << pick() % 8);
+        if (way == 3)
+            packet.at[4] ^= (uint8_t)(1 + pick() % 3);
+        if (way == 4)
+            offer_to_damaged_slot();
+        if (way == 5)
+            widen();
+        if (way == 6)
+            packet.at[14 + wide() % (packet.n - 18)] ^= (uint8_t)pick();
+        if (way < 4 && pick() % 4)
+            seal();
+        offer_one();
+        if (pick() % 4 == 0)
+            offer_one();
+    }
+}
+
 int LLVMFuzzerTestOneInput(const uint8_t *data, size_t size)
 {
     static void (*const steps[])(void) = {
         choose_settings, new_file, new_store, new_out, new_out, open_place, open_place, open_place, open_beside, open_beside, open_beside,
         open_beside, pack_one, pack_one, pack_one, spoil, spoil, offer_one, offer_one, offer_one, offer_one, read_one, read_one, status_one,
         status_one, hand_one, hand_one, hand_one, close_one, row_one, row_one, disturb, edition_round, edition_round, edition_round, several_offers,
-        several_offers, several_offers, mend_round, mend_round, vary_settings, vary_settings, describe_round, describe_round, describe_round, describe_one,
+        several_offers, several_offers, mend_round, mend_round, column_round, column_round, rows_round, rows_round, rows_round, vary_settings, vary_settings, describe_round, describe_round, describe_round, describe_one,
         compose_round, compose_round, compose_round, compose_one};
     static const uint8_t nothing[1];
     lend_all();

@@ -115,8 +115,8 @@ void say_record(void)
     fprintf(transcript, "held %zu\n", record.n);
     for (unsigned i = 0; i < BH_PLACES && i < record.n / BH_PLACE; i++) {
         struct bh_place p = bh_place_at(record.at, i);
-        fprintf(transcript, "place %u %u %u %u %" PRIu32 " %u %u %u %" PRIu32 " %u\n", i, p.resource, p.type, p.update, p.count, p.protection, p.rows, p.slot,
-                p.start, p.edition);
+        fprintf(transcript, "place %u %u %u %u %" PRIu32 " %u %u %u %" PRIu32 " %u %u\n", i, p.resource, p.type, p.update, p.count, p.protection, p.rows, p.slot,
+                p.start, p.edition, p.order);
     }
 }
 
