@@ -655,7 +655,7 @@ class Writer(Choices):
     # ---- all together
 
     WEIGHTS = {"fresh": 3, "open": 16, "close": 5, "offer": 28, "offer_made": 7, "offer_noise": 3, "edition": 18, "rows": 12, "columns": 14, "mend": 7, "status": 5, "hand": 7,
-               "complete": 6, "poke": 8, "fill_slots": 3, "place": 6, "held_edition": 5, "held_order": 5, "pack": 12, "pack_many": 1, "read": 22, "encode": 2, "repair": 5, "crc": 2,
+               "complete": 6, "poke": 8, "fill_slots": 3, "place": 6, "held_edition": 5, "held_order": 5, "pack": 12, "pack_many": 1, "read": 22, "encode": 2, "repair": 8, "crc": 2,
                "describe": 18, "edit_lines": 2, "compose": 14}
 
     def look(self):

@@ -3,7 +3,7 @@
 beside the first, files sent and handed out, descriptions read and written, every refusal by a case written by hand, and that compare sees a changed
 byte. The last line says how many checks passed."""
 
-import concurrent.futures, itertools, os, pathlib, random, re, subprocess, sys, tempfile, zlib
+import concurrent.futures, itertools, multiprocessing, os, pathlib, random, re, subprocess, sys, tempfile, zlib
 
 import cases, random_cases
 import receiver as r
@@ -1632,13 +1632,20 @@ def every_edition(told):
     same([t for t in told if t and (t.startswith("edition") and not t.endswith((": 11", ": 33")) or t.startswith("its own") and t.endswith(": 33"))], [])
 
 
+def watched(seed):
+    writer = Watched(seed)
+    return writer.write(3000), writer.told
+
+
 def test_random_files():
-    writer = Watched(6)
-    lines = writer.write(4000)
-    every_way(writer.told)
-    every_number(writer.told)
-    every_edition(writer.told)
-    every_order(writer.told)
+    """What comes up in two files, written beside each other."""
+    with concurrent.futures.ProcessPoolExecutor(2, multiprocessing.get_context("fork")) as pool:
+        (lines, told), (others, too) = pool.map(watched, (6, 7))
+    lines, told = lines + others, told | too
+    every_way(told)
+    every_number(told)
+    every_edition(told)
+    every_order(told)
     same([n for n in r.REFUSALS if not any(f" refused {n} " in line + " " for line in lines)], [])
     for call in ("describe", "compose"):
         answers = {answer.split(" ", 2)[2] for line, answer in zip(lines, lines[1:]) if line.startswith(call + " ")}
