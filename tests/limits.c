@@ -1,5 +1,5 @@
-/* The cases that need more memory than the program `cases` has: the largest file, stores longer than their usable part, and long descriptions; and what the
-   header's own functions tell of an answer and of a record.
+/* The cases that need more memory than the program `cases` has: the largest file, in rows and in columns, stores longer than their usable part, and long
+   descriptions; and what the header's own functions tell of an answer and of a record.
    limits packets: writes every packet of the largest protected file to standard output instead, for reference/largest.py. */
 #include "brithelva.h"
 
@@ -28,11 +28,154 @@ static void packing(uint8_t *file)
     expect("a byte more, at the house setting", BH_SIZE, bh_pack_house(file, BH_LARGEST_FILE + 1, 1, 1, 0, 0, packet, sizeof packet));
     expect("size before count", BH_SIZE, bh_pack(file, BH_LARGEST_FILE + 1, 1, 1, 0, 0, 0, 1, 0, packet, sizeof packet));
     expect("field before size", BH_FIELD, bh_pack(file, BH_LARGEST_FILE + 1, 0, 1, 0, 0, 0, 1, 0, packet, sizeof packet));
-    expect("edition before size", BH_FIELD, bh_pack_as(file, BH_LARGEST_FILE + 1, 1, 1, 0, 1, 255, 255, 3, 0, packet, sizeof packet));
-    expect("a byte more, in edition 1", BH_SIZE, bh_pack_as(file, BH_LARGEST_FILE + 1, 1, 1, 0, 1, 255, 255, 1, 0, packet, sizeof packet));
-    expect("the largest file in edition 1", 256 * 273, bh_pack_as(file, BH_LARGEST_FILE, 1, 1, 0, 1, 255, 255, 1, 276 * 255 - 1, packet, sizeof packet));
+    expect("edition before size", BH_FIELD, bh_pack_as(file, BH_LARGEST_FILE + 1, 1, 1, 0, 1, 255, 255, 3, 0, 0, packet, sizeof packet));
+    expect("a byte more, in edition 1", BH_SIZE, bh_pack_as(file, BH_LARGEST_FILE + 1, 1, 1, 0, 1, 255, 255, 1, 0, 0, packet, sizeof packet));
+    expect("the largest file in edition 1", 256 * 273, bh_pack_as(file, BH_LARGEST_FILE, 1, 1, 0, 1, 255, 255, 1, 0, 276 * 255 - 1, packet, sizeof packet));
     expect("count: 16 bytes a packet are too small", BH_COUNT, bh_pack(file, BH_LARGEST_FILE, 1, 1, 0, 0, 0, 16, 0, packet, sizeof packet));
     expect("count: 17 bytes a packet", 256 * 35, bh_pack(file, BH_LARGEST_FILE, 1, 1, 0, 0, 0, 17, 0, packet, sizeof packet));
+}
+
+/* packet n of n bytes of a file in column order */
+static uint64_t column_packet(const uint8_t *file, size_t n, uint8_t rows, uint16_t size, uint32_t number, uint8_t *packet, size_t room)
+{
+    return bh_pack_as(file, n, 1, 1, 0, 1, rows, size, 2, 1, number, packet, room);
+}
+
+/* the number, count and length that a packet's header says */
+static void expect_header(const char *name, const uint8_t *packet, size_t n, uint32_t number, uint32_t count)
+{
+    uint32_t fields[BH_FIELDS];
+    expect(name, 0, bh_read_header(packet, n, fields, BH_FIELDS));
+    expect(name, number, fields[1]);
+    expect(name, n, fields[3]);
+    expect(name, count, fields[4]);
+}
+
+/* the largest file in column order; the largest count, on each side; the largest table and the largest packet */
+static void column_packing(const uint8_t *file)
+{
+    uint8_t packet[BH_LARGEST_PACKET];
+    /* 276 tables of 255 rows are 17,946,900 bytes: 4402 packets, the last of 4023 */
+    expect("the largest file in columns, first packet", 256 * 4095, column_packet(file, BH_LARGEST_FILE, 255, 4077, 0, packet, sizeof packet));
+    expect("its bytes are the file's", 0, (uint64_t)(memcmp(packet + BH_HEADER, file, 4077) != 0));
+    expect_header("its first packet's header", packet, 4095, 0, 4402);
+    expect("its last packet", 256 * (18 + 4023), column_packet(file, BH_LARGEST_FILE, 255, 4077, 4401, packet, sizeof packet));
+    expect_header("its last packet's header", packet, 18 + 4023, 4401, 4402);
+    expect("no such packet", BH_NUMBER, column_packet(file, BH_LARGEST_FILE, 255, 4077, 4402, packet, sizeof packet));
+    expect("a byte more in columns", BH_SIZE, column_packet(file, BH_LARGEST_FILE + 1, 255, 4077, 0, packet, sizeof packet));
+    expect("order before size", BH_FIELD, bh_pack_as(file, BH_LARGEST_FILE + 1, 1, 1, 0, 1, 255, 255, 2, 2, 0, packet, sizeof packet));
+    expect("columns without protection", BH_FIELD, bh_pack_as(file, BH_LARGEST_FILE + 1, 1, 1, 0, 0, 255, 255, 2, 1, 0, packet, sizeof packet));
+    /* with 17 bytes a packet the largest file has 1055700, with 18 it has 997050 */
+    expect("17 bytes a packet are too small", BH_COUNT, column_packet(file, BH_LARGEST_FILE, 255, 17, 0, packet, sizeof packet));
+    expect("18 bytes a packet", 256 * 36, column_packet(file, BH_LARGEST_FILE, 255, 18, 997049, packet, sizeof packet));
+    expect("nearly as many packets as there can be", 256 * 19, column_packet(file, 239 * 4112, 1, 1, 255 * 4112 - 1, packet, sizeof packet));
+    expect_header("their count", packet, 19, 255 * 4112 - 1, 255 * 4112);
+    expect("a byte more of the file", BH_COUNT, column_packet(file, 239 * 4112 + 1, 1, 1, 0, packet, sizeof packet));
+    /* 255 * M * T = 17 * 1048575 where M * T is 69905 = 5 * 11 * 31 * 41: 451 tables of 155 rows */
+    expect("1048575 packets", 256 * 35, column_packet(file, 239 * 155 * 451, 155, 17, 1048574, packet, sizeof packet));
+    expect_header("the largest count", packet, 35, 1048574, 1048575);
+    expect("not one more", BH_NUMBER, column_packet(file, 239 * 155 * 451, 155, 17, 1048575, packet, sizeof packet));
+    expect("a table more", BH_COUNT, column_packet(file, 239 * 155 * 451 + 1, 155, 17, 0, packet, sizeof packet));
+}
+
+/* slot k of a place at 0 */
+static uint8_t *slot_of(uint8_t *store, uint16_t size, size_t k)
+{
+    return store + k * (size + 2u);
+}
+
+/* makes it empty; what it held stays behind */
+static void lose(uint8_t *store, uint16_t size, size_t k)
+{
+    slot_of(store, size, k)[0] = slot_of(store, size, k)[1] = 0;
+}
+
+/* opens a place in columns and offers all packets of the file, the last first */
+static uint32_t collect(const uint8_t *file, size_t n, uint8_t rows, uint16_t size, uint8_t *record, uint8_t *store, size_t room)
+{
+    uint8_t packet[BH_LARGEST_PACKET];
+    uint64_t all = 255ull * rows * ((n + 239ull * rows - 1) / (239ull * rows));
+    uint32_t count = (uint32_t)((all + size - 1) / size);
+    memset(record, 0, BH_RECORD);
+    expect("a place in columns", 0, bh_open_as(record, BH_RECORD, store, room, 1, 1, 0, count, 1, rows, size, 2, 1));
+    uint64_t refused = 0;
+    for (uint32_t k = count; k-- > 0;) {
+        uint64_t answer = column_packet(file, n, rows, size, k, packet, sizeof packet);
+        refused += bh_number(answer) != 0 || bh_offer(record, BH_RECORD, store, room, packet, (size_t)bh_value(answer)) != 0;
+    }
+    expect("its packets", 0, refused);
+    return count;
+}
+
+static void expect_file(const char *name, const uint8_t *file, size_t n, const uint8_t *record, const uint8_t *store, uint8_t *out)
+{
+    memset(out, 0x5A, n + 8);
+    expect(name, 0, bh_hand_out(record, BH_RECORD, store, BH_USABLE_STORE, 1, 1, n, out, n));
+    expect(name, 0, (uint64_t)(memcmp(file, out, n) != 0 || out[n] != 0x5A));
+}
+
+/* a refusal leaves the output as it is */
+static void expect_none(const char *name, uint64_t answer, size_t n, const uint8_t *record, const uint8_t *store, uint8_t *out)
+{
+    memset(out, 0x5A, 4096);
+    expect(name, answer, bh_hand_out(record, BH_RECORD, store, BH_USABLE_STORE, 1, 1, n, out, n));
+    for (size_t i = 0; i < 4096; i++)
+        if (out[i] != 0x5A) {
+            expect("a refusal wrote", 0, 1);
+            return;
+        }
+}
+
+/* a file as large as a store can hold in columns, M 255 and slots of 4077: a lost packet costs each row fifteen or sixteen bytes */
+static void largest_columns(const uint8_t *file, uint8_t *store, uint8_t *out)
+{
+    uint8_t record[BH_RECORD];
+    /* 257 tables are 16,711,425 bytes: 4099 packets and 16,719,821 bytes of slots */
+    size_t n = 239 * 255 * 257 - 1000;
+    uint32_t count = collect(file, n, 255, 4077, record, store, BH_USABLE_STORE);
+    expect("the largest place in columns", 4099, count);
+    expect_file("the largest file of a store, in columns", file, n, record, store, out);
+    /* a table has about sixteen packets: one of every third table, and none of the last */
+    for (size_t k = 3; k + 48 < count; k += 48)
+        lose(store, 4077, k);
+    expect_file("one packet of many tables lost", file, n, record, store, out);
+    expect("its status", 256 * ((uint64_t)(count - 85) | (uint64_t)4 << 24), bh_status(record, BH_RECORD, store, BH_USABLE_STORE, 1, 1));
+    lose(store, 4077, count - 1);
+    expect_file("the last packet lost too", file, n, record, store, out);
+    uint8_t *kept = slot_of(store, 4077, 2000) + 2 + 1000;
+    *kept ^= 1;
+    expect_none("a byte in the middle wrong", BH_CODE, n, record, store, out);
+    lose(store, 4077, count - 2);
+    /* the last two packets stand in the last table: its first row has lost a byte of the one and some of the other */
+    expect_none("two packets of the last table lost", BH_LOST + 256 * (uint64_t)(256 * 255), n, record, store, out);
+    expect_none("another length", BH_SIZE, n + 239 * 255, record, store, out);
+    expect_none("no length", BH_SIZE, 0, record, store, out);
+    slot_of(store, 4077, 5)[1] = 1;
+    expect_none("a slot of 4077 that says less", BH_SHAPE, n, record, store, out);
+    slot_of(store, 4077, 4000)[1] = 0xFF;
+    expect_none("a slot that says more", BH_SLOT, n, record, store, out);
+}
+
+/* sixteen bytes lost in every row of many tables: a byte a packet, and a column a packet */
+static void many_losses(const uint8_t *file, uint8_t *store, uint8_t *out)
+{
+    static const uint8_t rows[] = {1, 2, 255};
+    uint8_t record[BH_RECORD];
+    for (size_t i = 0; i < sizeof rows; i++) {
+        uint16_t size = rows[i];
+        size_t tables = size == 255 ? 60 : 400, n = 239 * size * tables - 7;
+        uint32_t count = collect(file, n, rows[i], size, record, store, BH_USABLE_STORE);
+        expect("a column a packet", 255 * tables, count);
+        for (size_t t = 0; t < tables; t++)
+            for (size_t k = 0; k < 16; k++)
+                lose(store, size, 255 * t + (t * 31 + k * (1 + t % 15)) % 255);
+        expect_file("sixteen lost of each row", file, n, record, store, out);
+        size_t last = 255 * (tables - 1), one = 0;
+        while (slot_of(store, size, last + one)[0] == 0 && slot_of(store, size, last + one)[1] == 0)
+            one++;
+        lose(store, size, last + one);
+        expect_none("seventeen of the last table", BH_LOST + 256 * (uint64_t)(size * (tables - 1)), n, record, store, out);
+    }
 }
 
 /* only the first 16,777,216 bytes of a longer store are used */
@@ -196,11 +339,12 @@ static void places(void)
         expect("its slots", little(record, at + 10, 2), p.slot);
         expect("its start", little(record, at + 12, 4), p.start);
         expect("its edition", little(record, at + 16, 2), p.edition);
+        expect("its order", little(record, at + 18, 2), p.order);
     }
     static const unsigned none[] = {BH_PLACES, BH_PLACES + 1, 15, 255, 256, 1u << 31, UINT32_MAX};
     for (size_t k = 0; k < sizeof none / sizeof *none; k++) {
         struct bh_place p = bh_place_at(record, none[k]);
-        expect("no place", 0, (uint64_t)p.resource + p.type + p.update + p.count + p.protection + p.rows + p.slot + p.start + p.edition);
+        expect("no place", 0, (uint64_t)p.resource + p.type + p.update + p.count + p.protection + p.rows + p.slot + p.start + p.edition + p.order);
     }
 }
 
@@ -232,8 +376,11 @@ int main(int count, char **words)
         return packets(file);
     memset(store, 0xEE, room);
     packing(file);
+    column_packing(file);
     stores(store);
     largest(file, store, out);
+    largest_columns(file, store, out);
+    many_losses(file, store, out);
     mended(file, store);
     places();
     descriptions(file, store, out);

@@ -34,18 +34,18 @@ static void offer_alone(const uint8_t *record, uint8_t *store, const uint8_t *pa
     _exit(bh_number(answer) == BH_ACCEPTED && !bh_is_repeat(answer) && bh_mended(answer) == mended ? 0 : 1);
 }
 
-/* One file of one packet, with `wrong` bytes altered in each row. Returns the number of instructions that were looked behind. */
-static long walk(uint8_t protection, uint16_t size, size_t length, int wrong, uint8_t *store)
+/* The first packet of a file, with `wrong` bytes altered in each row. Returns the number of instructions that were looked behind. */
+static long walk(uint8_t protection, uint16_t order, uint16_t size, size_t length, int wrong, uint8_t *store)
 {
     uint8_t file[4096], packet[BH_LARGEST_PACKET], record[BH_RECORD] = {0}, before[ROOM], after[ROOM];
     for (size_t i = 0; i < sizeof file; i++)
         file[i] = (uint8_t)(i * 7 + 3);
-    uint64_t packed = bh_pack(file, length, 5, 1, 0, protection, 1, size, 0, packet, sizeof packet);
+    uint64_t packed = bh_pack_as(file, length, 5, 1, 0, protection, 1, size, 2, order, 0, packet, sizeof packet);
     must(bh_number(packed) == 0, "packing");
     size_t n = (size_t)bh_value(packed);
     uint32_t count = (uint32_t)packet[10] << 8 | packet[11];
     memset(store, 0xEE, ROOM);
-    must(bh_open(record, BH_RECORD, store, ROOM, 5, 1, 0, count, protection, 1, size) == 0, "opening");
+    must(bh_open_as(record, BH_RECORD, store, ROOM, 5, 1, 0, count, protection, 1, size, 2, order) == 0, "opening");
     memcpy(before, store, ROOM);
     memcpy(after, store, ROOM);
     must(bh_offer(record, BH_RECORD, after, ROOM, packet, n) == 0, "offering");
@@ -79,8 +79,9 @@ int main(void)
 {
     uint8_t *store = mmap(NULL, ROOM, PROT_READ | PROT_WRITE, MAP_SHARED | MAP_ANONYMOUS, -1, 0);
     must(store != MAP_FAILED, "no shared memory");
-    long all = walk(0, 1, 1, 0, store) + walk(0, 300, 300, 0, store) + walk(0, 4077, 4077, 0, store) + walk(1, 255, 200, 0, store)
-               + walk(1, 255, 200, 8, store) + walk(1, 510, 470, 3, store) + walk(1, 3825, 239 * 15, 0, store) + walk(1, 3825, 239 * 15, 1, store);
-    printf("steps: 8 offers, %ld instructions, no torn slot behind any of them\n", all);
+    long all = walk(0, 0, 1, 1, 0, store) + walk(0, 0, 300, 300, 0, store) + walk(0, 0, 4077, 4077, 0, store) + walk(1, 0, 255, 200, 0, store)
+               + walk(1, 0, 255, 200, 8, store) + walk(1, 0, 510, 470, 3, store) + walk(1, 0, 3825, 239 * 15, 0, store)
+               + walk(1, 0, 3825, 239 * 15, 1, store) + walk(1, 1, 1, 200, 0, store) + walk(1, 1, 255, 200, 0, store) + walk(1, 1, 4077, 239 * 15, 0, store);
+    printf("steps: 11 offers, %ld instructions, no torn slot behind any of them\n", all);
     return 0;
 }
