@@ -73,7 +73,7 @@ static void fill_slices(void)
             slices[k][b] = slices[k - 1][b] << 8 ^ slices[0][slices[k - 1][b] >> 24];
 }
 
-__attribute__((noinline)) static uint32_t crc_bytewise(const uint8_t *p, size_t n)
+__attribute__((noinline)) uint32_t crc_bytewise(const uint8_t *p, size_t n)
 {
     uint32_t r = 0xFFFFFFFF;
     for (size_t i = 0; i < n; i++)
@@ -100,14 +100,14 @@ __attribute__((noinline)) static uint32_t crc_eight(const uint8_t *p, size_t n)
 
 /* ---- rows and CRC */
 
-static void *rs;
+void *bench_rs;
 static uint8_t row[255], wrong[255], fixed[255], bytes[4095];
 static size_t crc_length;
 
 static void our_encode(void *w) { (void)w; bh_encode_row(row, 239, fixed, 16); sink += fixed[0]; }
-static void fec_encode(void *w) { (void)w; encode_rs_char(rs, row, fixed); sink += fixed[0]; }
+static void fec_encode(void *w) { (void)w; encode_rs_char(bench_rs, row, fixed); sink += fixed[0]; }
 static void our_repair(void *w) { sink += bh_repair_row(w, 255, fixed, 255); }
-static void fec_repair(void *w) { memcpy(fixed, w, 255); sink += (uint64_t)decode_rs_char(rs, fixed, NULL, 0); }
+static void fec_repair(void *w) { memcpy(fixed, w, 255); sink += (uint64_t)decode_rs_char(bench_rs, fixed, NULL, 0); }
 static void our_crc(void *w) { (void)w; sink += bh_crc32(bytes, crc_length); }
 static void byte_crc(void *w) { (void)w; sink += crc_bytewise(bytes, crc_length); }
 static void eight_crc(void *w) { (void)w; sink += crc_eight(bytes, crc_length); }
@@ -131,7 +131,7 @@ static void rows(void)
     for (int i = 0; i < 239; i++)
         row[i] = (uint8_t)rand();
     must(bh_encode_row(row, 239, row + 239, 16) == 0, "encode");
-    encode_rs_char(rs, row, theirs);
+    encode_rs_char(bench_rs, row, theirs);
     must(memcmp(theirs, row + 239, 16) == 0, "checks");
     tell("encode a row", 239e-6 / best(our_encode, NULL), 239e-6 / best(fec_encode, NULL), "MB/s", "libfec");
     must(bh_repair_row(row, 255, fixed, 255) == 0 && memcmp(row, fixed, 255) == 0, "a coded row");
@@ -212,7 +212,7 @@ static void peer_pack_all(void *w)
                 size_t i = t * 239 * m + c * m + r;
                 to[c] = i < j->n ? j->file[i] : 0;
             }
-            encode_rs_char(rs, to, to + 239);
+            encode_rs_char(bench_rs, to, to + 239);
         }
         uint32_t crc = crc_bytewise(at, length - 4);
         for (int b = 0; b < 4; b++)
@@ -250,7 +250,7 @@ static void peer_offer_all(void *w)
         size_t length = (size_t)at[8] << 4 | at[9] >> 4;
         memcpy(mended, at, length);
         for (size_t i = 14; i + 4 < length; i += 255)
-            sink += (uint64_t)decode_rs_char(rs, mended + i, NULL, 0);
+            sink += (uint64_t)decode_rs_char(bench_rs, mended + i, NULL, 0);
         sink += crc_bytewise(mended, length - 4);
         at += length;
     }
@@ -365,11 +365,12 @@ static void growth(void)
 int main(void)
 {
     srand(1);
-    rs = init_rs_char(8, 0x11d, 0, 1, 16, 0);
+    bench_rs = init_rs_char(8, 0x11d, 0, 1, 16, 0);
     fill_slices();
     rows();
     crcs();
     files();
+    columns();
     descriptions();
     growth();
     return 0;
