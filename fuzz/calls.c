@@ -54,6 +54,14 @@ static int is_order(unsigned order, unsigned protection)
     return order == IN_ROWS || (order == IN_COLUMNS && protection == 1);
 }
 
+/* the sizes that such an order has */
+static int is_size(unsigned size, unsigned order, unsigned protection)
+{
+    if (protection == 1 && order == IN_ROWS)
+        return size >= 255 && size <= 3825 && size % 255 == 0;
+    return size >= 1 && size <= BH_LARGEST_PAYLOAD;
+}
+
 static int is_edition(unsigned edition)
 {
     return edition == 1 || edition == 2;
@@ -103,7 +111,9 @@ static void choose_settings(void)
     now.protection = (uint8_t)(pick() % 16 == 0 ? pick() : way / 16 % 2);
     now.rows = (uint8_t)(pick() % 8 == 0 ? pick() : 1 + way % 3);
     now.order = some_order();
-    now.size = (uint16_t)(pick() % 8 == 0 ? wide() : some_size());
+    /* now and then at the largest there is, or anything */
+    unsigned odd = pick() % 16;
+    now.size = (uint16_t)(odd == 0 ? wide() : odd == 1 ? BH_LARGEST_PAYLOAD - 1 + pick() % 3 : some_size());
     now.edition = some_edition();
     say_settings();
 }
@@ -286,7 +296,7 @@ static void judge_opened(enum naming how)
         fail("opened in another edition than was meant");
     if (p.order != order_of(how) || !is_order(p.order, p.protection))
         fail("opened in another order than was meant");
-    if (p.slot < 1 || p.slot > BH_LARGEST_PAYLOAD || (p.protection && p.order == IN_ROWS && p.slot % BH_ROW != 0))
+    if (!is_size(p.slot, p.order, p.protection))
         fail("opened with slots that the order does not have");
     if (p.protection == 0 && p.rows != 0)
         fail("an unprotected place holds rows");
@@ -429,6 +439,8 @@ static void judge_packed(uint64_t a, enum naming how, uint32_t n)
         judge_twins(twins[0], twins[1], (size_t)bh_value(one));
     if (!is_order(order, now.protection) && bh_number(a) != BH_FIELD)
         fail("packed in no order, or in columns without protection");
+    if (!is_size(now.size, order, now.protection) && bh_number(a) != BH_FIELD)
+        fail("packed in a size that the order does not have");
     if (bh_number(one) == 0 && order == IN_COLUMNS)
         judge_columns(twins[0], (size_t)bh_value(one));
     if (bh_number(a) == 0 && memcmp(out.at, twins[edition - 1], (size_t)bh_value(a)) != 0)
@@ -724,6 +736,23 @@ static void only_unknown(uint64_t answer, uint8_t type)
         fail("a type that no place has is known");
 }
 
+/* of a column place: its filled slots and the lowest empty one, or 15 where a slot says more than it holds */
+static void judge_status(uint64_t a, uint16_t resource, uint8_t type)
+{
+    if (bh_number(a) == BH_RECORD_BAD || bh_number(a) == BH_UNKNOWN || place_of(resource, type).order != IN_COLUMNS)
+        return;
+    struct bh_place p = place_of(resource, type);
+    uint64_t filled = 0, empty = 0, due = 0;
+    for (uint32_t k = p.count; k-- > 0;) {
+        size_t length = little(slot_of(p, k), 2);
+        filled += length != 0;
+        empty = length == 0 ? k + 1u : empty;
+        due = length > p.slot ? BH_SLOT : due;
+    }
+    if (a != (due ? due : 256 * (filled | empty << 24)))
+        fail("the status of a column place is other than its slots show");
+}
+
 static void status_one(void)
 {
     uint16_t resource = (uint16_t)(pick() % 8 == 0 ? wide() : now.resource);
@@ -734,6 +763,7 @@ static void status_one(void)
     judge(a, may(bh_number(a), 9, 10, "\x0f"), 0, 0, 0);
     judge_record(a);
     only_unknown(a, type);
+    judge_status(a, resource, type);
 }
 
 /* the rows of a column place's file, what each lacks, and the lengths of its slots, beside the answer: 15, 23, 22 and 31 exactly as they show, and
@@ -763,15 +793,15 @@ static int judge_losses(uint64_t a, struct bh_place p, uint64_t length)
     return due == 0;
 }
 
-/* what came out at a column place: wherever a byte of the file was not lost, it is the byte of its slot */
+/* what came out at a column place: wherever a byte of the file was not lost, it is the byte of its slot; behind the file that is 0 */
 static void judge_kept_bytes(struct bh_place p, uint64_t length)
 {
-    uint64_t m = p.rows;
-    for (uint64_t i = 0; i < length; i++) {
+    uint64_t m = p.rows, end = BH_ROW_INFO * m * ((length + BH_ROW_INFO * m - 1) / (BH_ROW_INFO * m));
+    for (uint64_t i = 0; i < end; i++) {
         uint64_t at = i / (BH_ROW_INFO * m) * BH_ROW * m + i % (BH_ROW_INFO * m);
         const uint8_t *slot = slot_of(p, (size_t)(at / p.slot));
-        if (little(slot, 2) != 0 && out.at[i] != slot[2 + at % p.slot])
-            fail("a byte that was not lost came out changed");
+        if (little(slot, 2) != 0 && (i < length ? out.at[i] : 0) != slot[2 + at % p.slot])
+            fail("a byte that was not lost came out changed, or padding that is not 0 was passed over");
     }
 }
 
@@ -1019,6 +1049,9 @@ static void hand_out_columns(int altered, uint64_t row)
     uint64_t a = bh_hand_out(record.at, record.n, store.at, store.n, now.resource, now.type, length, out.at, out.n);
     judge(a, may(bh_number(a), 22, 24, "\x1a\x1f\x20"), (size_t)length, 0, 0);
     judge_hand_out(a, now.resource, now.type, length);
+    /* the last byte of the file is padding for a length that is one less, lost or not */
+    if (most <= 16 && !altered && length + 1 == file.n && length % (239u * p.rows) != 0 && (bh_number(a) == BH_PADDING) != (file.at[length] != 0))
+        fail("padding that is not 0 was passed over, or 0 was refused");
     if (most > 16 || length != file.n)
         return;
     if (!altered && (out.n < length ? a != BH_OUTPUT : a != 0 || memcmp(out.at, file.at, file.n) != 0))

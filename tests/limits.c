@@ -64,6 +64,7 @@ static void column_packing(const uint8_t *file)
     expect("no such packet", BH_NUMBER, column_packet(file, BH_LARGEST_FILE, 255, 4077, 4402, packet, sizeof packet));
     expect("a byte more in columns", BH_SIZE, column_packet(file, BH_LARGEST_FILE + 1, 255, 4077, 0, packet, sizeof packet));
     expect("order before size", BH_FIELD, bh_pack_as(file, BH_LARGEST_FILE + 1, 1, 1, 0, 1, 255, 255, 2, 2, 0, packet, sizeof packet));
+    expect("4078 bytes a packet", BH_FIELD, column_packet(file, BH_LARGEST_FILE, 255, 4078, 0, packet, sizeof packet));
     expect("columns without protection", BH_FIELD, bh_pack_as(file, BH_LARGEST_FILE + 1, 1, 1, 0, 0, 255, 255, 2, 1, 0, packet, sizeof packet));
     /* with 17 bytes a packet the largest file has 1055700, with 18 it has 997050 */
     expect("17 bytes a packet are too small", BH_COUNT, column_packet(file, BH_LARGEST_FILE, 255, 17, 0, packet, sizeof packet));
@@ -84,10 +85,11 @@ static uint8_t *slot_of(uint8_t *store, uint16_t size, size_t k)
     return store + k * (size + 2u);
 }
 
-/* makes it empty; what it held stays behind */
+/* makes it empty, with other bytes in it */
 static void lose(uint8_t *store, uint16_t size, size_t k)
 {
-    slot_of(store, size, k)[0] = slot_of(store, size, k)[1] = 0;
+    memset(slot_of(store, size, k), 0, 2);
+    memset(slot_of(store, size, k) + 2, 0xEE, size);
 }
 
 /* opens a place in columns and offers all packets of the file, the last first */
@@ -134,6 +136,7 @@ static void largest_columns(const uint8_t *file, uint8_t *store, uint8_t *out)
     size_t n = 239 * 255 * 257 - 1000;
     uint32_t count = collect(file, n, 255, 4077, record, store, BH_USABLE_STORE);
     expect("the largest place in columns", 4099, count);
+    expect("slots of 4078", BH_FIELD, bh_open_as(record, BH_RECORD, store, BH_USABLE_STORE, 2, 1, 0, 1, 1, 255, 4078, 2, 1));
     expect_file("the largest file of a store, in columns", file, n, record, store, out);
     /* a table has about sixteen packets: one of every third table, and none of the last */
     for (size_t k = 3; k + 48 < count; k += 48)
@@ -142,6 +145,10 @@ static void largest_columns(const uint8_t *file, uint8_t *store, uint8_t *out)
     expect("its status", 256 * ((uint64_t)(count - 85) | (uint64_t)4 << 24), bh_status(record, BH_RECORD, store, BH_USABLE_STORE, 1, 1));
     lose(store, 4077, count - 1);
     expect_file("the last packet lost too", file, n, record, store, out);
+    expect_none("a byte less: the last one is padding then", BH_PADDING, n - 1, record, store, out);
+    slot_of(store, 4077, count - 1)[0] = 1;
+    expect_none("the last slot of one byte", BH_SHAPE, n, record, store, out);
+    lose(store, 4077, count - 1);
     uint8_t *kept = slot_of(store, 4077, 2000) + 2 + 1000;
     *kept ^= 1;
     expect_none("a byte in the middle wrong", BH_CODE, n, record, store, out);
