@@ -1529,7 +1529,8 @@ def place_of(run, resource, kind):
 
 def told_of_rows(run):
     """What an offer of a packet whose payload is no whole rows shows of the place that holds its resource and type, or of what does not."""
-    if len(run.bytes) < 19 or run.answer.number in (1, 2, 3, 4, 5, 6, 9) or (f := r.fields_of(run.bytes))["protection"] != 1 or (len(run.bytes) - 18) % 255 == 0:
+    f = r.fields_of(run.bytes)
+    if len(run.bytes) < 19 or run.answer.number in (1, 2, 3, 4, 5, 6, 9) or f["protection"] != 1 or (len(run.bytes) - 18) % 255 == 0:
         return set()
     places = {k: place_of(run, f["resource"], k) for k in (f["type"], 3 - f["type"])}
     orders = [None if p is None else p["order"] for p in places.values()]
@@ -1553,7 +1554,7 @@ def told_of_orders(run, words, places):
     """What a call's answer shows of the order; its words, and the places in use before it."""
     number, call = run.answer.number, words[0]
     told = told_of_rows(run) if call == "offer" else told_of_a_hand_out(run, words) if call == "hand" else set()
-    if call == "offer" and number in (0, 11, 12, 14, 15, 16, 33) and (p := place_of(run, *r.named(r.fields_of(run.bytes)))) and p["order"] == 1:
+    if call == "offer" and number in (0, 11, 12, 14, 15, 16, 33) and place_of(run, *r.named(r.fields_of(run.bytes)))["order"] == 1:
         told.add(f"offer in columns: {number}")
     if call in ("open-as", "pack-as") and number == 17 and any(r.settings_fit({**run.settings, "order": n}) for n in (0, 1)):
         told.add(f"{call} by its order: 17")
