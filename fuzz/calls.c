@@ -1071,7 +1071,7 @@ static void column_round(void)
     say_settings();
     uint32_t all = packets();
     /* no more packets than a transcript can bear, of no longer a file than the store holds */
-    if (file.n == 0 || all > 600 || all * (now.size + 2u) > store.n)
+    if (file.n == 0 || all > 300 || all * (now.size + 2u) > store.n)
         return;
     enum naming how = NAMED;
     SAY("open-as %" PRIu32 "\n", all);
