@@ -185,6 +185,39 @@ static void many_losses(const uint8_t *file, uint8_t *store, uint8_t *out)
     }
 }
 
+/* as many slots as a store can have, in columns: no length has a count of 1048575 with slots so short; 1048560 of them are 57568 tables of one row, which
+   are put into the store by hand. One packet of each row is lost, or nearly */
+static void most_slots(const uint8_t *file, uint8_t *store, uint8_t *out)
+{
+    uint8_t record[BH_RECORD] = {0}, row[BH_ROW];
+    uint32_t tables = 57568, count = 1048560;
+    uint16_t size = 14;
+    size_t n = BH_ROW_INFO * tables;
+    expect("1048575 slots", 0, bh_open_as(record, BH_RECORD, store, BH_USABLE_STORE, 1, 1, 0, BH_LARGEST_COUNT, 1, 1, size, 2, 1));
+    expect("their status", (uint64_t)256 << 24, bh_status(record, BH_RECORD, store, BH_USABLE_STORE, 1, 1));
+    expect_none("a count that no length has", BH_SIZE, n, record, store, out);
+    expect_none("nor one that is longer", BH_SIZE, n + 1, record, store, out);
+    expect("closed", 0, bh_close(record, BH_RECORD, store, BH_USABLE_STORE, 1, 1));
+    expect("1048560 slots", 0, bh_open_as(record, BH_RECORD, store, BH_USABLE_STORE, 1, 1, 0, count, 1, 1, size, 2, 1));
+    for (size_t t = 0; t < tables; t++) {
+        memcpy(row, file + BH_ROW_INFO * t, BH_ROW_INFO);
+        bh_encode_row(row, BH_ROW_INFO, row + BH_ROW_INFO, BH_ROW_CHECKS);
+        for (size_t c = 0; c < BH_ROW; c++) {
+            uint8_t *slot = slot_of(store, size, (BH_ROW * t + c) / size);
+            slot[2 + (BH_ROW * t + c) % size] = row[c];
+            slot[0] = (uint8_t)((BH_ROW * t + c) % size + 1);
+        }
+    }
+    expect("all filled", 256 * (uint64_t)count, bh_status(record, BH_RECORD, store, BH_USABLE_STORE, 1, 1));
+    expect_file("a file of 1048560 packets", file, n, record, store, out);
+    for (size_t k = 7; k + 38 < count; k += 19)
+        lose(store, size, k);
+    lose(store, size, count - 1);
+    expect_file("one packet of each row lost", file, n, record, store, out);
+    lose(store, size, count - 2);
+    expect_none("two of the last", BH_LOST + 256 * (uint64_t)(tables - 1), n, record, store, out);
+}
+
 /* only the first 16,777,216 bytes of a longer store are used */
 static void stores(uint8_t *store)
 {
@@ -388,6 +421,7 @@ int main(int count, char **words)
     largest(file, store, out);
     largest_columns(file, store, out);
     many_losses(file, store, out);
+    most_slots(file, store, out);
     mended(file, store);
     places();
     descriptions(file, store, out);
