@@ -633,6 +633,20 @@ def test_columns_refused():
     refused(9, 0, record.hand_out, 9, 2, 470, 470)
 
 
+def test_columns_refused_over_rows():
+    """31 of a later row comes before 32 of an earlier one. A length out of its range is 23 also where it would give the count, which no store has room for."""
+    s, file, packets, record = in_columns(2, 1, 470)
+    record.store[3 * 100 + 2] ^= 1
+    refused(32, 0, record.hand_out, 9, 1, 470, 470)
+    empty(record, 1, *range(1, 35, 2))
+    refused(31, 1, record.hand_out, 9, 1, 470, 470)
+    empty(record, 1, *range(0, 34, 2))
+    refused(31, 0, record.hand_out, 9, 1, 470, 470)
+    refused(31, 0, r.file_of_columns, [b""] * 4402, 255, 4077, r.LIMIT)
+    refused(23, 0, r.file_of_columns, [b""] * 4402, 255, 4077, r.LIMIT + 1)
+    refused(23, 0, r.file_of_columns, [], 255, 4077, 0)
+
+
 def test_columns_wrong():
     """Any one byte of the store's payloads altered is 32 where its row lacks at most fifteen bytes, and never where it lacks sixteen."""
     s, file, packets, record = in_columns(2, 2, 470)
