@@ -12,7 +12,6 @@ use Rattle.refusals.specs.Told.{Told}
 use Rattle.packet.specs.declared.Packet.{Packet}
 use Rattle.packet.specs.declared.Reading.{Reading}
 use Rattle.packet.specs.declared.Reading.the-variants.{Sent, Refused}
-use Rattle.packet.specs.Packet.{readOf}
 use Rattle.places.specs.declared.Place.{Place}
 use Rattle.places.specs.declared.Found.{Found}
 use Rattle.places.specs.declared.Found.the-variants.{At, Nothing}
@@ -22,7 +21,7 @@ use Rattle.contents.specs.Slots.{stored}
 use Rattle.code.specs.Mend.{Mended, whole}
 use Rattle.record.specs.Mend.{payloadIn, mendedIn}
 use Rattle.sealing.specs.Sealing.{agrees}
-use Rattle.record.specs.Offer.{packetName, Judged, refuse, put, judge}
+use Rattle.record.specs.Offer.{packetName, readFor, Judged, refuse, put, judge}
 use Rattle.promises.specs.Calls.{State, Program, step, telling}
 use Rattle.promises.specs.Calls.Call.{offering}
 use Rattle.promises.specs.Statements.{placeAt}
@@ -60,7 +59,7 @@ putRead x q (Refused r) = x .store
 unfoldable pub replacing : Told → Program
 replacing a =
     offeringBy (λ q x. cond (eqb (step (offering q) x .answer .told .number) 16)
-    (record { answer = telling a; state = record { held = x .held; store = putRead x q (readOf q) } }) (step (offering q) x))
+    (record { answer = telling a; state = record { held = x .held; store = putRead x q (readFor (x .held) q) } }) (step (offering q) x))
 
 -- what the tables hold, cut at its last nonzero byte
 abbrev pub cutZeros : List ℕ → List ℕ

@@ -1,10 +1,11 @@
--- What an institute may rely on: document 01, section 5, section 7, the order's demands 2 and 3, and document 02, R-1, R-7 and R-9. Each statement is about any program; proofs/ shows them of `step`.
+-- What an institute may rely on: document 01, section 5, section 7, the order's demands 2 and 3, and document 02, R-1, R-7, R-8 and R-9. Each statement is about any program; proofs/ shows them of `step`.
 -- docs/PROMISES.md says each in plain words. Assumes nothing.
 use mathlib.Core.Path.{_≡_}
 use mathlib.Core.Logic.{_⊎_}
-use mathlib.Core.Bool.{Bool, true, false, cond}
+use mathlib.Core.Bool.{Bool, true, false, cond, not}
 use mathlib.Core.List.{List, [], _∷_, _++_, map}
 use Prim.Native.Nat.{ℕ, _+_, _-_, _*_, _/_, _%_, _≤_, _<_}
+use lib.Dec.{eqb}
 use lib.ListN.{length, getD, take, drop, replicate}
 use Rattle.ground.specs.Lists.{listed}
 use Rattle.refusals.specs.declared.Refusal.the-variants.{Unknown, Other, Edition, Slot, Size}
@@ -15,7 +16,7 @@ use Rattle.code.specs.Mend.{Mended, whole, broken, alteredIn}
 use Rattle.packet.specs.declared.Packet.{Packet}
 use Rattle.packet.specs.declared.Reading.the-variants.{Sent}
 use Rattle.settings.specs.declared.Settings.{Settings}
-use Rattle.packet.specs.Packet.{readOf}
+use Rattle.packet.specs.Packet.{readBy, readHeaderOf}
 use Rattle.packet.specs.Edition.{editionOf}
 use Rattle.settings.specs.Settings.{settingsFit}
 use Rattle.layout.specs.Layout.{tablesOf}
@@ -23,11 +24,13 @@ use Rattle.pack.specs.Pack.{largestFile, countOf, payloadOf, packetOf}
 use Rattle.places.specs.declared.Place.{Place}
 use Rattle.places.specs.declared.Found.{Found}
 use Rattle.places.specs.declared.Found.the-variants.{At, Nothing}
-use Rattle.places.specs.Places.{Name, settingsName, unused, inUse, names as holds, good, placeOf, coverOf}
+use Rattle.places.specs.Places.{Name, settingsName, unused, inUse, names as holds, good, placeOf, inRows, coverOf}
 use Rattle.contents.specs.Contents.{Slot as Content, holding, slotOf, contents, anyWrong, filled, lowestEmpty}
 use Rattle.record.specs.Mend.{payloadIn}
 use Rattle.sealing.specs.Sealing.{agrees}
-use Rattle.record.specs.Offer.{packetName, differs, judge, put}
+use Rattle.losses.specs.Losses.{sentAt}
+use Rattle.code.specs.Restore.{lostOf}
+use Rattle.record.specs.Offer.{packetName, readFor, differs, judge, put}
 use Rattle.promises.specs.Calls.{Call, Answer, telling, State, Program, run, fresh, names, about}
 use Rattle.promises.specs.Calls.Call.{packing, opening, offering, asking, handing, closing}
 
@@ -76,19 +79,21 @@ pub record Protected (g : Settings) (file : List ℕ) : Type 0 where
   pub protection : g .protection ≡ 1
   pub count : countOf g (length file) ≤ 1048575
 
--- q is packet n of the file, header and CRC intact, at most eight bytes altered in each row of its payload
+-- q is packet n of the file, header and CRC intact, at most eight bytes altered in each row of its payload; in column order it is not altered at all
 pub record Copy (g : Settings) (file : List ℕ) (n : ℕ) (q : List ℕ) : Type 0 where
   pub bytes : Bytes q
   pub sized : length q ≡ length (packetOf g file n)
   pub header : take 14 q ≡ take 14 (packetOf g file n)
   pub crc : drop (length q - 4) q ≡ drop (length q - 4) (packetOf g file n)
   pub rows : (i : ℕ) → distance (rowIn q i) (rowIn (packetOf g file n) i) ≤ 8
+  pub as-sent : g .order ≡ 1 → q ≡ packetOf g file n
 
 -- q brings the file's own place no payload but the file's: there it is refused, whatever the store holds, or what it puts is what the file has under that number. Noise is
--- such an offer, with the resource and type in it or not: its fields are refused or differ from the place's, it is of another edition, a row has no coded row within eight bytes, or the CRC differs
+-- such an offer, with the resource and type in it or not: its fields are refused or differ from the place's, it is of another edition, a row has no coded row within eight bytes, or the CRC differs. Its
+-- rows are judged as it is read, unless the place is in column order
 abbrev pub BringsNoOther : Settings → List ℕ → List ℕ → Type 0
 BringsNoOther g file q =
-    (f : Packet) → readOf q ≡ Sent f → (n : ℕ) (b : List ℕ) (m : ℕ) → judge (placeOf g (countOf g (length file)) 0) f q ≡ put n b m → b ≡ payloadOf g file n
+    (f : Packet) → readBy (not (eqb (g .order) 1)) q ≡ Sent f → (n : ℕ) (b : List ℕ) (m : ℕ) → judge (placeOf g (countOf g (length file)) 0) f q ≡ put n b m → b ≡ payloadOf g file n
 
 -- what may stand in the list: a copy, an offer that does not name the file's resource and type, any other that brings no other payload, and every other call but one that closes them
 pub data Fair (g : Settings) (file : List ℕ) : Call → Type 0 where
@@ -246,21 +251,21 @@ StatusBySlots f =
     (x : State) (r : Name) (i : ℕ) → Held x r i
     → f (asking r) x ≡ record { answer = telling (slotsTold (contents (placeAt x i) (x .store))); state = x }
 
--- q carries b for slot n of place i: it is a packet of the place's file, in its edition, with that number, b is its payload, as it came without protection and near in each row with it, and
--- the CRC agrees with b; m bytes of it were mended: none without protection, the sum over the rows with it
+-- q carries b for slot n of place i: it is a packet of the place's file, in its edition, with that number, b is its payload, near in each row where it is whole rows, which is with protection in row
+-- order, and else as it came, and the CRC agrees with b; m bytes of it were mended: the sum over the rows, or none
 pub record Carried (x : State) (q : List ℕ) (i n : ℕ) (b : List ℕ) (m : ℕ) : Type 0 where
   pub fields : Packet
-  pub read : readOf q ≡ Sent fields
+  pub read : readFor (x .held) q ≡ Sent fields
   pub held : Held x (packetName fields) i
   pub serves : differs (placeAt x i) fields ≡ false
   pub edition : editionOf fields ≡ placeAt x i .edition
   pub number : n ≡ fields .number
   pub below : n < placeAt x i .count
-  pub plain : fields .protection ≡ 0 → b ≡ payloadIn q
-  pub rows : (fields .protection ≡ 0 → ⊥) → RowsNear q b
+  pub plain : inRows (placeAt x i) ≡ false → b ≡ payloadIn q
+  pub rows : inRows (placeAt x i) ≡ true → RowsNear q b
   pub crc : agrees q b ≡ true
-  pub none-mended : fields .protection ≡ 0 → m ≡ 0
-  pub mended : (fields .protection ≡ 0 → ⊥) → m ≡ bytesAltered q b
+  pub none-mended : inRows (placeAt x i) ≡ false → m ≡ 0
+  pub mended : inRows (placeAt x i) ≡ true → m ≡ bytesAltered q b
 
 -- the record and the store's length are as they were, and so is every slot of every place in use, but slot n of place i
 pub record OthersStay (x y : State) (i n : ℕ) : Type 0 where
@@ -291,16 +296,16 @@ DifferentCounts =
 -- a place has one count: there a packet with another is refused (11)
 abbrev pub OneCount : Program → Type 0
 OneCount f =
-    (x : State) (q : List ℕ) (fields : Packet) (i : ℕ) → readOf q ≡ Sent fields → Held x (packetName fields) i
+    (x : State) (q : List ℕ) (fields : Packet) (i : ℕ) → readFor (x .held) q ≡ Sent fields → Held x (packetName fields) i
     → (fields .count ≡ placeAt x i .count → ⊥) → f (offering q) x .answer .told ≡ refusedAs Other
 
--- what was collected as in demand 3 is not handed out at a length that needs another number of packets or of tables (23)
+-- what was collected as in demand 3 is not handed out at a length that needs another number of packets, or in row order of tables (23)
 abbrev pub OtherLengthRefused : Program → Type 0
 OtherLengthRefused f =
     (g : Settings) (file : List ℕ) → Protected g file
     → (x : State) → IsOpened f g file x
     → (cs : List Call) → Carries g file cs
-    → (n : ℕ) → (countOf g n ≡ countOf g (length file) → ⊥) ⊎ (tablesOf (g .rows) n ≡ tablesOf (g .rows) (length file) → ⊥)
+    → (n : ℕ) → (countOf g n ≡ countOf g (length file) → ⊥) ⊎ ((g .order ≡ 0) × (tablesOf (g .rows) n ≡ tablesOf (g .rows) (length file) → ⊥))
     → (out : List ℕ) → f (handing (settingsName g) n out) (run f cs (opened f g file x) .state) .answer
     ≡ record { told = refusedAs Size; output = out }
 
@@ -364,7 +369,7 @@ BothFromFresh f =
 -- an offered stream is Unknown (10), whatever is open
 abbrev pub StreamsUnknown : Program → Type 0
 StreamsUnknown f =
-    (x : State) (q : List ℕ) (fields : Packet) → good (length (x .store)) (x .held .places) ≡ true → readOf q ≡ Sent fields → fields .kind ≡ 0
+    (x : State) (q : List ℕ) (fields : Packet) → good (length (x .store)) (x .held .places) ≡ true → readFor (x .held) q ≡ Sent fields → fields .kind ≡ 0
     → f (offering q) x .answer .told ≡ refusedAs Unknown
 
 -- ---- how much was mended: document 02, R-7
@@ -397,12 +402,12 @@ GradedFromFresh f =
 abbrev pub ShowsEdition : Type 0
 ShowsEdition =
     (g : Settings) (file : List ℕ) (n : ℕ) → settingsFit g ≡ true → countOf g (length file) ≤ 1048575 → n < countOf g (length file)
-    → (fields : Packet) × (readOf (packetOf g file n) ≡ Sent fields) × (editionOf fields ≡ g .edition)
+    → (fields : Packet) × (readHeaderOf (packetOf g file n) ≡ Sent fields) × (editionOf fields ≡ g .edition)
 
 -- a place accepts its own edition only: there a packet of its file in another, or in neither, is refused (33), whatever its payload and the slots hold
 abbrev pub OwnEdition : Program → Type 0
 OwnEdition f =
-    (x : State) (q : List ℕ) (fields : Packet) (i : ℕ) → readOf q ≡ Sent fields → Held x (packetName fields) i
+    (x : State) (q : List ℕ) (fields : Packet) (i : ℕ) → readFor (x .held) q ≡ Sent fields → Held x (packetName fields) i
     → differs (placeAt x i) fields ≡ false → (editionOf fields ≡ placeAt x i .edition → ⊥) → f (offering q) x .answer .told ≡ refusedAs Edition
 
 -- so a station may send both: of two files under settings of different editions, in all else alike or not, the same calls may carry both, each to a place of its own edition
@@ -410,3 +415,32 @@ abbrev pub DifferentEditions : Type 0
 DifferentEditions =
     (g d : Settings) (a b : List ℕ) → Protected g a → Protected d b → (g .edition ≡ d .edition → ⊥)
     → (cs : List Call) × Carries g a cs × Carries d b cs
+
+-- ---- column order: document 02, R-8
+
+-- a list of calls that carries enough of a file: fair throughout, and but for some packets each is offered, unaltered; no row has more than sixteen bytes in those
+pub record CarriesEnough (g : Settings) (file : List ℕ) (cs : List Call) : Type 0 where
+  pub fair : AllFair g file cs
+  pub gone : ℕ → Bool
+  pub others : (n : ℕ) → n < countOf g (length file) → gone n ≡ false → Offers g file n cs
+  pub few : (q : ℕ) → q < g .rows * tablesOf (g .rows) (length file) → lostOf (λ c. gone (sentAt (g .rows) q c / g .size)) 255 ≤ 16
+
+-- demand 3 for such a file: packets unaltered, some never offered, no row losing more than sixteen bytes
+abbrev pub Demand3Columns : Program → Type 0
+Demand3Columns f =
+    (g : Settings) (file : List ℕ) → Protected g file → g .order ≡ 1
+    → (x : State) → IsOpened f g file x
+    → (cs : List Call) → CarriesEnough g file cs
+    → HandsOut f g file (run f cs (opened f g file x) .state)
+
+abbrev pub FromFreshColumns : Program → Type 0
+FromFreshColumns f =
+    (g : Settings) (file : List ℕ) → Protected g file → g .order ≡ 1
+    → (s : List ℕ) → HasRoom g file s
+    → (cs : List Call) → CarriesEnough g file cs → FreshHandsOut f g file s cs
+
+-- no second file fits what was offered: of one length, under the same settings
+abbrev pub NoSecondColumns : Type 0
+NoSecondColumns =
+    (g : Settings) (a b : List ℕ) → Protected g a → Protected g b → g .order ≡ 1 → length a ≡ length b
+    → (cs : List Call) → CarriesEnough g a cs → CarriesEnough g b cs → a ≡ b

@@ -1,8 +1,8 @@
--- Programs that are turned away: document 01, section 7; document 02, R-7 and R-9. Each is of the calls' own type, and does all else as `step` does; proofs/Turned.antt, FirstRow.antt and Editions.antt show which
+-- Programs that are turned away: document 01, section 7; document 02, R-7, R-8 and R-9. Each is of the calls' own type, and does all else as `step` does; proofs/Turned.antt, FirstRow.antt and Editions.antt show which
 -- promise each breaks. Assumes nothing.
 use mathlib.Core.Bool.{cond}
-use mathlib.Core.List.{List, [], _∷_, map}
-use Prim.Native.Nat.{ℕ, _%_}
+use mathlib.Core.List.{List, [], _∷_, _++_, map}
+use Prim.Native.Nat.{ℕ, _+_, _*_, _%_}
 use lib.Dec.{eqb}
 use lib.ListN.{getD, take, drop}
 use Rattle.refusals.specs.declared.Refusal.the-variants.{Unknown, Field}
@@ -13,7 +13,14 @@ use Rattle.packet.specs.Packet.{fieldsIn}
 use Rattle.packet.specs.Edition.{editionOf}
 use Rattle.places.specs.declared.Place.{Place}
 use Rattle.places.specs.declared.Record.{Record}
-use Rattle.places.specs.Places.{inUse}
+use Rattle.places.specs.declared.Found.{Found}
+use Rattle.places.specs.declared.Found.the-variants.{At, Nothing}
+use Rattle.places.specs.Places.{unused, inUse, placeNamed}
+use Rattle.ground.specs.Lists.{listed}
+use Rattle.layout.specs.Layout.{spotOf}
+use Rattle.contents.specs.Contents.{Slot as Content, contents}
+use Rattle.losses.specs.Losses.{rowCame}
+use Rattle.columns.specs.Columns.{rowIn}
 use Rattle.record.specs.Mend.{payloadIn}
 use Rattle.record.specs.Offer.{offerBy, offerOf}
 use Rattle.record.specs.Told.{offeredTold}
@@ -67,6 +74,7 @@ asIn edition p =
       slot = p .slot;
       start = p .start;
       edition = edition;
+      order = p .order;
     })
     p
 
@@ -103,3 +111,36 @@ mendingFirst =
       answer = telling (offeredTold (offerBy firstRowOnly (x .held) (x .store) q .answer));
       state = record { held = x .held; store = offerBy firstRowOnly (x .held) (x .store) q .store };
     })
+
+-- ---- column order: hand out by other rows than the restored ones
+
+-- n bytes of a file, read from the rows of its tables
+abbrev pub fileIn : ℕ → (ℕ → List ℕ) → ℕ → List ℕ
+fileIn m row n = listed (λ i. getD (row (spotOf m i .table * m + spotOf m i .row)) (spotOf m i .column) 0) n 0
+
+-- where `step` hands out, the file is read from rows that are made of what came in another way
+abbrev pub handedBy : (ℕ → ℕ → List Content → ℕ → List ℕ) → State → ℕ → List ℕ → Found → List ℕ
+handedBy row x n out Nothing = out
+handedBy row x n out (At i) =
+    fileIn (getD (x .held .places) i unused .rows)
+    (row (getD (x .held .places) i unused .rows) (getD (x .held .places) i unused .slot) (contents (getD (x .held .places) i unused) (x .store))) n ++ drop n out
+
+unfoldable pub handingBy : (ℕ → ℕ → List Content → ℕ → List ℕ) → Program
+handingBy row (packing file g n out) x = step (packing file g n out) x
+handingBy row (opening g count) x = step (opening g count) x
+handingBy row (offering q) x = step (offering q) x
+handingBy row (asking r) x = step (asking r) x
+handingBy row (handing r n out) x = record {
+  answer = cond (eqb (step (handing r n out) x .answer .told .number) 0)
+      (record { told = acceptedWith []; output = handedBy row x n out (placeNamed (x .held .places) r) }) (step (handing r n out) x .answer);
+  state = x;
+}
+handingBy row (closing r) x = step (closing r) x
+
+-- it leaves losses 0
+abbrev pub leavingZeros : Program
+leavingZeros = handingBy rowCame
+
+-- it repairs rows, as if what is lost were wrong, instead of restoring them
+abbrev pub repairing : Program
+repairing = handingBy (λ m size c q. rowIn (repairOf (rowCame m size c q)))
