@@ -9,11 +9,12 @@ use borrow.Author.Tests.{le-leb, lt-leb, leb-true, eq-eqb, ne-eqb, eqb-false, no
 use lib.Dec.{eqb, leb}
 use lib.ListN.{length, replicate}
 use Rattle.ground.proofs.Truth.{and-both}
+use Rattle.code.specs.Restore.{lostOf}
 use Rattle.places.specs.declared.Place.{Place}
 use Rattle.places.specs.Places.{endOf}
 use Rattle.contents.specs.Contents.{contents}
 use Rattle.losses.specs.declared.Came.{Came}
-use Rattle.losses.specs.Losses.{rowCame, lostIn, cameBy, tabled, cameOf}
+use Rattle.losses.specs.Losses.{rowCame, lostIn, lostPlaces, cameBy, tabled, cameOf}
 use Rattle.losses.specs.InnerRuns.{Tabled}
 
 module _ (p : Place) (size : ℕ) where
@@ -47,3 +48,16 @@ module _ (p : Place) (s : List ℕ) (q : ℕ) where
   pub came-tabled : tabled p (length s) ≡ true → cameBy (lostIn (p .rows) (p .slot) (contents p s) q) (rowCame (p .rows) (p .slot) (contents p s) q) ≡ cameOf p s q
   unfolding cameOf
   came-tabled t = rw t refl
+
+  -- each part of it
+  pub came-row : tabled p (length s) ≡ true → cameOf p s q .row ≡ rowCame (p .rows) (p .slot) (contents p s) q
+  unfolding cameOf cameBy
+  came-row t = rw t refl
+
+  pub came-lost : tabled p (length s) ≡ true → cameOf p s q .lost ≡ lostOf (lostIn (p .rows) (p .slot) (contents p s) q) 255
+  unfolding cameOf cameBy
+  came-lost t = rw t refl
+
+  pub came-places : tabled p (length s) ≡ true → cameOf p s q .at ≡ lostPlaces (lostIn (p .rows) (p .slot) (contents p s) q)
+  unfolding cameOf cameBy
+  came-places t = rw t refl

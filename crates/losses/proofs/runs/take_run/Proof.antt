@@ -41,7 +41,7 @@ add-t23 c = omega (arith, gathered-few (c .before .before .before .before .befor
 
 returns : tie.Need-returns
 returns c =
-    run-lost (c .before .before .before .before .before .before .before .before .pre) (c .before .before .before .held .ensures) (c .before .before .before .before .least .ensures) (c .before .before .if1 .taken) _ _ (c .note-run .ensures)
+    run-lost (c .before .before .before .before .before .before .before .before .pre) (c .before .before .before .held .ensures) (c .before .before .before .before .least .ensures) (omega (arith, c .before .before .if1 .taken)) _ _ (c .note-run .ensures)
 
 cast-d : tie.Need-cast-d
 cast-d c = omega arith
