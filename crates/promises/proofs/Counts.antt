@@ -1,20 +1,17 @@
 -- Files of different counts: the packets of each are refused at the other's place, so one list can carry both; and what a place holds is handed out at no length that needs
 -- another number of packets or tables. Assumes nothing.
 use mathlib.Core.Path.{_≡_, refl, sym, ap, _∙_}
-use mathlib.Core.Logic.{⊎-elim}
 use mathlib.Core.Bool.{Bool, true, false}
 use mathlib.Core.List.{List, _++_}
-use Prim.Native.Nat.{ℕ, _*_}
+use Prim.Native.Nat.{ℕ}
 use native.Mathlib.Omega.{arith}
 use lib.ListN.{length, replicate}
-use Rattle.ground.specs.Lists.{ceil}
 use Rattle.code.proofs.Lists.{zeros-bytes}
 use Rattle.refusals.specs.declared.Refusal.the-variants.{Other}
-use Rattle.layout.specs.Layout.{tablesOf}
 use Rattle.packet.specs.declared.Packet.{Packet}
 use Rattle.settings.specs.declared.Settings.{Settings}
 use Rattle.pack.specs.Pack.{countOf, packetOf}
-use Rattle.pack.proofs.Laws.{fieldsOf, packet-reads, length-tables}
+use Rattle.pack.proofs.Laws.{fieldsOf, packet-reads}
 use Rattle.places.specs.declared.Place.{Place}
 use Rattle.places.specs.Places.{placeOf}
 use Rattle.record.specs.Offer.{packetName, Offering, differs, offerJudged}
@@ -43,7 +40,7 @@ count-differs p f d = by (differs p f) refl
 noise-fair : (g : Settings) (a b : List ℕ) → Protected g b → (countOf g (length b) ≡ countOf g (length a) → ⊥) → AllFair g a (own g b)
 noise-fair g a b p d =
     fair-each g a (packetOf g b) (countOf g (length b))
-    (λ i below. Fair.noise (packetOf g b i) (refused-is-noise g a (packetOf g b i) Other (fieldsOf g b i) (packet-reads g b i (p .fit) (p .count) below)
+    (λ i below. Fair.noise (packetOf g b i) (refused-is-noise g a (packetOf g b i) Other false (fieldsOf g b i) (packet-reads g b i (p .fit) (p .count) below)
     (judge-other (placeOf g (countOf g (length a)) 0) (fieldsOf g b i) (packetOf g b i) (count-differs (placeOf g (countOf g (length a)) 0) (fieldsOf g b i) d))))
 
 pub different-counts : DifferentCounts
@@ -71,13 +68,7 @@ one-count x q f i read h d =
     ap (λ (o : Offering). offeredTold (o .answer)) (offer-placed (x .held) (x .store) q (h .sound) f read i (held-found x (packetName f) i h)
     ∙ ap (offerJudged (placeAt x i) (x .store)) (judge-other (placeAt x i) f q (count-differs (placeAt x i) f d)))
 
--- as many tables, as many packets
-same-counts : (g : Settings) (m n : ℕ) → (g .protection ≡ 0 → ⊥) → tablesOf (g .rows) m ≡ tablesOf (g .rows) n → countOf g m ≡ countOf g n
-same-counts g m n z e =
-    ap (λ (c : ℕ). ceil c (g .size)) (length-tables g m z ∙ ap (λ (t : ℕ). 255 * g .rows * t) e ∙ sym (length-tables g n z))
-
 pub other-length-refused : OtherLengthRefused step
 other-length-refused g file p x answer cs carried n d out =
     let c = collected g file p x answer cs carried in
-    refuses g file p (c .place) (c .start) _ (c .collecting) (c .all) n out
-    (λ e. ⊎-elim (λ o. o (same-counts g n (length file) (λ z. omega (arith, p .protection)) e)) (λ o. o e) d)
+    refuses g file p (c .place) (c .start) _ (c .collecting) (c .all) n out d

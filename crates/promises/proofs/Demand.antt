@@ -2,11 +2,11 @@
 -- filled, hand out undoes the tables and gives the file. Assumes nothing.
 use mathlib.Core.Path.{_≡_, refl, sym, ap, _∙_, subst}
 use mathlib.Core.Logic.{_⊎_, inl, inr, ⊎-elim}
-use mathlib.Core.Bool.{Bool, true, false}
+use mathlib.Core.Bool.{Bool, true, false, not}
 use mathlib.Core.List.{List, []}
 use Prim.Native.Nat.{ℕ, _<_}
 use native.Mathlib.Omega.{arith}
-use lib.Dec.{ltb}
+use lib.Dec.{eqb, ltb}
 use lib.ListN.{length, getD, replicate, getD-replicate}
 use Rattle.refusals.specs.declared.Refusal.the-variants.{Size}
 use Rattle.refusals.specs.Told.{refusedAs, verdictTold}
@@ -16,7 +16,7 @@ use Rattle.packet.specs.declared.Packet.{Packet}
 use Rattle.packet.specs.declared.Reading.{Reading}
 use Rattle.packet.specs.declared.Reading.the-variants.{Sent}
 use Rattle.settings.specs.declared.Settings.{Settings}
-use Rattle.packet.specs.Packet.{readOf}
+use Rattle.packet.specs.Packet.{readBy}
 use Rattle.layout.specs.Layout.{tablesOf}
 use Rattle.pack.specs.Pack.{countOf, payloadOf}
 use Rattle.pack.proofs.Laws.{fieldsOf}
@@ -28,19 +28,21 @@ use Rattle.places.proofs.Named.{name-same, other-name}
 use Rattle.contents.specs.Contents.{Slot as Content, wrong, holding, contents}
 use Rattle.contents.proofs.Places.{length-contents}
 use Rattle.opening.specs.Open.{Plan, refuse, take as taken, planOf, carriedOut, Opening, openOf}
-use Rattle.record.specs.Offer.{packetName, nameIn, Offering, Judged, refuse as refuse-packet, put, judge, differs, offerJudged, offerOf, judgeBy}
-use Rattle.handing.specs.Hand.{Handing, handContents, handOutOf}
+use Rattle.record.specs.Offer.{packetName, nameIn, readFor, Offering, Judged, refuse as refuse-packet, put, judge, differs, offerJudged, offerOf, judgeBy}
+use Rattle.columns.specs.Handing.{Handing}
+use Rattle.handing.specs.Hand.{handContents, handOutOf}
 use Rattle.opening.proofs.PlanLaws.{Taking, taking, taking-plan, open-by}
 use Rattle.opening.proofs.OpenLaws.{open-named, open-own, open-empty, open-keeps, open-keeps-length, accepted-plan, refused-record, refused-store}
 use Rattle.opening.proofs.CloseLaws.{close-keeps-good}
 use Rattle.record.proofs.OfferCases.{offer-unread, offer-placed}
 use Rattle.record.proofs.OfferFacts.{read-name}
+use Rattle.record.proofs.OfferReads.{read-found}
 use Rattle.record.proofs.OfferLaws.{Placed, Sound, heldAfter, held-after, slots-kept, offer-sound, offer-holds, offer-length}
 use Rattle.handing.proofs.HandCases.{out-found}
 use Rattle.promises.specs.Calls.{Call, State, step, run, names, about}
 use Rattle.promises.specs.Calls.Call.{packing, opening, offering, asking, handing, closing}
 use Rattle.promises.specs.Statements.{Protected, Copy, BringsNoOther, Fair, AllFair, Offers, Carries, HandsOut, Demand3}
-use Rattle.promises.proofs.Judged.{copy-reads, copy-judged}
+use Rattle.promises.proofs.Judged.{copy-reads, copy-judged, copy-name}
 use Rattle.promises.proofs.Whole.{contents-handed, contents-refused}
 use Rattle.promises.proofs.Views.{Kept, step-leaves}
 
@@ -137,7 +139,12 @@ module _ (g : Settings) (file : List ℕ) (p : Protected g file) (i start : ℕ)
 
   -- ---- an offer that is judged to bring packet n's payload fills its slot
 
-  module _ (x : State) (c : Collecting x) (q : List ℕ) (f : Packet) (read : readOf q ≡ Sent f) (of : packetName f ≡ settingsName g) where
+  -- an offer that names the file is read as the file's place has it read
+  pub read-there : (x : State) → Collecting x → (q : List ℕ) → nameIn q ≡ settingsName g → readFor (x .held) q ≡ readBy (not (eqb (g .order) 1)) q
+  read-there x c q z =
+      read-found (x .held) q (At i) (ap (placeNamed (x .held .places)) z ∙ c .named) ∙ ap (λ (o : Place). readBy (not (eqb (o .order) 1)) q) (c .place)
+
+  module _ (x : State) (c : Collecting x) (q : List ℕ) (f : Packet) (read : readFor (x .held) q ≡ Sent f) (of : packetName f ≡ settingsName g) where
     found-there : placeNamed (x .held .places) (packetName f) ≡ At i
     found-there = ap (placeNamed (x .held .places)) of ∙ c .named
 
@@ -187,27 +194,36 @@ module _ (g : Settings) (file : List ℕ) (p : Protected g file) (i start : ℕ)
         unmoved-go q x c (ap (λ (o : Offering). o .store) (offer-placed (x .held) (x .store) q (c .sound) f read i found-there
         ∙ ap (offerJudged (getD (x .held .places) i unused) (x .store)) (ap (λ (o : Place). judge o f q) (c .place) ∙ e)))
     judged-go none (put n b m) e =
-        let same : b ≡ payloadOf g file n = cc (none f read n b m (judge-start f q ∙ e)) in
+        let own-read : readBy (not (eqb (g .order) 1)) q ≡ Sent f = sym (read-there x c q (sym (read-name (x .held) q f read) ∙ of)) ∙ read in
+        let same : b ≡ payloadOf g file n = cc (none f own-read n b m (judge-start f q ∙ e)) in
         brought-go n m (e ∙ ap (λ (l : List ℕ). put n l m) same)
+
+  pub copy-reads-there : (n : ℕ) → n < countOf g (length file) → (q : List ℕ) → Copy g file n q → (x : State) → Collecting x → readFor (x .held) q ≡ Sent (fieldsOf g file n)
+  copy-reads-there n below q cp x c = read-there x c q (copy-name g file p n below q cp) ∙ copy-reads g file p n below q cp
 
   pub copy-go : (n : ℕ) (below : n < countOf g (length file)) (q : List ℕ) → Copy g file n q → (x : State) → Collecting x
       → GoesOn x (step (offering q) x .state) × Has n (step (offering q) x .state)
   copy-go n below q cp x c =
-      let reads = copy-reads g file p n below q cp in
+      let reads = copy-reads-there n below q cp x c in
       let judged = copy-judged g file p n below q cp start in
       (brought-go x c q (fieldsOf g file n) reads refl n _ judged, fills x c q (fieldsOf g file n) reads refl n _ judged)
+
+  -- and leaves every other slot
+  pub copy-leaves : (n : ℕ) (below : n < countOf g (length file)) (q : List ℕ) → Copy g file n q → (x : State) → Collecting x
+      → (k : ℕ) → (k ≡ n → ⊥) → slot-in k (step (offering q) x .state) ≡ slot-in k x
+  copy-leaves n below q cp x c = leaves x c q (fieldsOf g file n) (copy-reads-there n below q cp x c) refl n _ (copy-judged g file p n below q cp start)
 
   -- ---- any other offer
 
   noise-go : (q : List ℕ) → BringsNoOther g file q → (x : State) → Collecting x → GoesOn x (step (offering q) x .state)
   noise-go q none x c = by (names (settingsName g) q) refl
     where
-      reading : nameIn q ≡ settingsName g → (a : Reading) → readOf q ≡ a → GoesOn x (step (offering q) x .state)
-      reading z (Sent f) e = judged-go x c q f e (read-name q f e ∙ z) none (judge own f q) refl
+      reading : nameIn q ≡ settingsName g → (a : Reading) → readFor (x .held) q ≡ a → GoesOn x (step (offering q) x .state)
+      reading z (Sent f) e = judged-go x c q f e (read-name (x .held) q f e ∙ z) none (judge own f q) refl
       reading z (Reading.Refused r) e = unmoved-go q x c (ap (λ (o : Offering). o .store) (offer-unread (x .held) (x .store) q (c .sound) r e))
 
       by : (t : Bool) → names (settingsName g) q ≡ t → GoesOn x (step (offering q) x .state)
-      by true e = reading (name-same (nameIn q) (settingsName g) (and-both (ltb 12 (length q)) _ e .1)) (readOf q) refl
+      by true e = reading (name-same (nameIn q) (settingsName g) (and-both (ltb 12 (length q)) _ e .1)) (readFor (x .held) q) refl
       by false e = unnamed-go (offering q) x c e
 
   -- ---- any fair call
@@ -231,34 +247,37 @@ module _ (g : Settings) (file : List ℕ) (p : Protected g file) (i start : ℕ)
       record { collecting = b .collecting; keeps = λ n h. b .keeps n (a .keeps n h) }
 
   -- a copy somewhere in the list leaves its packet there
-  offered-run : {cs : List Call} (n : ℕ) → n < countOf g (length file) → Offers g file n cs → AllFair g file cs → (x : State) → Collecting x → Has n (run step cs x .state)
+  pub offered-run : {cs : List Call} (n : ℕ) → n < countOf g (length file) → Offers g file n cs → AllFair g file cs → (x : State) → Collecting x → Has n (run step cs x .state)
   offered-run n below (Offers.here {q} {cs} cp) (AllFair.next f fs) x k =
       let a = copy-go n below q cp x k in
       fair-run fs (step (offering q) x .state) (a .0 .collecting) .keeps n (a .1)
   offered-run n below (Offers.later {c} {cs} o) (AllFair.next f fs) x k =
       offered-run n below o fs (step c x .state) (fair-go c f x k .collecting)
 
-  -- ---- when every packet is there
+  -- ---- hand out
 
+  -- at any length, by what the place holds
+  pub handed : (x : State) → Collecting x → (n : ℕ) (out : List ℕ) → handOutOf (x .held) (x .store) (settingsName g) n out ≡ handContents own (contents own (x .store)) n out
+  handed x c n out =
+      out-found (x .held) (x .store) (settingsName g) (c .sound) n out i (c .named)
+      ∙ ap (λ (o : Place). handContents o (contents o (x .store)) n out) (c .place)
+
+  -- when every packet is there
   module _ (x : State) (c : Collecting x) (all : (k : ℕ) → k < countOf g (length file) → Has k x) where
-    -- hand out at any length, by what the place holds
-    handed : (n : ℕ) (out : List ℕ) → handOutOf (x .held) (x .store) (settingsName g) n out ≡ handContents own (contents own (x .store)) n out
-    handed n out =
-        out-found (x .held) (x .store) (settingsName g) (c .sound) n out i (c .named)
-        ∙ ap (λ (o : Place). handContents o (contents o (x .store)) n out) (c .place)
 
     hands : HandsOut step g file x
     unfolding step
     hands out room =
         ap (λ (h : Handing). record { told = verdictTold (h .answer); output = h .output })
-        (handed (length file) out ∙ contents-handed g file p (contents own (x .store)) (length-contents own (x .store)) all start out room)
+        (handed x c (length file) out ∙ contents-handed g file p (contents own (x .store)) (length-contents own (x .store)) all start out room)
 
-    pub refuses : (n : ℕ) (out : List ℕ) → (tablesOf (g .rows) n ≡ tablesOf (g .rows) (length file) → ⊥)
+    pub refuses : (n : ℕ) (out : List ℕ)
+        → (countOf g n ≡ countOf g (length file) → ⊥) ⊎ ((g .order ≡ 0) × (tablesOf (g .rows) n ≡ tablesOf (g .rows) (length file) → ⊥))
         → step (handing (settingsName g) n out) x .answer ≡ record { told = refusedAs Size; output = out }
     unfolding step
     refuses n out d =
         ap (λ (h : Handing). record { told = verdictTold (h .answer); output = h .output })
-        (handed n out ∙ contents-refused g file p (contents own (x .store)) (length-contents own (x .store)) all start n out d)
+        (handed x c n out ∙ contents-refused g file p (contents own (x .store)) (length-contents own (x .store)) all start n out d)
 
 -- a place just opened is one in which the file is collected
 pub opened-collecting : (g : Settings) (file : List ℕ) (p : Protected g file) (x : State) (i start : ℕ) → Taking (x .held) (length (x .store)) g (countOf g (length file)) i start

@@ -20,14 +20,16 @@ use Rattle.places.specs.declared.Place.{Place}
 use Rattle.places.specs.declared.Record.{Record}
 use Rattle.places.specs.Places.{placeOf}
 use Rattle.opening.specs.Open.{Opening}
-use Rattle.record.specs.Offer.{packetName, Offering, differs, offerJudged, offerOf}
+use Rattle.packet.specs.declared.Reading.the-variants.{Sent}
+use Rattle.record.specs.Offer.{packetName, readFor, Offering, differs, offerJudged, offerOf}
 use Rattle.record.specs.Told.{offeredTold}
 use Rattle.record.proofs.OfferCases.{judge-other, judge-edition, offer-placed}
 use Rattle.promises.specs.Calls.{Answer, State, step, fresh}
 use Rattle.promises.specs.Calls.Call.{opening}
 use Rattle.promises.specs.Statements.{BringsNoOther, Protected, Fair, AllFair, placeAt, ShowsEdition, OwnEdition, DifferentEditions}
 use Rattle.promises.specs.Wrong.{allIn, takingEither}
-use Rattle.promises.proofs.Judged.{not-different}
+use Rattle.promises.proofs.Judged.{not-different, copy-reads, copy-name}
+use Rattle.promises.proofs.Demand.{read-there}
 use Rattle.promises.proofs.Noise.{refused-is-noise}
 use Rattle.promises.proofs.Own.{fair-each, whole-copy, own, own-before, own-behind}
 use Rattle.promises.proofs.Fresh.{taken}
@@ -53,10 +55,10 @@ module _ (g d : Settings) (a b : List ℕ) (p : Protected d b) (z : g .edition �
     where
       by : (t : Bool) → differs (placeOf g (countOf g (length a)) 0) (fieldsOf d b i) ≡ t → BringsNoOther g a (packetOf d b i)
       by true e =
-          refused-is-noise g a (packetOf d b i) Other (fieldsOf d b i) (packet-reads d b i (p .fit) (p .count) below)
+          refused-is-noise g a (packetOf d b i) Other false (fieldsOf d b i) (packet-reads d b i (p .fit) (p .count) below)
           (judge-other (placeOf g (countOf g (length a)) 0) (fieldsOf d b i) (packetOf d b i) e)
       by false e =
-          refused-is-noise g a (packetOf d b i) Edition (fieldsOf d b i) (packet-reads d b i (p .fit) (p .count) below)
+          refused-is-noise g a (packetOf d b i) Edition false (fieldsOf d b i) (packet-reads d b i (p .fit) (p .count) below)
           (judge-edition (placeOf g (countOf g (length a)) 0) (fieldsOf d b i) (packetOf d b i) e
           (λ (s : editionOf (fieldsOf d b i) ≡ g .edition). z (sym s ∙ packet-edition d b i (p .fit) (p .count) below)))
 
@@ -73,7 +75,7 @@ different-editions g d a b pa pb z = (
 -- ---- a program that takes either: the example of proofs/Turned.antt is open in edition 2, and its packet comes in edition 1
 
 abbrev first : Settings
-first = record { resource = 5; kind = 1; update = 0; protection = 1; rows = 1; size = 255; edition = 1 }
+first = record { resource = 5; kind = 1; update = 0; protection = 1; rows = 1; size = 255; edition = 1; order = 0 }
 
 protected-first : Protected first byte
 unfolding settingsFit
@@ -84,7 +86,7 @@ sent = packetOf first byte 0
 
 shown : editionOf (fieldsIn sent) ≡ 1
 shown =
-    ap editionOf (sym (packet-sent first byte 0 (protected-first .fit) (protected-first .count) (omega arith) .fields))
+    ap editionOf (sym (packet-sent first byte 0 (protected-first .fit) (protected-first .count) (omega arith) true (λ t o. refl) .fields))
     ∙ packet-edition first byte 0 (protected-first .fit) (protected-first .count) (omega arith)
 
 -- the state with its place open in that edition
@@ -115,11 +117,17 @@ another : editionOf (fieldsOf first byte 0) ≡ placeAt opened 0 .edition → �
 another e =
     omega (arith, packet-edition first byte 0 (protected-first .fit) (protected-first .count) (omega arith), ap (λ (p : Place). p .edition) (begun .place))
 
+-- at the place that is open it is read
+sent-reads : readFor (opened .held) sent ≡ Sent (fieldsOf first byte 0)
+sent-reads =
+    let copy = whole-copy first byte protected-first 0 (omega arith) in
+    read-there one byte protected 0 0 opened begun sent (copy-name first byte protected-first 0 (omega arith) sent copy) ∙ copy-reads first byte protected-first 0 (omega arith) sent copy
+
 pub either-turned : OwnEdition takingEither → ⊥
 unfolding takingEither
 either-turned d =
     let refused : offeredTold (offerOf (allIn (editionOf (fieldsIn sent)) (opened .held)) (opened .store) sent .answer) ≡ refusedAs Edition =
-    d opened sent (fieldsOf first byte 0) 0 (packet-reads first byte 0 (protected-first .fit) (protected-first .count) (omega arith)) held same-file another in
+    d opened sent (fieldsOf first byte 0) 0 sent-reads held same-file another in
     let same : offerOf (allIn (editionOf (fieldsIn sent)) (opened .held)) (opened .store) sent ≡ offerOf (opened-first .held) (opened-first .store) sent =
     ap (λ (n : ℕ). offerOf (allIn n (opened .held)) (opened .store) sent) shown ∙ ap₂ (λ (h : Record) (s : List ℕ). offerOf h s sent) same-held same-store in
     let z : _≡_ {A = ℕ} 33 0 = ap (λ (t : Told). t .number) (sym refused) ∙ ap (λ (o : Offering). offeredTold (o .answer) .number) same ∙ accepted in

@@ -31,7 +31,8 @@ use Rattle.contents.specs.Contents.{Slot as Content, wrong, holding, contents, 
 use Rattle.contents.proofs.Bytes.{length-stored}
 use Rattle.contents.proofs.Places.{reading-slots, storing-sets}
 use Rattle.contents.specs.Slots.{stored}
-use Rattle.handing.specs.Hand.{Handing, handRows, handJoined, handContents, handOutOf}
+use Rattle.columns.specs.Handing.{Handing, handTables}
+use Rattle.handing.specs.Hand.{handRows, handJoined, handContents, handOutOf}
 use Rattle.refusals.specs.declared.Verdict.{Verdict}
 use Rattle.refusals.specs.Told.{acceptedWith, verdictTold}
 use Rattle.code.specs.Mend.{whole, behind, alteredIn}
@@ -53,7 +54,7 @@ use Rattle.promises.proofs.Fresh.{takes, taken, opens}
 use Rattle.promises.proofs.Turned.{zero-row, wrong-row, wrong-bytes, zero-coded}
 
 abbrev two : Settings
-two = record { resource = 5; kind = 1; update = 0; protection = 1; rows = 1; size = 510; edition = 2 }
+two = record { resource = 5; kind = 1; update = 0; protection = 1; rows = 1; size = 510; edition = 2; order = 0 }
 
 abbrev zeros : List ℕ
 zeros = replicate 478 0
@@ -92,8 +93,8 @@ zeros-payload =
     (λ i l. at i l)
   where
     at : (i : ℕ) → i < 2 → take 255 (drop (i * 255) (payloadOf two zeros 0)) ≡ take 255 (drop (i * 255) (zero-row ++ zero-row))
-    at zero l = payload-row two zeros fit refl 0 0 (omega (arith, long)) ∙ zeros-row 0 (omega arith)
-    at (suc zero) l = payload-row two zeros fit refl 0 1 (omega (arith, long)) ∙ zeros-row 1 (omega arith)
+    at zero l = payload-row two zeros fit refl refl 0 0 (omega (arith, long)) ∙ zeros-row 0 (omega arith)
+    at (suc zero) l = payload-row two zeros fit refl refl 0 1 (omega (arith, long)) ∙ zeros-row 1 (omega arith)
     at (suc (suc i)) l = absurd (omega arith)
 
 -- ---- the copy, one byte of row 1 altered
@@ -160,6 +161,7 @@ copy = record {
   header = altered-front;
   crc = rw altered-length altered-crc;
   rows = λ i. omega (arith, rows i);
+  as-sent = λ (o : two .order ≡ 1). absurd (omega arith);
 }
   where
     rows : (i : ℕ) → distance (rowIn altered i) (rowIn (packetOf two zeros 0) i) ≤ 1
@@ -227,7 +229,7 @@ missing = refl
 
 -- the rows came as they were: byte 239 of the file is 1
 wrong-file : getD (handContents (placeOf two 1 0) (holding body ∷ []) 478 zeros .output) 239 0 ≡ 1
-unfolding handContents handJoined handRows
+unfolding handContents handJoined handRows handTables
 wrong-file = refl
 
 abbrev answer : Handing → Answer

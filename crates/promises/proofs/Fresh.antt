@@ -70,21 +70,21 @@ module _ (g : Settings) (file : List ℕ) (p : Protected g file) where
     unfolding step
     opens = ap (λ (o : Opening). telling (verdictTold (o .kept .verdict))) taken
 
+  -- every packet is packed
+  pub packed : (n : ℕ) → n < countOf g (length file) → (x : State) (out : List ℕ) → length (packetOf g file n) ≤ length out
+      → step (packing file g n out) x .answer ≡ record { told = acceptedWith (length (packetOf g file n) ∷ []); output = packetOf g file n ++ drop (length (packetOf g file n)) out }
+  unfolding step
+  packed n below x out room =
+      ap (λ (k : Packing). record { told = packedTold (k .answer); output = k .output })
+      (pack-accepts file g n out (record { fits = p .fit; some = p .some; most = p .limit; few = p .count; below = below }) room)
+
 pub from-fresh : FromFresh step
 unfolding step
 from-fresh g file p s room cs carried = record {
-  packs = packed;
+  packs = packed g file p;
   opens = opens g file p s (room .0) limit;
   hands = demand-3 g file p (fresh s) (ap (λ (a : Answer). a .told .number) (opens g file p s (room .0) limit)) cs carried;
 }
   where
     limit : roomOf g file ≤ 16777216
     limit = omega (arith, room .1)
-
-    answer : Packing → Answer
-    answer k = record { told = packedTold (k .answer); output = k .output }
-
-    packed : (n : ℕ) → n < countOf g (length file) → (x : State) (out : List ℕ) → length (packetOf g file n) ≤ length out
-        → step (packing file g n out) x .answer ≡ record { told = acceptedWith (length (packetOf g file n) ∷ []); output = packetOf g file n ++ drop (length (packetOf g file n)) out }
-    packed n below x out room = ap answer (pack-accepts file g n out
-        (record { fits = p .fit; some = p .some; most = p .limit; few = p .count; below = below }) room)

@@ -18,8 +18,8 @@ use Rattle.record.specs.Told.{offeredTold}
 use Rattle.record.proofs.OfferLaws.{answered, answer-after, offer-answer}
 use Rattle.promises.specs.Calls.{Answer, telling, State, step, fresh}
 use Rattle.promises.specs.Statements.{bytesAltered, Protected, Copy, Graded, MendedIsAltered, GradedFromFresh}
-use Rattle.promises.proofs.Judged.{copy-reads, copy-judged}
-use Rattle.promises.proofs.Demand.{Collecting, own, fair-run, begun}
+use Rattle.promises.proofs.Judged.{copy-judged}
+use Rattle.promises.proofs.Demand.{Collecting, own, copy-reads-there, fair-run, begun}
 use Rattle.promises.proofs.Fresh.{opens}
 
 module _ (g : Settings) (file : List ℕ) (p : Protected g file) (i start : ℕ) (x : State) (c : Collecting g file p i start x) where
@@ -30,7 +30,7 @@ module _ (g : Settings) (file : List ℕ) (p : Protected g file) (i start : ℕ)
     answers : (offerOf (x .held) (x .store) q .answer ≡ Stored mended) ⊎ (offerOf (x .held) (x .store) q .answer ≡ Repeat mended)
     answers =
         let said : offerOf (x .held) (x .store) q .answer ≡ answered (judge (own g file p i start) (fieldsOf g file n) q) (contents (own g file p i start) (x .store)) =
-        offer-answer (x .held) (x .store) q (c .sound) (fieldsOf g file n) (copy-reads g file p n below q cp) i (c .named)
+        offer-answer (x .held) (x .store) q (c .sound) (fieldsOf g file n) (copy-reads-there g file p i start n below q cp x c) i (c .named)
         ∙ ap (λ (o : Place). answered (judge o (fieldsOf g file n) q) (contents o (x .store))) (c .place) in
         let judged = said ∙ ap (λ (j : Judged). answered j (contents (own g file p i start) (x .store))) (copy-judged g file p n below q cp start) in
         ⊎-map (λ e. judged ∙ e) (λ e. judged ∙ e) (answer-after (contents (own g file p i start) (x .store)) n (payloadOf g file n) mended (c .slots n below))

@@ -2,6 +2,8 @@ pub mod Refusals
 pub mod Noise
 pub mod Judged
 pub mod NoSecond
+pub mod Columns
+pub mod Unrestored
 pub mod Views
 pub mod Sequences
 pub mod Own

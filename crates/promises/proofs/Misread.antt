@@ -34,7 +34,7 @@ unfolding infoByRows infoOf
 not-by-rows e = let z : _≡_ {A = ℕ} 11 12 = ap (λ (l : List ℕ). getD l 1 0) e in omega arith
 
 -- behind the 239 bytes of row 0 its checks follow, which are 0 here; the next row's first byte would be 1
-pub not-information-first : informationFirst 2 (0 ∷ 1 ∷ []) ≡ codedFile 2 (0 ∷ 1 ∷ []) → ⊥
+pub not-information-first : informationFirst 2 (0 ∷ 1 ∷ []) ≡ codedFile 0 2 (0 ∷ 1 ∷ []) → ⊥
 unfolding informationFirst codedFile infoOf rowOf checksOf remainder add scale lower product carryless reduce sum flatten
 not-information-first e = let z : _≡_ {A = ℕ} 1 0 = ap (λ (l : List ℕ). getD l 239 0) e in omega arith
 
@@ -76,11 +76,11 @@ not-kept e =
 abbrev ending : List ℕ
 ending = 7 ∷ 0 ∷ []
 
-pub zeros-handed : handRows 1 (codedFile 1 ending) 2 (9 ∷ 9 ∷ []) ≡ record { answer = Accepted; output = ending }
+pub zeros-handed : handRows 1 (codedFile 0 1 ending) 2 (9 ∷ 9 ∷ []) ≡ record { answer = Accepted; output = ending }
 zeros-handed = rows-coded 1 (omega arith) ending (9 ∷ 9 ∷ []) (omega arith)
 
-pub not-cut : cutZeros (undone 1 (codedFile 1 ending) 239 0) ≡ ending → ⊥
+pub not-cut : cutZeros (undone 0 1 (codedFile 0 1 ending) 239 0) ≡ ending → ⊥
 not-cut e =
-    let cut : cutZeros (undone 1 (codedFile 1 ending) 239 0) ≡ 7 ∷ [] = ap cutZeros (undone-coded 1 (omega arith) ending) in
+    let cut : cutZeros (undone 0 1 (codedFile 0 1 ending) 239 0) ≡ 7 ∷ [] = ap cutZeros (undone-coded 0 1 (omega arith) ending) in
     let z : _≡_ {A = ℕ} 1 2 = ap length (sym cut ∙ e) in
     omega arith

@@ -27,12 +27,12 @@ pub record Both (g : Settings) (a b : List ℕ) (n : ℕ) : Type 0 where
   pub one : Copy g a n packet
   pub other : Fair g b (offering packet)
 
-both : (g : Settings) (a b : List ℕ) (n : ℕ) {cs : List Call} → Offers g a n cs → AllFair g b cs → Both g a b n
+pub both : (g : Settings) (a b : List ℕ) (n : ℕ) {cs : List Call} → Offers g a n cs → AllFair g b cs → Both g a b n
 both g a b n (Offers.here {q} c) (AllFair.next f rest) = record { packet = q; one = c; other = f }
 both g a b n (Offers.later o) (AllFair.next f rest) = both g a b n o rest
 
 module _ (g : Settings) (a b : List ℕ) (pa : Protected g a) (pb : Protected g b) (same-count : countOf g (length a) ≡ countOf g (length b)) where
-  served : (n : ℕ) → n < countOf g (length a) → (q : List ℕ) → Copy g a n q → (c : Call) → c ≡ offering q → Fair g b c → payloadOf g a n ≡ payloadOf g b n
+  pub served : (n : ℕ) → n < countOf g (length a) → (q : List ℕ) → Copy g a n q → (c : Call) → c ≡ offering q → Fair g b c → payloadOf g a n ≡ payloadOf g b n
   served n l q ca c e (Fair.copy m q′ lm cb) =
       let s : q′ ≡ q = cc in
       same-payload g a b pa pb n m l lm q ca (subst (Copy g b m) s cb)
@@ -51,7 +51,7 @@ module _ (g : Settings) (a b : List ℕ) (pa : Protected g a) (pb : Protected g 
 
   -- what is sent of both is the same
   module _ (cs : List Call) (ca : Carries g a cs) (cb : Carries g b cs) where
-    same-sent : codedFile (g .rows) a ≡ codedFile (g .rows) b
+    same-sent : codedFile (g .order) (g .rows) a ≡ codedFile (g .order) (g .rows) b
     same-sent =
         let payloads : (n : ℕ) → n < countOf g (length a) → payloadOf g a n ≡ payloadOf g b n = λ n l.
         let s = both g a b n (ca .every n l) (cb .fair) in
@@ -68,16 +68,16 @@ module _ (g : Settings) (a b : List ℕ) (pa : Protected g a) (pb : Protected g 
     padded : length a ≤ length b → b ≡ a ++ replicate (length b - length a) 0
     padded h =
         let tables : tablesOf (g .rows) (length a) ≡ tablesOf (g .rows) (length b) =
-        sym (coded-tables (g .rows) a some-rows) ∙ ap (λ (x : List ℕ). length x / (255 * g .rows)) same-sent ∙ coded-tables (g .rows) b some-rows in
+        sym (coded-tables (g .order) (g .rows) a some-rows) ∙ ap (λ (x : List ℕ). length x / (255 * g .rows)) same-sent ∙ coded-tables (g .order) (g .rows) b some-rows in
         let reach : length b ≤ 239 * g .rows * tablesOf (g .rows) (length a) =
         subst (λ (t : ℕ). length b ≤ 239 * g .rows * t) (sym tables) (tables-reach (g .rows) (length b) some-rows) in
         let sum : length b ≡ length a + (length b - length a) = omega arith in
         let begin : 0 + length a ≡ length a = omega arith in
-        sym (undone-file (g .rows) some-rows b)
-        ∙ ap₂ (λ (x : List ℕ) (n : ℕ). undone (g .rows) x n 0) (sym same-sent) sum
-        ∙ listed-append (readBack (g .rows) (codedFile (g .rows) a)) (length a) (length b - length a) 0
-        ∙ ap (λ (k : ℕ). undone (g .rows) (codedFile (g .rows) a) (length a) 0 ++ undone (g .rows) (codedFile (g .rows) a) (length b - length a) k) begin
-        ∙ ap₂ _++_ (undone-file (g .rows) some-rows a) (undone-padding (g .rows) some-rows a (length b - length a) (omega (arith, reach)))
+        sym (undone-file (g .order) (g .rows) some-rows b)
+        ∙ ap₂ (λ (x : List ℕ) (n : ℕ). undone (g .order) (g .rows) x n 0) (sym same-sent) sum
+        ∙ listed-append (readBack (g .order) (g .rows) (codedFile (g .order) (g .rows) a)) (length a) (length b - length a) 0
+        ∙ ap (λ (k : ℕ). undone (g .order) (g .rows) (codedFile (g .order) (g .rows) a) (length a) 0 ++ undone (g .order) (g .rows) (codedFile (g .order) (g .rows) a) (length b - length a) k) begin
+        ∙ ap₂ _++_ (undone-file (g .order) (g .rows) some-rows a) (undone-padding (g .order) (g .rows) some-rows a (length b - length a) (omega (arith, reach)))
 
 pub no-second-length : NoSecondLength
 no-second-length g a b pa pb e h cs ca cb = padded g a b pa pb e cs ca cb h

@@ -19,7 +19,7 @@ use Rattle.promises.specs.Statements.{Protected, rowIn, Copy, Fair, AllF
 -- packets that are fair one by one, offered in order
 module _ (g : Settings) (file : List ℕ) (packets : ℕ → List ℕ) (n : ℕ) (each : (i : ℕ) → i < n → Fair g file (offering (packets i))) where
   -- k of them from packet i on
-  fair-from : (k i : ℕ) → i + k ≤ n → AllFair g file (map offering (listed packets k i))
+  pub fair-from : (k i : ℕ) → i + k ≤ n → AllFair g file (map offering (listed packets k i))
   fair-from zero i l = AllFair.ended
   fair-from (suc k) i l = AllFair.next (each i (omega arith)) (fair-from k (suc i) (omega arith))
 
@@ -34,10 +34,11 @@ module _ (g : Settings) (file : List ℕ) (p : Protected g file) where
     header = refl;
     crc = refl;
     rows = λ i. omega (arith, distance-self (rowIn (packetOf g file n) i));
+    as-sent = λ o. refl;
   }
 
   -- k packets from packet i on
-  own-offers : (n k i : ℕ) → i ≤ n → n < i + k → n < countOf g (length file) → Offers g file n (map offering (listed (packetOf g file) k i))
+  pub own-offers : (n k i : ℕ) → i ≤ n → n < i + k → n < countOf g (length file) → Offers g file n (map offering (listed (packetOf g file) k i))
   own-offers n zero i a b l = absurd (omega arith)
   own-offers n (suc k) i a b l = by (eq-or-lt-of-le a) (λ (c : i < n). own-offers n k (suc i) c (omega arith) l)
     where

@@ -14,7 +14,6 @@ use Rattle.layout.specs.Layout.{undone}
 use Rattle.code.specs.Code.{Bytes}
 use Rattle.packet.specs.declared.Packet.{Packet}
 use Rattle.packet.specs.declared.Reading.the-variants.{Sent}
-use Rattle.packet.specs.Packet.{readOf}
 use Rattle.settings.specs.Settings.{settingsFit}
 use Rattle.pack.specs.Pack.{payloadOf, packetOf}
 use Rattle.pack.proofs.Laws.{fieldsOf, payload-some, payload-most, payload-rows, joined-file}
@@ -28,16 +27,16 @@ use Rattle.contents.proofs.Slots.{slot-within, slot-stored, fits-made}
 use Rattle.contents.proofs.Places.{reading-slots}
 use Rattle.record.specs.declared.Offered.{Offered}
 use Rattle.record.specs.declared.Offered.the-variants.{Refused}
-use Rattle.record.specs.Offer.{packetName, Offering, put, judge, putInto, storing, offerJudged, offerOf}
+use Rattle.record.specs.Offer.{packetName, readFor, Offering, put, judge, putInto, storing, offerJudged, offerOf}
 use Rattle.record.specs.Told.{offeredTold}
 use Rattle.record.proofs.OfferCases.{offer-placed}
 use Rattle.promises.specs.Calls.{State, Outcome, step, telling}
 use Rattle.promises.specs.Calls.Call.{offering}
 use Rattle.promises.specs.Statements.{bytesAltered, Protected, Copy, placeAt, slotIn, Carried, Accepts, OffersBySlots, RefusalsChangeNothing}
 use Rattle.promises.specs.Misreadings.{putAt, putFound, putRead, replacing}
-use Rattle.promises.proofs.Judged.{copy-reads, copy-judged}
+use Rattle.promises.proofs.Judged.{copy-name, copy-reads, copy-judged}
 use Rattle.promises.proofs.Own.{whole-copy}
-use Rattle.promises.proofs.Demand.{Collecting, copy-go}
+use Rattle.promises.proofs.Demand.{read-there, Collecting, copy-go}
 use Rattle.promises.proofs.Slots.{held-found}
 use Rattle.promises.proofs.Turned.{one, byte, protected, packet, opened, begun}
 
@@ -54,7 +53,7 @@ payloads-differ : payloadOf one byte 0 ≡ payloadOf one other 0 → ⊥
 unfolding flatten
 payloads-differ e =
     let files : byte ≡ other =
-    sym (joined-file one byte (protected .fit) refl) ∙ ap (λ (p : List ℕ). undone 1 (p ++ []) 1 0) e ∙ joined-file one other (protected-other .fit) refl in
+    sym (joined-file one byte (protected .fit) refl) ∙ ap (λ (p : List ℕ). undone 0 1 (p ++ []) 1 0) e ∙ joined-file one other (protected-other .fit) refl in
     let z : _≡_ {A = ℕ} 7 8 = ap (λ (l : List ℕ). getD l 0 0) files in
     omega arith
 
@@ -86,8 +85,8 @@ later = packetOf one other 0
 later-copy : Copy one other 0 later
 later-copy = whole-copy one other protected-other 0 (omega arith)
 
-later-reads : readOf later ≡ Sent (fieldsOf one other 0)
-later-reads = copy-reads one other protected-other 0 (omega arith) later later-copy
+later-reads : readFor (full .held) later ≡ Sent (fieldsOf one other 0)
+later-reads = read-there one byte protected 0 0 full there later (copy-name one other protected-other 0 (omega arith) later later-copy) ∙ copy-reads one other protected-other 0 (omega arith) later later-copy
 
 later-judged : judge (placeAt full 0) (fieldsOf one other 0) later ≡ put 0 (payloadOf one other 0) (bytesAltered later (payloadOf one other 0))
 later-judged =
@@ -109,7 +108,7 @@ number-16 = ap (λ (a : Offered). offeredTold a .number) said-conflict
 abbrev replaced : List ℕ
 replaced = stored (full .store) (slotAt own 0) (payloadOf one other 0)
 
-put-there : putRead full later (readOf later) ≡ replaced
+put-there : putRead full later (readFor (full .held) later) ≡ replaced
 put-there =
     ap (putRead full later) later-reads
     ∙ ap (putFound full (fieldsOf one other 0) later) (there .named)
@@ -131,7 +130,7 @@ slot-replaced =
     let ends : endOf own ≤ length (full .store) =
     subst (λ (p : Place). endOf p ≤ length (full .store)) (there .place) (named-facts (length (full .store)) (full .held .places) (there .sound) (settingsName one) 0 (there .named) .ends-within) in
     slot-stored own (full .store) 0 (payloadOf one other 0) (omega (arith, slot-within own 0 (omega arith) .1))
-    (fits-made own (length (payloadOf one other 0)) most (inr (payload-rows one other (protected-other .fit) refl 0)))
+    (fits-made own (length (payloadOf one other 0)) most (inr (payload-rows one other (protected-other .fit) refl refl 0)))
 
 -- the store is another
 changed : replaced ≡ full .store → ⊥

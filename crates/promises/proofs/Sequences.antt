@@ -28,7 +28,8 @@ use Rattle.standing.specs.declared.Standing.{Standing}
 use Rattle.standing.specs.Status.{statusOf}
 use Rattle.standing.specs.Told.{standingTold}
 use Rattle.standing.proofs.StatusLaws.{status-same}
-use Rattle.handing.specs.Hand.{Handing, handOutOf}
+use Rattle.columns.specs.Handing.{Handing}
+use Rattle.handing.specs.Hand.{handOutOf}
 use Rattle.opening.proofs.PlanLaws.{taking, open-by}
 use Rattle.opening.proofs.OpenLaws.{open-named, open-own, open-empty, open-keeps-length, refused-record, refused-store}
 use Rattle.opening.proofs.CloseLaws.{close-record, close-unknown, close-found, close-named}

@@ -2,10 +2,11 @@
 -- found the payload there; no other slot changes. Assumes nothing.
 use mathlib.Core.Path.{_≡_, refl, sym, ap, _∙_}
 use mathlib.Core.Logic.{⊎-elim}
-use mathlib.Core.Bool.{Bool, true, false, cond}
+use mathlib.Core.Bool.{Bool, true, false, cond, not}
 use mathlib.Core.List.{List, [], _∷_}
-use Prim.Native.Nat.{ℕ, zero, suc, _+_, _%_, _<_, _≤_}
+use Prim.Native.Nat.{ℕ, _+_, _%_, _<_, _≤_}
 use native.Mathlib.Omega.{arith}
+use lib.Dec.{eqb}
 use lib.ListN.{length, getD, List·getD-eq-default}
 use Rattle.refusals.specs.declared.Refusal.the-variants.{Other, Slot, Conflict}
 use Rattle.refusals.specs.Told.{refusedAs}
@@ -15,11 +16,10 @@ use Rattle.words.specs.Words.{same}
 use Rattle.words.proofs.SameLaws.{same-equal}
 use Rattle.packet.specs.declared.Packet.{Packet}
 use Rattle.packet.specs.declared.Reading.the-variants.{Sent}
-use Rattle.packet.specs.Packet.{readOf}
 use Rattle.places.specs.declared.Place.{Place}
 use Rattle.places.specs.declared.Found.{Found}
 use Rattle.places.specs.declared.Found.the-variants.{At, Nothing}
-use Rattle.places.specs.Places.{Name, unused, inUse, names as holds, good, endOf, placeNamed}
+use Rattle.places.specs.Places.{Name, unused, inUse, names as holds, good, endOf, inRows, placeNamed}
 use Rattle.ground.proofs.Truth.{differ, fails}
 use Rattle.places.proofs.Searches.{first-only}
 use Rattle.places.proofs.Named.{names-in-use}
@@ -34,10 +34,11 @@ use Rattle.record.specs.declared.Offered.{Offered}
 use Rattle.record.specs.declared.Offered.the-variants.{Repeat}
 use Rattle.code.specs.Mend.{whole}
 use Rattle.record.specs.Mend.{payloadIn, mendedIn}
-use Rattle.record.specs.Offer.{packetName, Judged, refuse, put, judge, putInto, Offering, storing, offerJudged, offerOf}
+use Rattle.settings.specs.Settings.{rowWise}
+use Rattle.record.specs.Offer.{packetName, readFor, differs, mendAs, Judged, refuse, put, judge, putInto, Offering, storing, offerJudged, offerOf}
 use Rattle.record.specs.Told.{offeredTold}
 use Rattle.record.proofs.OfferCases.{payload-length, mended-plain, mended-rows, puts-known}
-use Rattle.record.proofs.OfferFacts.{Read, read-known}
+use Rattle.record.proofs.OfferFacts.{Read, read-placed, same-file, mends-nothing, mends-rows, rows-judged, rows-protected}
 use Rattle.record.proofs.OfferLaws.{Placed, Sound, Case, refused, placed, offer-case, offer-sound}
 use Rattle.standing.specs.declared.Standing.{Standing}
 use Rattle.standing.specs.declared.Standing.the-variants.{Filled}
@@ -86,15 +87,19 @@ status-by-slots x r i h =
 
 -- ---- a packet that puts a payload
 
--- rows that were repaired are near, and what was mended is counted
-mended-near : (q b : List ℕ) (m : ℕ) (f : Packet) → Read q f → (f .protection ≡ 0 → ⊥) → mendedIn (f .protection) q ≡ whole b m → RowsNear q b × (m ≡ bytesAltered q b)
-mended-near q b m f r d e =
-    let one : f .protection ≡ 1 = positive (f .protection) (r .protection) d in
-    rows-near q b m (ap (λ (n : ℕ). n % 255) (payload-length q (omega (arith, r .least))) ∙ r .multiple one) (sym (mended-rows (f .protection) q d) ∙ e)
-  where
-    positive : (t : ℕ) → t < 2 → (t ≡ 0 → ⊥) → t ≡ 1
-    positive zero l d = absurd (d refl)
-    positive (suc t) l d = omega arith
+module _ (p : Place) (q b : List ℕ) (m : ℕ) (f : Packet) (s : differs p f ≡ false) (e : mendedIn (mendAs p f) q ≡ whole b m) where
+  as-packet : {t : Bool} → inRows p ≡ t → rowWise (f .protection) (p .order) ≡ t
+  as-packet w = ap (λ (x : ℕ). rowWise x (p .order)) (same-file p f s .protection) ∙ w
+
+  -- rows that were repaired are near, and what was mended is counted
+  mended-near : Read (not (eqb (p .order) 1)) q f → inRows p ≡ true → RowsNear q b × (m ≡ bytesAltered q b)
+  mended-near r w =
+      rows-near q b m (ap (λ (n : ℕ). n % 255) (payload-length q (omega (arith, r .least))) ∙ r .multiple (rows-judged p f (as-packet w)) (rows-protected p f (r .protection) (as-packet w)))
+      (sym (mended-rows (mendAs p f) q (mends-rows p f (as-packet w))) ∙ e)
+
+  -- else the payload is as it came
+  mended-nothing : inRows p ≡ false → (b ≡ payloadIn q) × (m ≡ 0)
+  mended-nothing w = let o : whole b m ≡ whole (payloadIn q) 0 = sym e ∙ mended-plain (mendAs p f) q (mends-nothing p f (as-packet w)) in (cc, cc)
 
 -- ---- what is stored in a slot, and every other
 
@@ -131,7 +136,7 @@ module _ (x : State) (q : List ℕ) where
   abbrev Says : Offering → Type 0
   Says o = offeredTold (o .answer) .number ≡ 0 → Accepts x q (record { held = x .held; store = o .store }) (offeredTold (o .answer) .values)
 
-  module _ (g : good (length (x .store)) (x .held .places) ≡ true) (f : Packet) (read : readOf q ≡ Sent f) (i : ℕ) (found : placeNamed (x .held .places) (packetName f) ≡ At i) where
+  module _ (g : good (length (x .store)) (x .held .places) ≡ true) (f : Packet) (read : readFor (x .held) q ≡ Sent f) (i : ℕ) (found : placeNamed (x .held .places) (packetName f) ≡ At i) where
     carried : (n : ℕ) (b : List ℕ) (m : ℕ) → judge (placeAt x i) f q ≡ put n b m → Placed (placeAt x i) f n b → Carried x q i n b m
     carried n b m e w =
         let k = puts-known n b m (placeAt x i) f q e in
@@ -143,15 +148,12 @@ module _ (x : State) (q : List ℕ) where
           edition = k .edition;
           number = w .number;
           below = w .below;
-          plain = λ z. plain z (k .mended) .0;
-          rows = λ d. mended-near q b m f (read-known q f read) d (k .mended) .0;
+          plain = λ z. mended-nothing (placeAt x i) q b m f (k .serves) (k .mended) z .0;
+          rows = λ w. mended-near (placeAt x i) q b m f (k .serves) (k .mended) (read-placed (x .held) q f read i found) w .0;
           crc = k .crc;
-          none-mended = λ z. plain z (k .mended) .1;
-          mended = λ d. mended-near q b m f (read-known q f read) d (k .mended) .1;
+          none-mended = λ z. mended-nothing (placeAt x i) q b m f (k .serves) (k .mended) z .1;
+          mended = λ w. mended-near (placeAt x i) q b m f (k .serves) (k .mended) (read-placed (x .held) q f read i found) w .1;
         }
-      where
-        plain : f .protection ≡ 0 → mendedIn (f .protection) q ≡ whole b m → (b ≡ payloadIn q) × (m ≡ 0)
-        plain z e = let o : whole b m ≡ whole (payloadIn q) 0 = sym e ∙ mended-plain (f .protection) q z in (cc, cc)
 
     slot-said : (n : ℕ) (b : List ℕ) (m : ℕ) → judge (placeAt x i) f q ≡ put n b m → Placed (placeAt x i) f n b → (c : Content) → slotIn x i n ≡ c
         → Says (storing (x .store) (slotAt (placeAt x i) n) b (putInto c b m))

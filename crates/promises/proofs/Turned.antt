@@ -1,13 +1,12 @@
 -- Wrong programs are turned away, each by a promise that it breaks at one small example: a file of one byte in one packet, over a store with just the room.
 -- Assumes nothing.
 use mathlib.Core.Path.{_≡_, refl, sym, ap, _∙_}
-use mathlib.Core.Logic.{⊎-elim}
+use mathlib.Core.Bool.{Bool, true, false}
 use mathlib.Core.List.{List, [], _∷_, _++_}
-use Prim.Native.Nat.{ℕ, _+_, _*_, _<_, _≤_}
+use Prim.Native.Nat.{ℕ, _+_, _-_, _*_, _<_, _≤_}
 use native.Mathlib.Omega.{arith}
 use lib.ListN.{length, getD, replicate}
 use Rattle.ground.specs.Bits.{sum}
-use Rattle.ground.proofs.Numbers.{same-or-not}
 use Rattle.refusals.specs.declared.Refusal.the-variants.{Missing}
 use Rattle.refusals.specs.declared.Verdict.the-variants.{Refused}
 use Rattle.refusals.specs.Told.{verdictTold}
@@ -25,15 +24,17 @@ use Rattle.settings.specs.Settings.{settingsFit}
 use Rattle.pack.specs.Pack.{packetOf}
 use Rattle.places.specs.declared.Place.{Place}
 use Rattle.places.specs.declared.Found.the-variants.{At, Nothing}
-use Rattle.places.specs.Places.{Name, settingsName, firstFrom, freshRecord, placeOf}
+use Rattle.places.specs.Places.{Name, settingsName, firstFrom, freshRecord, placeOf, inRows}
 use Rattle.contents.specs.Contents.{Slot as Content, holding, contents}
 use Rattle.opening.specs.Open.{Opening}
 use Rattle.opening.proofs.PlanLaws.{Taking}
 use Rattle.opening.proofs.OpenLaws.{open-empty}
+use Rattle.record.specs.Mend.{payloadIn}
 use Rattle.record.specs.Offer.{packetName}
 use Rattle.record.proofs.OfferCases.{payload-length}
-use Rattle.record.proofs.OfferFacts.{read-known}
-use Rattle.handing.specs.Hand.{Handing, handContents, handOutOf}
+use Rattle.record.proofs.OfferFacts.{read-least}
+use Rattle.columns.specs.Handing.{Handing}
+use Rattle.handing.specs.Hand.{handContents, handOutOf}
 use Rattle.handing.proofs.HandCases.{out-found}
 use Rattle.promises.specs.Calls.{Answer, telling, State, Outcome, step, fresh}
 use Rattle.promises.specs.Calls.Call.{opening, offering, asking}
@@ -47,7 +48,7 @@ use Rattle.promises.proofs.Slots.{held-found, found-held, status-by-slo
 -- ---- the example
 
 abbrev pub one : Settings
-one = record { resource = 5; kind = 1; update = 0; protection = 1; rows = 1; size = 255; edition = 2 }
+one = record { resource = 5; kind = 1; update = 0; protection = 1; rows = 1; size = 255; edition = 2; order = 0 }
 
 abbrev pub byte : List ℕ
 byte = 7 ∷ []
@@ -98,10 +99,14 @@ refusing-turned d =
 
 -- a payload that was carried has bytes
 carried-some : (x : State) (q : List ℕ) (i n : ℕ) (b : List ℕ) (m : ℕ) → Carried x q i n b m → 0 < length b
-carried-some x q i n b m c =
-    let least = read-known q (c .fields) (c .read) .least in
-    let sized = payload-length q (omega arith) in
-    ⊎-elim (λ z. omega (arith, ap length (c .plain z))) (λ d. omega (arith, c .rows d .sized)) (same-or-not (c .fields .protection) 0)
+carried-some x q i n b m c = by (inRows (placeAt x i)) refl
+  where
+    sized : length (payloadIn q) ≡ length q - 18
+    sized = payload-length q (omega (arith, read-least (x .held) q (c .fields) (c .read)))
+
+    by : (t : Bool) → inRows (placeAt x i) ≡ t → 0 < length b
+    by true t = omega (arith, c .rows t .sized, sized, read-least (x .held) q (c .fields) (c .read))
+    by false t = omega (arith, ap length (c .plain t), sized, read-least (x .held) q (c .fields) (c .read))
 
 -- Stored changes the store
 stored-changes : (x : State) (q v : List ℕ) → Accepts x q x v → v ≡ 0 ∷ [] → ⊥
@@ -120,6 +125,7 @@ unfolding handContents
 empty-handed =
     out-found (opened .held) (opened .store) (settingsName one) (begun .sound) 1 (0 ∷ []) 0 (begun .named)
     ∙ ap (λ (c : List Content). handContents (placeAt opened 0) c 1 (0 ∷ [])) empty
+    ∙ ap (λ (p : Place). handContents p (holding [] ∷ []) 1 (0 ∷ [])) (begun .place)
 
 pub losing-breaks-demand-3 : FromFresh losing → ⊥
 unfolding losing step

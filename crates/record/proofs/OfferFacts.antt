@@ -79,12 +79,16 @@ read-known rows q f e =
     }
 
 -- it names what its bytes name
-read-names : (rows : Bool) (q : List ℕ) (f : Packet) → readBy rows q ≡ Sent f → packetName f ≡ nameIn q
+pub read-names : (rows : Bool) (q : List ℕ) (f : Packet) → readBy rows q ≡ Sent f → packetName f ≡ nameIn q
 read-names rows q f e =
     let k = read-known rows q f e .fields in
     let r : f .resource ≡ resourceIn q = ap (λ (x : Packet). x .resource) k ∙ resource-in q in
     let t : f .kind ≡ kindIn q = ap (λ (x : Packet). x .kind) k ∙ kind-in q in
     λ i. record { resource = r i; kind = t i }
+
+-- its fields are the same however it is read
+pub read-alike : (rows other : Bool) (q : List ℕ) (f k : Packet) → readBy rows q ≡ Sent f → readBy other q ≡ Sent k → f ≡ k
+read-alike rows other q f k e d = read-known rows q f e .fields ∙ sym (read-known other q k d .fields)
 
 -- ---- read for a record
 
