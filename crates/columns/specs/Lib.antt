@@ -1,2 +1,4 @@
 pub mod Handing
 pub mod Columns
+pub mod InnerWrite
+pub mod InnerBytes
