@@ -1,3 +1,11 @@
 pub mod Handed
 pub mod Leaving
 pub mod Recovered
+pub mod Nearing
+pub mod Standings
+pub mod Coming
+pub mod Gone
+pub mod Missing
+pub mod Putting
+pub mod Recovering
+pub mod Whole
