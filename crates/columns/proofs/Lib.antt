@@ -1,10 +1,16 @@
 pub mod Handed
 pub mod Leaving
 pub mod Recovered
+pub mod Lowest
+pub mod Gone
+pub mod ZeroLaws
+pub mod SpanLaws
+pub mod RowLaws
+pub mod LengthLaws
+pub mod JudgeLaws
 pub mod Nearing
 pub mod Standings
 pub mod Coming
-pub mod Gone
 pub mod Missing
 pub mod Putting
 pub mod Recovering

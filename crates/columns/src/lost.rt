@@ -24,7 +24,7 @@ fn sum_of(row: &[u8]) -> u8
 }
 
 // What a row leaves when the generator divides it.
-fn rest_of(row: &[u8]) -> [u8; 16]
+pub(crate) fn rest_of(row: &[u8]) -> [u8; 16]
     requires { ⌜ length (now row) ≡ 255 ⌝ }
     ensures { λ r. ⌜ r ≡ remainder 239 (now (row .entry)) ⌝ }
 {

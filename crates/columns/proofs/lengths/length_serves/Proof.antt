@@ -1,0 +1,55 @@
+-- The range of the length, and then the count of slots that it gives.
+-- Assumes nothing.
+use native.Mathlib.Omega.{arith}
+use Rattle.columns.proofs.LengthLaws.{serves-none, serves-much, serves-count}
+use Rattle.columns.proofs.lengths.length_serves.Statement.{statement}
+use Rattle.columns.proofs.lengths.length_serves.Tie as tie
+
+returns : tie.Need-returns
+returns c = serves-none _ _ (c .if1 .taken)
+
+returns-2 : tie.Need-returns-2
+returns-2 c = serves-much _ _ (c .before .if1 .left) (c .if2 .taken)
+
+rows-of-requires : tie.Need-rows-of-requires
+rows-of-requires c κs = (c .before .before .pre .0, c .if2 .left)
+
+cast-sent : tie.Need-cast-sent
+cast-sent c = omega arith
+
+mul-sent : tie.Need-mul-sent
+mul-sent c = omega (arith, c .rows-of .ensures .1)
+
+cast-size : tie.Need-cast-size
+cast-size c = omega arith
+
+sub-result : tie.Need-sub-result
+sub-result c = omega (arith, c .before .before .before .before .pre .1)
+
+add-result : tie.Need-add-result
+add-result c = omega (arith, c .before .rows-of .ensures .1)
+
+div-result : tie.Need-div-result
+div-result c = omega (arith, c .before .before .before .before .pre .1)
+
+cast-result : tie.Need-cast-result
+cast-result c = omega arith
+
+returns-3 : tie.Need-returns-3
+returns-3 c = serves-count _ _ (c .before .before .before .before .if1 .left) (c .before .before .before .if2 .left) _ (c .before .before .rows-of .ensures .0)
+
+pub length-serves-spec : {M : Type 1} → statement M
+length-serves-spec =
+    tie.close
+    (tie.spec
+    returns
+    returns-2
+    rows-of-requires
+    cast-sent
+    mul-sent
+    cast-size
+    sub-result
+    add-result
+    div-result
+    cast-result
+    returns-3)
