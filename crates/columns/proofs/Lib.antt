@@ -8,6 +8,8 @@ pub mod SpanLaws
 pub mod RowLaws
 pub mod LengthLaws
 pub mod JudgeLaws
+pub mod PaddingLaws
+pub mod HandLaws
 pub mod Nearing
 pub mod Standings
 pub mod Coming
