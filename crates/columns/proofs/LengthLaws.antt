@@ -1,6 +1,7 @@
 -- What is judged by lengths alone: the place, the file's length, and the loop over the lengths of the slots.
 -- Assumes nothing.
 use mathlib.Core.Path.{_≡_, refl, sym, ap, ap₂, _∙_}
+use mathlib.Core.Logic.{⊎-elim}
 use mathlib.Core.Bool.{Bool, true, false, not, _&&_}
 use mathlib.Core.List.{List}
 use Prim.Native.Nat.{ℕ, suc, _+_, _-_, _*_, _/_, _^_, _<_, _≤_, min}
@@ -11,6 +12,7 @@ use lib.Dec.{eqb, leb}
 use lib.ListN.{length, getD}
 use Rattle.ground.specs.Lists.{ceil}
 use Rattle.ground.proofs.Listed.{ceil-short}
+use Rattle.ground.proofs.Numbers.{lt-or-ge}
 use Rattle.ground.proofs.Truth.{differ, and-both}
 use Rattle.layout.specs.Layout.{tablesOf}
 use Rattle.places.specs.declared.Place.{Place}
@@ -86,6 +88,13 @@ module _ (p : Place) (n : ℕ) where
 
 -- ---- a slot
 
+-- the lesser of two numbers
+pub least-is : {a b r : ℕ} → (r ≤ a) × (r ≤ b) × ((x : ℕ) → x < a → x < b → x < r) → r ≡ min a b
+least-is {a} {b} {r} h = ⊎-elim (λ (e : r < min a b). absurd (omega (arith, h .2 r (omega arith) (omega arith)))) (λ (e : min a b ≤ r). low e) (lt-or-ge r (min a b))
+  where
+    low : min a b ≤ r → r ≡ min a b
+    low e = omega (arith, h .0, h .1)
+
 pub differs-yes : (n full : ℕ) → (n ≡ 0 → ⊥) → not (eqb n full) ≡ (not (eqb n 0) && not (eqb n full))
 differs-yes n full d = rw (ne-eqb n 0 d) refl
 
@@ -143,7 +152,3 @@ module _ (p : Place) (s : List ℕ) (total : ℕ) where
             remains = omega (arith, v .remains);
             rest = sym (left-next (misfits (p .slot) total (contents p s)) (p .count) k h (here ∙ t)) ∙ v .rest;
           }
-
--- the smaller of two is not above the second
-pub lesser-second : (a b r : ℕ) → r ≡ min a b → r ≤ b
-lesser-second a b r e = omega arith

@@ -30,12 +30,7 @@ pub record Tabled (p : Place) (s : List ℕ) : Type 0 where
   pub rows : 1 ≤ p .rows
   pub slot : 1 ≤ p .slot
 
--- and none of its slots is wrong
-pub record Sound (p : Place) (s : List ℕ) : Type 0 where
-  pub place : Tabled p s
-  pub right : anyWrong (contents p s) ≡ false
-
--- and n bytes may be its file
+-- none of its slots is wrong, and n bytes may be its file
 pub record Serving (p : Place) (s : List ℕ) (n : ℕ) : Type 0 where
   pub place : Tabled p s
   pub right : anyWrong (contents p s) ≡ false

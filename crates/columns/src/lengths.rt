@@ -1,7 +1,7 @@
 // What is judged of a place in column order by lengths alone: document 02, R-8, refusals 9, 23 and 22. Private to the crate.
 ghost use mathlib.Core.Path.{_≡_};
 ghost use mathlib.Core.Bool.{not, _&&_};
-ghost use Prim.Native.Nat.{_*_, _≤_, _<_, _^_, min};
+ghost use Prim.Native.Nat.{ℕ, _*_, _≤_, _<_, _^_};
 ghost use lib.Dec.{eqb};
 ghost use Rattle.layout.specs.Layout.{tablesOf};
 ghost use Rattle.places.specs.Room.{lowestFrom};
@@ -50,9 +50,9 @@ pub(crate) fn length_serves(p: Place, n: usize) -> bool
     (sent + (size - 1)) / size == p.count as usize
 }
 
-// The smaller of two numbers.
-fn lesser(a: usize, b: usize) -> usize
-    ensures { λ r. ⌜ r ≡ min a b ⌝ }
+// The lesser of two numbers.
+pub(crate) fn least(a: usize, b: usize) -> usize
+    ensures { λ r. ⌜ (r ≤ a) × (r ≤ b) × ((x : ℕ) → x < a → x < b → x < r) ⌝ }
 {
     if a < b {
         return a;
@@ -77,7 +77,7 @@ pub(crate) fn lengths_fit(p: Place, store: &[u8], n: usize) -> bool
     let mut left = 255 * (rows_of(p.rows, n) as usize);
     let mut k: u32 = 0;
     while k < p.count {
-        let full = lesser(size, left);
+        let full = least(size, left);
         if differs(contents::slot_length(store, at), full) {
             return false;
         }

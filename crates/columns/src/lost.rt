@@ -8,6 +8,7 @@ ghost use Rattle.code.specs.Value.{value};
 ghost use Rattle.layout.specs.Layout.{tablesOf};
 ghost use Rattle.columns.specs.InnerWrite.{Writable};
 ghost use Rattle.columns.specs.InnerBytes.{aimOf, LostRow, LostBelow, Nearer, Restores, putColumn, putColumns};
+use crate::lengths;
 use places::Place;
 
 // The exclusive or of all bytes of a row.
@@ -106,9 +107,7 @@ pub(crate) fn restore_rows(p: Place, store: &[u8], n: usize, out: &mut [u8])
     requires { ⌜ Writable p (now store) n × (n ≤ length (now out)) ⌝ }
     ensures { λ r. ⌜ Nearer (aimOf p (now (store .entry))) n (LostBelow p (now (store .entry)) (p .rows * tablesOf (p .rows) n)) (now (out .entry)) (now (out .exit)) ⌝ }
 {
-    let m = p.rows as usize;
-    let table = 239 * m;
-    let rows = (m * ((n + (table - 1)) / table)) as u32;
+    let rows = lengths::rows_of(p.rows, n);
     let mut q: u32 = 0;
     while q < rows {
         restore_row(p, store, q, n, out);

@@ -2,13 +2,14 @@
 // another, so what came is copied slot by slot; what is lost is then put in, row by row. Private to the crate.
 ghost use mathlib.Core.Path.{_≡_};
 ghost use mathlib.Core.List.{_++_};
-ghost use Prim.Native.Nat.{ℕ, _+_, _≤_, _<_};
+ghost use Prim.Native.Nat.{_+_, _≤_, _<_};
 ghost use lib.ListN.{length, drop};
 ghost use Rattle.layout.specs.Layout.{undone};
 ghost use Rattle.contents.specs.Contents.{slotAt, contents};
 ghost use Rattle.columns.specs.Columns.{sentLength, restored};
 ghost use Rattle.columns.specs.InnerWrite.{Writable};
 ghost use Rattle.columns.specs.InnerBytes.{aimOf, Known, Nearer, Together, Copied};
+use crate::lengths;
 use crate::lost;
 use places::Place;
 
@@ -17,16 +18,6 @@ struct Chunk {
     slot: usize,
     from: usize,
     len: usize,
-}
-
-// The lesser of two numbers.
-fn least(a: usize, b: usize) -> usize
-    ensures { λ r. ⌜ (r ≤ a) × (r ≤ b) × ((x : ℕ) → x < a → x < b → x < r) ⌝ }
-{
-    if a < b {
-        return a;
-    }
-    b
 }
 
 // Those from byte `f` of a file of `n` bytes on, up to the end of their slot or of their table's information.
@@ -40,11 +31,11 @@ fn chunk_at(p: Place, n: usize, f: usize) -> Chunk
     let t = f / table;
     let j = f + t * (16 * m);
     let from = j % size;
-    let left = least(n, (t + 1) * table) - f;
+    let left = lengths::least(n, (t + 1) * table) - f;
     Chunk {
         slot: j / size,
         from,
-        len: least(size - from, left),
+        len: lengths::least(size - from, left),
     }
 }
 

@@ -3,6 +3,7 @@
 use mathlib.Core.Path.{ap, _∙_}
 use mathlib.Core.List.{List}
 use Prim.Native.Nat.{ℕ, _-_}
+use native.Mathlib.Omega.{arith}
 use Rattle.contents.specs.Contents.{bytesAt}
 use Rattle.columns.specs.Handing.{allZero}
 use Rattle.columns.proofs.ZeroLaws.{beyond-none, beyond-from}
@@ -19,7 +20,7 @@ restored-requires : tie.Need-restored-requires
 restored-requires c κs = c .before .before .pre .0
 
 is-zero-requires : tie.Need-is-zero-requires
-is-zero-requires c κs = c .before .before .columns-within .ensures .within
+is-zero-requires c κs = omega (arith, c .before .before .columns-within .ensures .within)
 
 returns-2 : tie.Need-returns-2
 returns-2 c =

@@ -7,7 +7,7 @@ use borrow.Author.Count.{falls}
 use lib.ListN.{length}
 use Rattle.standing.proofs.StandLaws.{stands-room}
 use Rattle.columns.specs.Columns.{sentLength}
-use Rattle.columns.proofs.LengthLaws.{rows-sent, Fitting, fitting-first, fitting-end, fitting-not, fitting-next, lesser-second}
+use Rattle.columns.proofs.LengthLaws.{rows-sent, Fitting, fitting-first, fitting-end, fitting-not, fitting-next, least-is}
 use Rattle.columns.proofs.lengths.lengths_fit.Statement.{statement}
 use Rattle.columns.proofs.lengths.lengths_fit.Tie as tie
 
@@ -39,8 +39,8 @@ mul-left c = omega (arith, c .rows-of .ensures .1)
 loop-holds : tie.Need-loop-holds Inv-loop μ-loop
 loop-holds c = fitting-first _ _ _ _ (rows-sent _ _ _ (c .rows-of .ensures .0))
 
-lesser-requires : tie.Need-lesser-requires Inv-loop μ-loop
-lesser-requires c κs = tt
+least-requires : tie.Need-least-requires Inv-loop μ-loop
+least-requires c κs = tt
 
 slot-length-requires : tie.Need-slot-length-requires Inv-loop μ-loop
 slot-length-requires c κs = tt
@@ -50,10 +50,10 @@ differs-requires c κs = tt
 
 returns : tie.Need-returns Inv-loop μ-loop
 returns c =
-    fitting-not _ _ _ _ _ _ (c .before .before .before .before .before .before .loop .inv) (c .before .before .before .before .before .before .before .before .before .before .before .pre .right) (c .before .before .before .before .if1 .taken) _ _ (c .before .before .before .lesser .ensures) (c .before .before .slot-length .ensures) _ (c .before .differs .ensures) (c .if2 .taken)
+    fitting-not _ _ _ _ _ _ (c .before .before .before .before .before .before .loop .inv) (c .before .before .before .before .before .before .before .before .before .before .before .pre .right) (c .before .before .before .before .if1 .taken) _ _ (least-is (c .before .before .before .least .ensures)) (c .before .before .slot-length .ensures) _ (c .before .differs .ensures) (c .if2 .taken)
 
 sub-left : tie.Need-sub-left Inv-loop μ-loop
-sub-left c = lesser-second _ _ _ (c .before .before .before .lesser .ensures)
+sub-left c = c .before .before .before .least .ensures .1
 
 add-at : tie.Need-add-at Inv-loop μ-loop
 add-at c = omega arith
@@ -69,7 +69,7 @@ loop-less c = falls _ _ (c .before .before .before .before .if1 .taken)
 
 loop-again : tie.Need-loop-again Inv-loop μ-loop
 loop-again c =
-    fitting-next _ _ _ _ _ _ (c .before .before .before .before .before .before .loop .inv) (c .before .before .before .before .before .before .before .before .before .before .before .pre .right) (c .before .before .before .before .if1 .taken) _ _ (c .before .before .before .lesser .ensures) (c .before .before .slot-length .ensures) _ (c .before .differs .ensures) (c .if2 .left)
+    fitting-next _ _ _ _ _ _ (c .before .before .before .before .before .before .loop .inv) (c .before .before .before .before .before .before .before .before .before .before .before .pre .right) (c .before .before .before .before .if1 .taken) _ _ (least-is (c .before .before .before .least .ensures)) (c .before .before .slot-length .ensures) _ (c .before .differs .ensures) (c .if2 .left)
 
 returns-2 : tie.Need-returns-2 Inv-loop μ-loop
 returns-2 c = fitting-end _ _ _ _ _ _ (c .before .before .loop .inv) (c .if1 .left)
@@ -86,7 +86,7 @@ lengths-fit-spec =
     cast-left
     mul-left
     loop-holds
-    lesser-requires
+    least-requires
     slot-length-requires
     differs-requires
     returns
