@@ -1,7 +1,7 @@
 -- Hand out of a place in column order, case by case, in the order of its refusals: 9, 15, 23, 22, 31, 32, 24, 26.
 -- Assumes nothing.
 use mathlib.Core.Path.{_≡_, refl, sym, ap, _∙_}
-use mathlib.Core.Bool.{Bool, true, false, cond, not}
+use mathlib.Core.Bool.{true, false}
 use mathlib.Core.List.{List, _++_}
 use Prim.Native.Nat.{ℕ, _-_, _*_, _<_, _≤_}
 use native.Mathlib.Omega.{arith}
@@ -20,16 +20,16 @@ use Rattle.places.specs.declared.Place.{Place}
 use Rattle.places.specs.declared.Found.{Found}
 use Rattle.places.specs.declared.Found.the-variants.{At, Nothing}
 use Rattle.places.specs.Room.{lowestFrom}
-use Rattle.contents.specs.Contents.{Slot as Content, contents, anyWrong}
+use Rattle.contents.specs.Contents.{contents, anyWrong}
 use Rattle.standing.specs.Survey.{before}
 use Rattle.losses.specs.Losses.{lostIn, tabled}
 use Rattle.columns.specs.declared.judge.Judged.{Judged}
 use Rattle.columns.specs.Handing.{Handing, refusing, handed, allZero, handTables}
 use Rattle.columns.specs.Columns.{sentLength, lengthServes, misfits, lacks, uncoded, restored, handCoded, handFull, handShaped, handColumns, handColumnsOf}
-use Rattle.columns.specs.InnerJudge.{Serving, Shaped, isNothing, spoilt, Judges}
+use Rattle.columns.specs.InnerJudge.{Serving, Shaped, isNothing, Judges, handJudged}
 use Rattle.columns.specs.InnerWrite.{Writable}
 use Rattle.columns.proofs.Lowest.{found-below, none-passes, nothing-is}
-use Rattle.columns.proofs.LengthLaws.{Served, serves-known, tabled-known}
+use Rattle.columns.proofs.LengthLaws.{serves-known, tabled-known}
 use Rattle.columns.proofs.PaddingLaws.{padding-told}
 
 -- an answer and an output are those of h
@@ -82,8 +82,8 @@ module _ (p : Place) (s : List ℕ) (n : ℕ) (out : List ℕ) where
           pub shaped : Shaped p s n
           shaped = record { serving = served; shaped = none }
 
-          pub columns-shaped : handColumnsOf p s n out
-              ≡ handFull p (contents p s) n out (lowestFrom (lacks (p .rows) (p .slot) (contents p s)) 0 (p .rows * tablesOf (p .rows) n))
+          pub columns-shaped : handColumnsOf p s n out ≡ handJudged p s n out
+          unfolding handJudged
           columns-shaped = by-shape ∙ ap (handShaped p (contents p s) n out) none
 
 -- ---- by the rows
@@ -99,7 +99,8 @@ module _ (p : Place) (s : List ℕ) (n : ℕ) (out : List ℕ) (v : Shaped p s n
   abbrev uncodedOnes : Found
   uncodedOnes = lowestFrom (uncoded (p .rows) (p .slot) (contents p s)) 0 (p .rows * tablesOf (p .rows) n)
 
-  pub full-lost : j .lacks < p .rows * tablesOf (p .rows) n → Comes (handFull p (contents p s) n out lacking) (Refused (Lost (j .lacks))) out
+  pub full-lost : j .lacks < p .rows * tablesOf (p .rows) n → Comes (handJudged p s n out) (Refused (Lost (j .lacks))) out
+  unfolding handJudged
   full-lost h = comes (refusing (Lost (j .lacks)) out) (by lacking (g .lacking))
     where
       by : (o : Found) → j .lacks ≡ before o (p .rows * tablesOf (p .rows) n) → handFull p (contents p s) n out o ≡ refusing (Lost (j .lacks)) out
@@ -117,10 +118,11 @@ module _ (p : Place) (s : List ℕ) (n : ℕ) (out : List ℕ) (v : Shaped p s n
     all : j .lacks ≡ p .rows * tablesOf (p .rows) n
     all = g .lacking ∙ ap (λ (o : Found). before o (p .rows * tablesOf (p .rows) n)) none-lacks
 
-    by-code : handFull p (contents p s) n out lacking ≡ handCoded p (contents p s) n out uncodedOnes
+    by-code : handJudged p s n out ≡ handCoded p (contents p s) n out uncodedOnes
+    unfolding handJudged
     by-code = ap (handFull p (contents p s) n out) none-lacks
 
-    pub full-code : j .coded ≡ false → Comes (handFull p (contents p s) n out lacking) (Refused Code) out
+    pub full-code : j .coded ≡ false → Comes (handJudged p s n out) (Refused Code) out
     full-code e = comes (refusing Code out) (by-code ∙ by uncodedOnes (sym (g .coded all) ∙ e))
       where
         by : (o : Found) → isNothing o ≡ false → handCoded p (contents p s) n out o ≡ refusing Code out
@@ -134,20 +136,20 @@ module _ (p : Place) (s : List ℕ) (n : ℕ) (out : List ℕ) (v : Shaped p s n
       abbrev sent : List ℕ
       sent = restored (p .rows) (p .slot) (contents p s) (sentLength (p .rows) n)
 
-      by-padding : handFull p (contents p s) n out lacking ≡ handTables 1 (p .rows) sent n out
+      by-padding : handJudged p s n out ≡ handTables 1 (p .rows) sent n out
       by-padding = by-code ∙ ap (handCoded p (contents p s) n out) (nothing-is uncodedOnes none-uncoded)
 
       zeros : allZero (undone 1 (p .rows) sent (239 * p .rows * tablesOf (p .rows) n - n) n) ≡ j .clear
       zeros = sym (g .clear all ∙ padding-told (p .rows) (v .serving .place .rows) (p .slot) (contents p s) n (tablesOf (p .rows) n))
 
-      pub full-padding : j .clear ≡ false → Comes (handFull p (contents p s) n out lacking) (Refused Refusal.Padding) out
+      pub full-padding : j .clear ≡ false → Comes (handJudged p s n out) (Refused Refusal.Padding) out
       unfolding handTables
       full-padding e =
           let z : allZero (undone 1 (p .rows) sent (239 * p .rows * tablesOf (p .rows) n - n) n) ≡ false = zeros ∙ e in
           comes (refusing Refusal.Padding out) (by-padding ∙ rw z refl)
 
       module _ (e : j .clear ≡ true) where
-        by-room : handFull p (contents p s) n out lacking ≡ handed (undone 1 (p .rows) sent n 0) out
+        by-room : handJudged p s n out ≡ handed (undone 1 (p .rows) sent n 0) out
         unfolding handTables
         by-room =
             let z : allZero (undone 1 (p .rows) sent (239 * p .rows * tablesOf (p .rows) n - n) n) ≡ true = zeros ∙ e in
@@ -156,12 +158,12 @@ module _ (p : Place) (s : List ℕ) (n : ℕ) (out : List ℕ) (v : Shaped p s n
         size : length (undone 1 (p .rows) sent n 0) ≡ n
         size = length-listed (readBack 1 (p .rows) sent) n 0
 
-        pub full-output : length out < n → Comes (handFull p (contents p s) n out lacking) (Refused Output) out
+        pub full-output : length out < n → Comes (handJudged p s n out) (Refused Output) out
         full-output l =
             let b : ltb (length out) (length (undone 1 (p .rows) sent n 0)) ≡ true = ap (ltb (length out)) size ∙ lt-ltb (length out) n l in
             comes (refusing Output out) (by-room ∙ rw b refl)
 
-        pub full-file : n ≤ length out → (z : List ℕ) → z ≡ undone 1 (p .rows) sent n 0 ++ drop n out → Comes (handFull p (contents p s) n out lacking) Accepted z
+        pub full-file : n ≤ length out → (z : List ℕ) → z ≡ undone 1 (p .rows) sent n 0 ++ drop n out → Comes (handJudged p s n out) Accepted z
         full-file l z q =
             let b : ltb (length out) (length (undone 1 (p .rows) sent n 0)) ≡ false = ap (ltb (length out)) size ∙ le-ltb (length out) n l in
             comes-from {g = record { answer = Accepted; output = undone 1 (p .rows) sent n 0 ++ drop (length (undone 1 (p .rows) sent n 0)) out }} (by-room ∙ rw b refl)

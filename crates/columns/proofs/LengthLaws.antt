@@ -4,33 +4,30 @@ use mathlib.Core.Path.{_≡_, refl, sym, ap, ap₂, _∙_}
 use mathlib.Core.Logic.{⊎-elim}
 use mathlib.Core.Bool.{Bool, true, false, not, _&&_}
 use mathlib.Core.List.{List}
-use Prim.Native.Nat.{ℕ, suc, _+_, _-_, _*_, _/_, _^_, _<_, _≤_, min}
-use native.Mathlib.Nat.{suc-mul, mul-assoc, mul-comm, mul-pos, zero-lt-suc}
+use Prim.Native.Nat.{ℕ, suc, _+_, _-_, _*_, _^_, _<_, _≤_, min}
+use native.Mathlib.Nat.{suc-mul, mul-assoc}
 use native.Mathlib.Omega.{arith}
-use borrow.Author.Tests.{le-leb, lt-leb, leb-true, eq-eqb, ne-eqb, eqb-true, eqb-false}
+use borrow.Author.Tests.{le-leb, lt-leb, leb-true, eq-eqb, ne-eqb, eqb-true}
 use lib.Dec.{eqb, leb}
-use lib.ListN.{length, getD}
+use lib.ListN.{length}
 use Rattle.ground.specs.Lists.{ceil}
-use Rattle.ground.proofs.Listed.{ceil-short}
 use Rattle.ground.proofs.Numbers.{lt-or-ge}
-use Rattle.ground.proofs.Truth.{differ, and-both}
+use Rattle.ground.proofs.Truth.{and-both}
 use Rattle.layout.specs.Layout.{tablesOf}
 use Rattle.places.specs.declared.Place.{Place}
 use Rattle.places.specs.declared.Found.{Found}
-use Rattle.places.specs.declared.Found.the-variants.{At}
-use Rattle.places.specs.Places.{endOf}
 use Rattle.places.specs.Room.{lowestFrom}
 use Rattle.contents.specs.Slots.{lengthAt}
-use Rattle.contents.specs.Contents.{Slot as Content, wrong, holding, bytesAt, slotAt, lengthFits, slotOf, contents, anyWrong}
+use Rattle.contents.specs.Contents.{Slot as Content, slotAt, lengthFits, contents, anyWrong}
 use Rattle.contents.proofs.Bytes.{length-bytes}
 use Rattle.contents.proofs.Slots.{slot-holds, slot-wrong}
 use Rattle.contents.proofs.Filled.{wrong-none}
 use Rattle.contents.proofs.Places.{length-contents, reading-slots}
-use Rattle.standing.proofs.StandLaws.{Stands, stands-first, stands-next, stands-room}
+use Rattle.standing.proofs.StandLaws.{Stands, stands-first, stands-next}
 use Rattle.losses.specs.Losses.{payloadOf, payloadAt, tabled}
 use Rattle.losses.proofs.Tabling.{tabled-facts}
 use Rattle.columns.specs.Columns.{sentLength, lengthServes, misfits}
-use Rattle.columns.specs.InnerJudge.{Tabled, Serving, isNothing}
+use Rattle.columns.specs.InnerJudge.{Tabled, isNothing}
 use Rattle.columns.proofs.Lowest.{lowestLeft, left-first, left-end, left-here, left-next}
 use Rattle.columns.proofs.Standings.{rows-few as rows-short}
 

@@ -7,7 +7,7 @@ use Prim.Native.Nat.{ℕ, _+_, _-_, _*_, _/_, _%_, _<_, _≤_}
 use native.Mathlib.Nat.{mul-comm, mod-lt, div-add-mod', div-lt-iff-lt-mul, zero-lt-suc}
 use native.Mathlib.Omega.{arith}
 use lib.Arith.{digits-lt, digits-div, digits-mod}
-use lib.ListN.{length, getD}
+use lib.ListN.{getD}
 use Rattle.ground.proofs.Listed.{length-listed, getD-listed, getD-listed-0}
 use Rattle.ground.proofs.Truth.{differ, not-no}
 use Rattle.layout.specs.Layout.{Spot, fileByteAt, spotOf, sentByteAt, sentSpot, readBack, undone}

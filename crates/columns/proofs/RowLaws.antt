@@ -1,15 +1,14 @@
 -- A row of a place in column order: what came of it, and what is to be filled in, say what the definitions say of it.
 -- Assumes nothing.
 use mathlib.Core.Path.{_≡_, refl, sym, ap, ap₂, subst, _∙_}
-use mathlib.Core.Bool.{Bool, true, false, cond, not}
+use mathlib.Core.Bool.{Bool, true, false}
 use mathlib.Core.List.{List}
 use Prim.Native.Nat.{ℕ, _≤_, _<_}
-use native.Mathlib.Omega.{arith}
 use borrow.Author.Tests.{lt-ltb, le-ltb}
 use lib.ListN.{length}
 use Rattle.ground.proofs.Listed.{length-listed}
 use Rattle.code.specs.Code.{Bytes}
-use Rattle.code.specs.Search.{Repaired, remainder}
+use Rattle.code.specs.Search.{remainder}
 use Rattle.code.specs.Search.Repaired.{found, none}
 use Rattle.code.specs.Restore.{lostOf, restoreOf}
 use Rattle.code.proofs.Division.{length-remainder, remainder-bytes}
@@ -24,7 +23,7 @@ use Rattle.losses.specs.declared.Came.{Came}
 use Rattle.losses.specs.Losses.{cameAt, sentAt, rowCame, lostIn, lostPlaces, tabled, cameOf}
 use Rattle.losses.proofs.Tabling.{came-row, came-lost, came-places}
 use Rattle.columns.specs.Handing.{allZero}
-use Rattle.columns.specs.Columns.{lacks, rowRestored, isNone, uncoded, rowIn}
+use Rattle.columns.specs.Columns.{lacks, rowRestored, uncoded}
 use Rattle.columns.specs.InnerJudge.{beyondIn, spoilt, faultOf}
 use Rattle.columns.proofs.Gone.{length-places, places-fall, among-lost}
 

@@ -18,8 +18,8 @@ use Rattle.contents.specs.Contents.{Slot as Content, contents, anyWrong}
 use Rattle.standing.specs.Survey.{before}
 use Rattle.losses.specs.Losses.{tabled}
 use Rattle.columns.specs.declared.judge.Judged.{Judged}
-use Rattle.columns.specs.Handing.{allZero}
-use Rattle.columns.specs.Columns.{sentLength, lengthServes, misfits, lacks, uncoded, rowRestored, rowIn}
+use Rattle.columns.specs.Handing.{Handing, allZero}
+use Rattle.columns.specs.Columns.{sentLength, lengthServes, misfits, lacks, uncoded, rowRestored, rowIn, handFull}
 
 -- ---- what is known of a place before each step
 
@@ -72,3 +72,7 @@ pub record Judges (m size : ℕ) (c : List Content) (n rows : ℕ) (j : Judged) 
   pub lacking : j .lacks ≡ before (lowestFrom (lacks m size c) 0 rows) rows
   pub coded : j .lacks ≡ rows → j .coded ≡ isNothing (lowestFrom (uncoded m size c) 0 rows)
   pub clear : j .lacks ≡ rows → j .clear ≡ isNothing (lowestFrom (spoilt m size c n) 0 rows)
+
+-- Hand out where no length is wrong
+unfoldable pub handJudged : Place → List ℕ → ℕ → List ℕ → Handing
+handJudged p s n out = handFull p (contents p s) n out (lowestFrom (lacks (p .rows) (p .slot) (contents p s)) 0 (p .rows * tablesOf (p .rows) n))

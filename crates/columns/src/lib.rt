@@ -1,12 +1,7 @@
 // The file that a place in column order holds: document 02, R-8, behind the refusals 9 and 10. Every refusal is ruled out before a byte is written; the store is only read.
 ghost use mathlib.Core.Path.{_≡_};
-ghost use Prim.Native.Nat.{_*_};
-ghost use lib.ListN.{length};
-ghost use Rattle.layout.specs.Layout.{tablesOf};
-ghost use Rattle.places.specs.Room.{lowestFrom};
-ghost use Rattle.contents.specs.Contents.{contents};
-ghost use Rattle.columns.specs.Columns.{lacks, handFull, handColumnsOf};
-ghost use Rattle.columns.specs.InnerJudge.{Shaped};
+ghost use Rattle.columns.specs.Columns.{handColumnsOf};
+ghost use Rattle.columns.specs.InnerJudge.{Shaped, handJudged};
 use places::Place;
 use refusals::Refusal;
 use refusals::Verdict;
@@ -41,8 +36,8 @@ pub fn hand_columns(p: Place, store: &[u8], n: usize, out: &mut [u8]) -> Verdict
 // The same where no length is wrong: what is left is judged row by row.
 fn hand_shaped(p: Place, store: &[u8], n: usize, out: &mut [u8]) -> Verdict
     requires { ⌜ Shaped p (now store) n ⌝ }
-    ensures { λ r. ⌜ (r ≡ handFull p (contents p (now (store .entry))) n (now (out .entry)) (lowestFrom (lacks (p .rows) (p .slot) (contents p (now (store .entry)))) 0 (p .rows * tablesOf (p .rows) n)) .answer)
-        × (now (out .exit) ≡ handFull p (contents p (now (store .entry))) n (now (out .entry)) (lowestFrom (lacks (p .rows) (p .slot) (contents p (now (store .entry)))) 0 (p .rows * tablesOf (p .rows) n)) .output) ⌝ }
+    ensures { λ r. ⌜ (r ≡ handJudged p (now (store .entry)) n (now (out .entry)) .answer)
+        × (now (out .exit) ≡ handJudged p (now (store .entry)) n (now (out .entry)) .output) ⌝ }
 {
     let rows = lengths::rows_of(p.rows, n);
     let judged = judge::judge(p, store, n, rows);

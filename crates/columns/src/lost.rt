@@ -1,6 +1,5 @@
 // The lost bytes of a file in column order, put in row by row: document 02, R-8. A row that lacks at most sixteen bytes has them back by the code. Private to the crate.
 ghost use mathlib.Core.Path.{_≡_};
-ghost use mathlib.Core.List.{List};
 ghost use Prim.Native.Nat.{ℕ, _+_, _-_, _*_, _≤_, _<_, _^_};
 ghost use lib.ListN.{length, getD};
 ghost use Rattle.code.specs.Search.{remainder};

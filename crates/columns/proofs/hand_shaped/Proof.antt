@@ -1,6 +1,6 @@
 -- What the pass over the rows found rules out the refusals 31, 32 and 24 in this order, and the room 26; then the file is written.
 -- Assumes nothing.
-use mathlib.Core.Path.{_≡_, sym, subst}
+use mathlib.Core.Path.{subst}
 use Prim.Native.Nat.{ℕ, _*_, _≤_}
 use native.Mathlib.Omega.{arith}
 use borrow.Author.Tests.{not-true, not-false}

@@ -1,6 +1,5 @@
 -- One slot a turn, to the first that is filled and has another length than it should. Invariant, `Fitting`: the walk stands at slot k, and those from there on say what all
 -- say. The measure is how many slots are left.
-use mathlib.Core.Path.{_≡_, sym, _∙_}
 use Prim.Native.Nat.{_+_, _-_, _≤_}
 use native.Mathlib.Omega.{arith}
 use borrow.Author.Count.{falls}
