@@ -72,8 +72,12 @@ module _ (g : Settings) (file : List ℕ) (p : Protected g file) (o : g .order �
     few-lost : (q : ℕ) → q < g .rows * tablesOf (g .rows) (length file)
         → lostOf (lostIn (g .rows) (g .size) (contents (own g file p i start) (x .store)) q) 255 ≤ 16
     few-lost q l =
-        omega (arith, few q l, lost-fewer (lostIn (g .rows) (g .size) (contents (own g file p i start) (x .store)) q) (λ k. gone (sentAt (g .rows) q k / g .size)) 255
-        (λ k h e. empty-gone (sentAt (g .rows) q k / g .size) (sent-slot g file p q k l h) e))
+        omega (
+          arith,
+          few q l,
+          lost-fewer (lostIn (g .rows) (g .size) (contents (own g file p i start) (x .store)) q) (λ k. gone (sentAt (g .rows) q k / g .size)) 255
+              (λ k h e. empty-gone (sentAt (g .rows) q k / g .size) (sent-slot g file p q k l h) e),
+        )
 
     pub recovered : HandsOut step g file x
     unfolding step

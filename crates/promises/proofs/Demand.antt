@@ -264,7 +264,6 @@ module _ (g : Settings) (file : List ℕ) (p : Protected g file) (i start : ℕ)
 
   -- when every packet is there
   module _ (x : State) (c : Collecting x) (all : (k : ℕ) → k < countOf g (length file) → Has k x) where
-
     hands : HandsOut step g file x
     unfolding step
     hands out room =

@@ -48,8 +48,8 @@ use Rattle.pack.proofs.Laws.{fieldsOf, packet-edition}
 use Rattle.sealing.specs.Sealing.{agrees}
 use Rattle.record.specs.Offer.{Offering, storing, putInto, put, refuse, judgeMended, judgeBy, offerJudged, offerBy}
 use Rattle.promises.specs.Wrong.{firstRowOnly, mendingFirst, hushed, silent}
-use Rattle.promises.proofs.Judged.{not-different, copy-reads}
-use Rattle.promises.proofs.Demand.{Collecting, opened-collecting}
+use Rattle.promises.proofs.Judged.{not-different}
+use Rattle.promises.proofs.Demand.{Collecting, copy-reads-there, opened-collecting}
 use Rattle.promises.proofs.Fresh.{takes, taken, opens}
 use Rattle.promises.proofs.Turned.{zero-row, wrong-row, wrong-bytes, zero-coded}
 
@@ -214,7 +214,7 @@ judged-first =
 
 offered-first : offerBy firstRowOnly held store altered ≡ offerJudged (placeOf two 1 0) store (cond (agrees altered body) (put 0 body 0) (refuse Crc))
 unfolding offerBy
-offered-first = rw (begun .sound, copy-reads two zeros protected 0 (omega arith) altered copy, begun .named, begun .place) (ap (offerJudged (placeOf two 1 0) store) judged-first)
+offered-first = rw (begun .sound, copy-reads-there two zeros protected 0 0 0 (omega arith) altered copy _ begun, begun .named, begun .place) (ap (offerJudged (placeOf two 1 0) store) judged-first)
 
 -- what is handed out of a store, by what the slot holds
 handed-of : (t : List ℕ) (c : Content) → length t ≡ length store → contents (placeOf two 1 0) t ≡ c ∷ [] → (out : List ℕ)

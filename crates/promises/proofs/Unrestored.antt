@@ -18,7 +18,7 @@ use Rattle.code.specs.Search.{Repaired}
 use Rattle.code.specs.Search.Repaired.{found, none}
 use Rattle.code.specs.Repair.{repairOf, Near}
 use Rattle.code.specs.Restore.{lostOf}
-use Rattle.code.proofs.Exact.{repair-exact}
+use Rattle.code.proofs.Exact.{repair-near}
 use Rattle.code.proofs.Lists.{bytes-of}
 use Rattle.refusals.specs.Told.{acceptedWith}
 use Rattle.layout.specs.Layout.{tablesOf}
@@ -161,7 +161,7 @@ each-seven row d k l =
     ∙ sym (List·getD-append (fileIn 1 (row 1 16 (contents place (ended .store))) 16) (drop 16 output) 0 k (omega (arith, length-listed (λ i. getD (row 1 16 (contents place (ended .store)) (i / (239 * 1) * 1 + i % 1)) (i % (239 * 1) / 1) 0) 16 0)))
     ∙ ap (λ (x : List ℕ). getD x k 0) same ∙ sevens-at 16 k l
   where
-    sevens-at : (n k : ℕ) → k < n → getD (replicate n 7 ++ []) k 0 ≡ 7
+    sevens-at : (n k : ℕ) → k < n → getD (replicate {A = ℕ} n 7 ++ []) k 0 ≡ 7
     sevens-at zero k h = absurd (omega arith)
     sevens-at (suc n) zero h = refl
     sevens-at (suc n) (suc k) h = sevens-at n k (omega arith)

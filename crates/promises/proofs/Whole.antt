@@ -136,9 +136,12 @@ module _ (g : Settings) (file : List ℕ) (p : Protected g file) (c : List Conte
     -- where all came none is lost
     none-lost : (q : ℕ) → q < g .rows * tablesOf (g .rows) (length file) → lostOf (lostIn (g .rows) (g .size) c q) 255 ≤ 16
     none-lost q l =
-        omega (arith, lost-none (lostIn (g .rows) (g .size) c q) 255 (λ k h.
-        let s : sentAt (g .rows) q k / g .size < countOf g (length file) = sent-slot g file p q k l h in
-        ap (λ (x : Content). eqb (length (payloadOf x)) 0) (all _ s) ∙ ne-eqb (length (sentPart g file _)) 0 (λ z. omega (arith, payload-some g file (p .fit) _ s))))
+        omega (
+          arith,
+          lost-none (lostIn (g .rows) (g .size) c q) 255 (λ k h.
+              let s : sentAt (g .rows) q k / g .size < countOf g (length file) = sent-slot g file p q k l h in
+              ap (λ (x : Content). eqb (length (payloadOf x)) 0) (all _ s) ∙ ne-eqb (length (sentPart g file _)) 0 (λ z. omega (arith, payload-some g file (p .fit) _ s))),
+        )
 
     pub contents-handed : (start : ℕ) (out : List ℕ) → length file ≤ length out
         → handContents (placeOf g (countOf g (length file)) start) c (length file) out ≡ accepted file out
