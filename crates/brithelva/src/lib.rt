@@ -1,11 +1,12 @@
 // The library's C face: each function stands for one call of the crates below, with its answer as one number. include/brithelva.h documents it for C.
 ghost use mathlib.Core.Path.{_≡_};
+ghost use mathlib.Core.Bool.{true, false};
 ghost use lib.ListN.{length};
 ghost use Rattle.refusals.specs.Told.{verdictTold};
 ghost use Rattle.crc.specs.Crc.{crc32Of};
-ghost use Rattle.settings.specs.Settings.{meantEdition, house};
+ghost use Rattle.settings.specs.Settings.{meantEdition, meantOrder, house};
 ghost use Rattle.face.specs.Layout.{recordLength, recordBytes};
-ghost use Rattle.face.specs.Face.{answerOf, Says, Keeps, encodeSays, repairSays, readSays, packSays, openSays, offerSays, statusSays, handSays, closeSays};
+ghost use Rattle.face.specs.Face.{answerOf, Says, Keeps, encodeSays, repairSays, readingSays, readSays, packSays, openSays, offerSays, statusSays, handSays, closeSays};
 ghost use Rattle.listing.specs.Listing.{describeSays, composeSays};
 use attributes::Described;
 use opening::Kept;
@@ -50,15 +51,30 @@ pub extern "C" fn bh_repair_row(row: &[u8], fixed: &mut [u8]) -> u64
 // The fields of a packet as nine numbers and its edition, at the start of `fields`.
 #[no_mangle]
 pub extern "C" fn bh_read_fields(packet: &[u8], fields: &mut [u32]) -> u64
-    ensures { λ r. ⌜ Says (readSays (now (packet .entry)) (now (fields .entry))) r (now (fields .exit)) ⌝ }
+    ensures { λ r. ⌜ Says (readSays true (now (packet .entry)) (now (fields .entry))) r (now (fields .exit)) ⌝ }
 {
-    match packet::read_fields(packet) {
+    put_reading(packet::read_fields(packet), fields)
+}
+
+// The same without refusal 7, for packets of either order.
+#[no_mangle]
+pub extern "C" fn bh_read_header(packet: &[u8], fields: &mut [u32]) -> u64
+    ensures { λ r. ⌜ Says (readSays false (now (packet .entry)) (now (fields .entry))) r (now (fields .exit)) ⌝ }
+{
+    put_reading(packet::read_header(packet), fields)
+}
+
+// What was read, at the start of `fields`.
+fn put_reading(reading: Reading, fields: &mut [u32]) -> u64
+    ensures { λ r. ⌜ Says (readingSays reading (now (fields .entry))) r (now (fields .exit)) ⌝ }
+{
+    match reading {
         Reading::Sent(f) => face::put_fields(f, fields),
         Reading::Refused(r) => answers::refused(r),
     }
 }
 
-// Packet `number` of a file in an edition, at the start of `out`. The value is its length.
+// Packet `number` of a file in an edition and an order, at the start of `out`. The value is its length.
 #[no_mangle]
 pub extern "C" fn bh_pack_as(
     file: &[u8],
@@ -69,10 +85,11 @@ pub extern "C" fn bh_pack_as(
     rows: u8,
     size: u16,
     edition: u16,
+    order: u16,
     number: u32,
     out: &mut [u8],
 ) -> u64
-    ensures { λ r. ⌜ Says (packSays (now (file .entry)) (record { resource = resource; kind = kind; update = update; protection = protection; rows = rows; size = size; edition = edition }) number (now (out .entry))) r (now (out .exit)) ⌝ }
+    ensures { λ r. ⌜ Says (packSays (now (file .entry)) (record { resource = resource; kind = kind; update = update; protection = protection; rows = rows; size = size; edition = edition; order = order }) number (now (out .entry))) r (now (out .exit)) ⌝ }
 {
     let settings = Settings {
         resource,
@@ -82,12 +99,13 @@ pub extern "C" fn bh_pack_as(
         rows,
         size,
         edition,
+        order,
     };
     let packed = pack::pack(file, settings, number, out);
     answers::packed_as(packed)
 }
 
-// The same in the edition that is meant where none is named.
+// The same in the edition and the order that are meant where none is named.
 #[no_mangle]
 pub extern "C" fn bh_pack(
     file: &[u8],
@@ -100,7 +118,7 @@ pub extern "C" fn bh_pack(
     number: u32,
     out: &mut [u8],
 ) -> u64
-    ensures { λ r. ⌜ Says (packSays (now (file .entry)) (record { resource = resource; kind = kind; update = update; protection = protection; rows = rows; size = size; edition = meantEdition }) number (now (out .entry))) r (now (out .exit)) ⌝ }
+    ensures { λ r. ⌜ Says (packSays (now (file .entry)) (record { resource = resource; kind = kind; update = update; protection = protection; rows = rows; size = size; edition = meantEdition; order = meantOrder }) number (now (out .entry))) r (now (out .exit)) ⌝ }
 {
     bh_pack_as(
         file,
@@ -111,6 +129,7 @@ pub extern "C" fn bh_pack(
         rows,
         size,
         Settings::EDITION,
+        Settings::ORDER,
         number,
         out,
     )
@@ -143,7 +162,7 @@ fn put_kept(held: &mut [u8], kept: Kept) -> u64
     answers::verdict_of(verdict)
 }
 
-// Opens a place of the record in an edition: the record's bytes and the slots' lengths in the store change, or nothing does.
+// Opens a place of the record in an edition and an order: the record's bytes and the slots' lengths in the store change, or nothing does.
 #[no_mangle]
 pub extern "C" fn bh_open_as(
     held: &mut [u8],
@@ -156,8 +175,9 @@ pub extern "C" fn bh_open_as(
     rows: u8,
     slot: u16,
     edition: u16,
+    order: u16,
 ) -> u64
-    ensures { λ r. ⌜ Keeps (openSays (now (held .entry)) (now (store .entry)) (record { resource = resource; kind = kind; update = update; protection = protection; rows = rows; size = slot; edition = edition }) count) r (now (held .exit)) (now (store .exit)) ⌝ }
+    ensures { λ r. ⌜ Keeps (openSays (now (held .entry)) (now (store .entry)) (record { resource = resource; kind = kind; update = update; protection = protection; rows = rows; size = slot; edition = edition; order = order }) count) r (now (held .exit)) (now (store .exit)) ⌝ }
 {
     if held.len() != face::RECORD {
         return NO_RECORD;
@@ -170,12 +190,13 @@ pub extern "C" fn bh_open_as(
         rows,
         size: slot,
         edition,
+        order,
     };
     let kept = opening::open(face::record_in(held), store, settings, count);
     put_kept(held, kept)
 }
 
-// The same in the edition that is meant where none is named.
+// The same in the edition and the order that are meant where none is named.
 #[no_mangle]
 pub extern "C" fn bh_open(
     held: &mut [u8],
@@ -188,7 +209,7 @@ pub extern "C" fn bh_open(
     rows: u8,
     slot: u16,
 ) -> u64
-    ensures { λ r. ⌜ Keeps (openSays (now (held .entry)) (now (store .entry)) (record { resource = resource; kind = kind; update = update; protection = protection; rows = rows; size = slot; edition = meantEdition }) count) r (now (held .exit)) (now (store .exit)) ⌝ }
+    ensures { λ r. ⌜ Keeps (openSays (now (held .entry)) (now (store .entry)) (record { resource = resource; kind = kind; update = update; protection = protection; rows = rows; size = slot; edition = meantEdition; order = meantOrder }) count) r (now (held .exit)) (now (store .exit)) ⌝ }
 {
     bh_open_as(
         held,
@@ -201,6 +222,7 @@ pub extern "C" fn bh_open(
         rows,
         slot,
         Settings::EDITION,
+        Settings::ORDER,
     )
 }
 

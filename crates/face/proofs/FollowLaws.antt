@@ -42,6 +42,7 @@ facts-typed n p f = record {
   slot = omega (arith, f .slot-most);
   start = omega (arith, f .ends-limit, end-sum p);
   edition = ⊎-elim (λ e. omega arith) (λ e. omega arith) (f .edition-either);
+  order = omega (arith, f .order-most);
 }
 
 unused-typed : Typed unused
@@ -55,6 +56,7 @@ unused-typed = record {
   slot = omega arith;
   start = omega arith;
   edition = omega arith;
+  order = omega arith;
 }
 
 -- eight places whose fields fit
@@ -81,6 +83,7 @@ module _ (b : List ℕ) (bytes : Bytes b) where
     slot = two-short (at + 10);
     start = four-short (at + 12);
     edition = two-short (at + 16);
+    order = two-short (at + 18);
   }
 
   eight-in : Eight (recordIn b .places)

@@ -1,4 +1,4 @@
--- The record's bytes, there and back: the bytes of the record that 144 bytes hold are those bytes, and the record in a record's bytes is that record. Fewer bytes
+-- The record's bytes, there and back: the bytes of the record that 160 bytes hold are those bytes, and the record in a record's bytes is that record. Fewer bytes
 -- hold the record that they hold with zeros behind them.
 -- Assumes nothing.
 use mathlib.Core.Path.{_≡_, refl, sym, ap, ap₂, _∙_}
@@ -60,7 +60,7 @@ module _ (b : List ℕ) (bytes : Bytes b) where
   unfolding placeIn placeBytes
   place-back at h =
       (λ i. two-at at i ++ ((getD b (at + 2) 0 ∷ getD b (at + 3) 0 ∷ []) ++ (four-at (at + 4) i
-      ++ ((getD b (at + 8) 0 ∷ getD b (at + 9) 0 ∷ []) ++ (two-at (at + 10) i ++ (four-at (at + 12) i ++ two-at (at + 16) i))))))
+      ++ ((getD b (at + 8) 0 ∷ getD b (at + 9) 0 ∷ []) ++ (two-at (at + 10) i ++ (four-at (at + 12) i ++ (two-at (at + 16) i ++ two-at (at + 18) i)))))))
       ∙ (simp (add-assoc, add-zero)) ∙ listed-from b 0 placeLength at h
 
   pieces : (n i : ℕ) → (i + n) * placeLength ≤ length b → allBytes (listed (λ k. placeIn b (k * placeLength)) n i) ≡ flatten (listed (λ k. take placeLength (drop (k * placeLength) b)) n i)
@@ -86,6 +86,7 @@ pub record Typed (p : Place) : Type 0 where
   pub slot : p .slot < 65536
   pub start : p .start < 4294967296
   pub edition : p .edition < 65536
+  pub order : p .order < 65536
 
 two-again : (v : ℕ) → v < 65536 → v % 256 + v / 256 % 256 * 256 ≡ v
 two-again v h = omega arith
@@ -105,6 +106,7 @@ place-again p t = λ i. record {
   slot = two-again (p .slot) (t .slot) i;
   start = four-again (p .start) (t .start) i;
   edition = two-again (p .edition) (t .edition) i;
+  order = two-again (p .order) (t .order) i;
 }
 
 -- byte j of place k
@@ -140,6 +142,7 @@ module _ (l m : List ℕ) (at : ℕ) (same : (j : ℕ) → j < placeLength → g
     slot = two-same (at + 10) 10 refl (omega arith) i;
     start = four-same (at + 12) 12 refl (omega arith) i;
     edition = two-same (at + 16) 16 refl (omega arith) i;
+    order = two-same (at + 18) 18 refl (omega arith) i;
   }
 
 places-again : (ps : List Place) → ((k : ℕ) → k < length ps → Typed (getD ps k unused)) → listed (λ k. placeIn (allBytes ps) (k * placeLength)) (length ps) 0 ≡ ps
@@ -180,6 +183,7 @@ record-alike l m e =
             slot = t (k * placeLength + 10) i;
             start = f (k * placeLength + 12) i;
             edition = t (k * placeLength + 16) i;
+            order = t (k * placeLength + 18) i;
           })
           8 0;
     }

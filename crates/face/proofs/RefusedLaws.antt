@@ -16,7 +16,7 @@ use Rattle.refusals.specs.Told.{Told, refusedAs, verdictTold}
 use Rattle.encoding.specs.Encode.{encodeOf}
 use Rattle.single.specs.Single.{repairRowOf}
 use Rattle.settings.specs.declared.Settings.{Settings}
-use Rattle.packet.specs.Packet.{readOf}
+use Rattle.packet.specs.Packet.{readBy}
 use Rattle.packet.specs.Told.{readingTold}
 use Rattle.pack.specs.declared.Packed.{Packed}
 use Rattle.pack.specs.declared.Packed.the-variants.{Written}
@@ -94,9 +94,9 @@ unfolding repairSays
 repair-refused-keeps row out = valued-kept (repairRowOf row .count) (putsIf (verdictTold (repairRowOf row .verdict)) (repairRowOf row .row) out) out
     (put-if-kept (verdictTold (repairRowOf row .verdict)) (repairRowOf row .row) out)
 
-pub read-refused-keeps : (q out : List ℕ) → SaidKept (readSays q out) out
+pub read-refused-keeps : (rows : Bool) (q out : List ℕ) → SaidKept (readSays rows q out) out
 unfolding readSays
-read-refused-keeps q out = put-if-kept (readingTold (readOf q)) (readingTold (readOf q) .values) out
+read-refused-keeps rows q out = put-if-kept (readingTold (readBy rows q)) (readingTold (readBy rows q) .values) out
 
 -- ---- packing
 
@@ -172,7 +172,7 @@ pub refusals-change-nothing : RefusalsChangeNothing
 refusals-change-nothing = record {
   encode = λ info out. output-kept (encodeSays info out) out (encode-refused-keeps info out);
   repair = λ row out. output-kept (repairSays row out) out (repair-refused-keeps row out);
-  read = λ q out. output-kept (readSays q out) out (read-refused-keeps q out);
+  read = λ rows q out. output-kept (readSays rows q out) out (read-refused-keeps rows q out);
   pack = λ file g n out. output-kept (packSays file g n out) out (pack-refused-keeps file g n out);
   «open» = λ h s g count bytes. record-kept (openSays h s g count) h s (open-refused-keeps h s g count bytes);
   offer = λ h s q. record-kept (offerSays h s q) h s (offer-refused-keeps h s q);

@@ -1,7 +1,7 @@
 -- What a function of the face says, from what the call that it stands for says: rows and fields.
 -- Assumes nothing.
 use mathlib.Core.Path.{_≡_, refl, sym, ap, _∙_}
-use mathlib.Core.Bool.{true, false}
+use mathlib.Core.Bool.{Bool, true, false}
 use mathlib.Core.List.{List}
 use Prim.Native.Nat.{ℕ, _*_, _<_, _≤_}
 use native.Mathlib.Omega.{arith}
@@ -22,7 +22,7 @@ use Rattle.single.specs.Single.{repairRowOf}
 use Rattle.packet.specs.declared.Packet.{Packet}
 use Rattle.packet.specs.declared.Reading.{Reading}
 use Rattle.packet.specs.declared.Reading.the-variants.{Sent}
-use Rattle.packet.specs.Packet.{readOf}
+use Rattle.packet.specs.Packet.{readBy}
 use Rattle.refusals.specs.Told.{refusedAs, verdictTold}
 use Rattle.refusals.proofs.Told.{number-not-0}
 use Rattle.packet.specs.Told.{fieldList}
@@ -75,11 +75,15 @@ pub valued-refused : (v a : ℕ) → (a ≡ 0 → ⊥) → valued v a ≡ a
 unfolding valued
 valued-refused v a e = rw (ne-eqb a 0 e) refl
 
-module _ (q out : List ℕ) (r : ℕ) where
-  pub read-sent : (x : List ℕ) (f : Packet) → readOf q ≡ Sent f → Says (puts (fieldList f) out) r x → Says (readSays q out) r x
-  unfolding readSays putsIf
+-- what was read is put; a refusal is answered
+module _ (a : Reading) (out : List ℕ) (r : ℕ) where
+  pub read-sent : (x : List ℕ) (f : Packet) → a ≡ Sent f → Says (puts (fieldList f) out) r x → Says (readingSays a out) r x
+  unfolding putsIf
   read-sent x f e s = says-as (ap (λ (y : Reading). readingSays y out) (sym e)) s
 
-  pub read-refused : (z : Refusal) → readOf q ≡ Reading.Refused z → r ≡ answerOf (refusedAs z) → Says (readSays q out) r out
-  unfolding readSays
+  pub read-refused : (z : Refusal) → a ≡ Reading.Refused z → r ≡ answerOf (refusedAs z) → Says (readingSays a out) r out
   read-refused z e s = says-as (ap (λ (y : Reading). readingSays y out) (sym e)) (refused-puts z _ out r s)
+
+pub reads-as : (rows : Bool) (q out : List ℕ) (a : Reading) (r : ℕ) (x : List ℕ) → a ≡ readBy rows q → Says (readingSays a out) r x → Says (readSays rows q out) r x
+unfolding readSays
+reads-as rows q out a r x e s = says-as (ap (λ (y : Reading). readingSays y out) e) s

@@ -1,7 +1,7 @@
 -- What each function of the C face answers and leaves: the call it stands for, and what that call tells (document 01, sections 5 and 6; document 02, R-7 and R-9) as one number.
--- A record of another length than 144 bytes is refused 9. Assumes nothing.
+-- A record of another length than 160 bytes is refused 9. Assumes nothing.
 use mathlib.Core.Path.{_≡_}
-use mathlib.Core.Bool.{cond}
+use mathlib.Core.Bool.{Bool, cond}
 use mathlib.Core.List.{List, [], _∷_, _++_}
 use Prim.Native.Nat.{ℕ, _+_, _*_}
 use lib.Dec.{eqb, ltb}
@@ -13,7 +13,7 @@ use Rattle.encoding.specs.Encode.{encodeOf}
 use Rattle.single.specs.Single.{repairRowOf}
 use Rattle.packet.specs.declared.Reading.{Reading}
 use Rattle.settings.specs.declared.Settings.{Settings}
-use Rattle.packet.specs.Packet.{readOf}
+use Rattle.packet.specs.Packet.{readBy}
 use Rattle.packet.specs.Told.{readingTold}
 use Rattle.pack.specs.Pack.{packOf}
 use Rattle.pack.specs.Told.{packedTold}
@@ -71,13 +71,13 @@ encodeSays info out = putsIf (verdictTold (encodeOf info .verdict)) (encodeOf in
 unfoldable pub repairSays : List ℕ → List ℕ → Said
 repairSays row out = withValue (repairRowOf row .count) (putsIf (verdictTold (repairRowOf row .verdict)) (repairRowOf row .row) out)
 
--- ---- fields: 1 to 8, 26; the values that reading tells are put, nine numbers in the table's order and the edition
+-- ---- fields: 1 to 8, 7 only where rows are judged, 26; the values that reading tells are put, nine numbers in the table's order and the edition
 
 abbrev pub readingSays : Reading → List ℕ → Said
 readingSays x out = putsIf (readingTold x) (readingTold x .values) out
 
-unfoldable pub readSays : List ℕ → List ℕ → Said
-readSays q out = readingSays (readOf q) out
+unfoldable pub readSays : Bool → List ℕ → List ℕ → Said
+readSays rows q out = readingSays (readBy rows q) out
 
 -- ---- packing: the value is the packet's length
 

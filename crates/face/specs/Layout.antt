@@ -1,4 +1,4 @@
--- The record as 144 bytes: eight places of eighteen, each number little-endian, in the order resource, type, update, count, protection, rows, slot, start, edition.
+-- The record as 160 bytes: eight places of twenty, each number little-endian, in the order resource, type, update, count, protection, rows, slot, start, edition, order.
 -- Assumes nothing.
 use mathlib.Core.List.{List, [], _∷_, _++_}
 use Prim.Native.Nat.{ℕ, _+_, _*_, _/_, _%_}
@@ -9,7 +9,7 @@ use Rattle.places.specs.declared.Record.{Record}
 
 -- the bytes of a place, and of the eight
 abbrev pub placeLength : ℕ
-placeLength = 18
+placeLength = 20
 
 abbrev pub recordLength : ℕ
 recordLength = 8 * placeLength
@@ -32,6 +32,7 @@ placeIn b at = record {
   slot = two b (at + 10);
   start = four b (at + 12);
   edition = two b (at + 16);
+  order = two b (at + 18);
 }
 
 -- the record that bytes hold
@@ -48,7 +49,7 @@ asFour v = asTwo v ++ asTwo (v / 65536)
 unfoldable pub placeBytes : Place → List ℕ
 placeBytes p =
     asTwo (p .resource) ++ ((p .kind) ∷ (p .update) ∷ []) ++ asFour (p .count)
-    ++ ((p .protection) ∷ (p .rows) ∷ []) ++ asTwo (p .slot) ++ asFour (p .start) ++ asTwo (p .edition)
+    ++ ((p .protection) ∷ (p .rows) ∷ []) ++ asTwo (p .slot) ++ asFour (p .start) ++ asTwo (p .edition) ++ asTwo (p .order)
 
 abbrev pub allBytes : List Place → List ℕ
 allBytes [] = []

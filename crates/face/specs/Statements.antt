@@ -1,6 +1,7 @@
 -- What a user of the face may rely on beside each contract: a refusal changes nothing (document 01, section 6), and the bytes of a record carry it from call to call.
 -- proofs/RefusedLaws.antt and FollowLaws.antt show it.
 -- Assumes nothing.
+use mathlib.Core.Bool.{Bool}
 use mathlib.Core.Path.{_≡_}
 use mathlib.Core.List.{List}
 use Prim.Native.Nat.{ℕ, _%_}
@@ -28,7 +29,7 @@ RecordKept p h s = (r : ℕ) (held store : List ℕ) → Keeps p r held store �
 pub record RefusalsChangeNothing : Type 0 where
   pub encode : (info out : List ℕ) → OutputKept (encodeSays info out) out
   pub repair : (row out : List ℕ) → OutputKept (repairSays row out) out
-  pub read : (q out : List ℕ) → OutputKept (readSays q out) out
+  pub read : (rows : Bool) (q out : List ℕ) → OutputKept (readSays rows q out) out
   pub pack : (file : List ℕ) (g : Settings) (n : ℕ) (out : List ℕ) → OutputKept (packSays file g n out) out
   pub «open» : (h s : List ℕ) (g : Settings) (count : ℕ) → Bytes h → RecordKept (openSays h s g count) h s
   pub offer : (h s q : List ℕ) → RecordKept (offerSays h s q) h s

@@ -1,4 +1,4 @@
-// What the C face reads and writes of lent memory: the record as 144 bytes (specs/Layout.antt), bytes and fields put at the start of an output. Beside this code the
+// What the C face reads and writes of lent memory: the record as 160 bytes (specs/Layout.antt), bytes and fields put at the start of an output. Beside this code the
 // crate has what each function of the C face answers and leaves (specs/Face.antt), and the laws of it (proofs/).
 ghost use mathlib.Core.Path.{_≡_};
 ghost use Prim.Native.Nat.{_+_, _*_, _≤_};
@@ -11,9 +11,9 @@ use places::Place;
 use places::Record;
 
 // The bytes of a place, and of a record's eight.
-const PLACE: usize = 18;
+const PLACE: usize = 20;
 
-pub const RECORD: usize = 144;
+pub const RECORD: usize = 160;
 
 // The number of a low and a high byte.
 fn joined(low: u8, high: u8) -> u16
@@ -53,6 +53,7 @@ fn place_in(bytes: &[u8], at: usize) -> Place
         slot: two_in(bytes, at + 10),
         start: four_in(bytes, at + 12),
         edition: two_in(bytes, at + 16),
+        order: two_in(bytes, at + 18),
     }
 }
 
@@ -75,7 +76,7 @@ fn places_in(bytes: &[u8]) -> Record
     }
 }
 
-// The record in the first 144 bytes. Where there are fewer, zeros stand for those behind them.
+// The record in the first 160 bytes. Where there are fewer, zeros stand for those behind them.
 pub fn record_in(bytes: &[u8]) -> Record
     ensures { λ r. ⌜ r ≡ recordIn (now (bytes .entry)) ⌝ }
 {
@@ -110,6 +111,8 @@ fn place_bytes(p: Place) -> [u8; PLACE]
         (p.start / 65536 / 256 % 256) as u8,
         (p.edition % 256) as u8,
         (p.edition / 256 % 256) as u8,
+        (p.order % 256) as u8,
+        (p.order / 256 % 256) as u8,
     ]
 }
 

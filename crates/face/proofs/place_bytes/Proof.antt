@@ -47,6 +47,12 @@ cast-t37 c = omega arith
 cast-t40 : tie.Need-cast-t40
 cast-t40 c = omega arith
 
+cast-t42 : tie.Need-cast-t42
+cast-t42 c = omega arith
+
+cast-t45 : tie.Need-cast-t45
+cast-t45 c = omega arith
+
 returns : tie.Need-returns
 unfolding placeBytes
 returns c = refl
@@ -69,4 +75,6 @@ place-bytes-spec =
     cast-t35
     cast-t37
     cast-t40
+    cast-t42
+    cast-t45
     returns)

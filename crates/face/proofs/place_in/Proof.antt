@@ -55,9 +55,15 @@ add-two-in-2 c = omega arith
 two-in-requires-3 : tie.Need-two-in-requires-3
 two-in-requires-3 c κs = omega arith
 
+add-two-in-3 : tie.Need-add-two-in-3
+add-two-in-3 c = omega arith
+
+two-in-requires-4 : tie.Need-two-in-requires-4
+two-in-requires-4 c κs = omega arith
+
 returns : tie.Need-returns
 unfolding placeIn
-returns c = rw (c .before .before .before .before .before .before .before .before .two-in .ensures, c .before .before .before .before .before .four-in .ensures, c .before .before .two-in2 .ensures, c .before .four-in2 .ensures, c .two-in3 .ensures)
+returns c = rw (c .before .before .before .before .before .before .before .before .before .two-in .ensures, c .before .before .before .before .before .before .four-in .ensures, c .before .before .before .two-in2 .ensures, c .before .before .four-in2 .ensures, c .before .two-in3 .ensures, c .two-in4 .ensures)
 
 pub place-in-spec : {M : Type 1} → statement M
 place-in-spec =
@@ -80,4 +86,6 @@ place-in-spec =
     four-in-requires-2
     add-two-in-2
     two-in-requires-3
+    add-two-in-3
+    two-in-requires-4
     returns)
