@@ -49,10 +49,18 @@ fn put_numbers(numbers: &[u32], out: &mut [u8]) {
     }
 }
 
-// The fields, into as many of these numbers as word 1 says.
-fn read(line: &[u8], bytes: &[u8], fields: &mut [u32], out: &mut [u8]) -> u64 {
+// The fields of a packet, or those of a packet of either order.
+fn fields_of(command: u8, bytes: &[u8], fields: &mut [u32]) -> u64 {
+    if command == commands::READ {
+        return brithelva::bh_read_fields(bytes, fields);
+    }
+    brithelva::bh_read_header(bytes, fields)
+}
+
+// These, into as many of these numbers as word 1 says.
+fn read(command: u8, line: &[u8], bytes: &[u8], fields: &mut [u32], out: &mut [u8]) -> u64 {
     let room = memory::least(words::number(line, 1) as usize, fields.len());
-    let answer = brithelva::bh_read_fields(bytes, &mut fields[0..room]);
+    let answer = fields_of(command, bytes, &mut fields[0..room]);
     if answer == 0 {
         put_numbers(fields, out);
     }
@@ -82,7 +90,7 @@ fn compose(line: &[u8], file: &[u8], bytes: &[u8], out: &mut [u8]) -> u64 {
     brithelva::bh_write_description(&values[0..count], bytes, out)
 }
 
-// Packet number word 1 of the file, in the edition at hand.
+// Packet number word 1 of the file, in the edition and the order at hand.
 fn pack_as(line: &[u8], file: &[u8], s: Settings, out: &mut [u8]) -> u64 {
     brithelva::bh_pack_as(
         file,
@@ -93,12 +101,13 @@ fn pack_as(line: &[u8], file: &[u8], s: Settings, out: &mut [u8]) -> u64 {
         s.rows,
         s.size,
         s.edition,
+        s.order,
         words::number32(line, 1),
         out,
     )
 }
 
-// The same by the call that names no edition.
+// The same by the call that names neither.
 fn pack(line: &[u8], file: &[u8], s: Settings, out: &mut [u8]) -> u64 {
     brithelva::bh_pack(
         file,
@@ -131,9 +140,9 @@ fn call_plain(
     if command == commands::REPAIR {
         return brithelva::bh_repair_row(bytes, out);
     }
-    if command == commands::READ {
+    if command < commands::DESCRIBE {
         let mut fields = [0u32; 10];
-        return read(line, bytes, &mut fields, out);
+        return read(command, line, bytes, &mut fields, out);
     }
     if command == commands::DESCRIBE {
         return describe(line, bytes, out);
@@ -151,7 +160,7 @@ fn call_plain(
     brithelva::bh_pack_house(file, s.resource, s.kind, s.update, n, out)
 }
 
-// Opens with the count in word 1, in the edition at hand.
+// Opens with the count in word 1, in the edition and the order at hand.
 fn open_as(line: &[u8], held: &mut [u8], store: &mut [u8], s: Settings) -> u64 {
     brithelva::bh_open_as(
         held,
@@ -164,10 +173,11 @@ fn open_as(line: &[u8], held: &mut [u8], store: &mut [u8], s: Settings) -> u64 {
         s.rows,
         s.size,
         s.edition,
+        s.order,
     )
 }
 
-// The same by the call that names no edition.
+// The same by the call that names neither.
 fn open(line: &[u8], held: &mut [u8], store: &mut [u8], s: Settings) -> u64 {
     brithelva::bh_open(
         held,

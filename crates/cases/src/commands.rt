@@ -51,50 +51,54 @@ pub(crate) const SETTINGS: u8 = 23;
 
 pub(crate) const EDITION: u8 = 24;
 
-pub(crate) const SHOW_HELD: u8 = 25;
+pub(crate) const ORDER: u8 = 25;
 
-pub(crate) const SHOW_STORE: u8 = 26;
+pub(crate) const SHOW_HELD: u8 = 26;
 
-pub(crate) const CRC: u8 = 27;
+pub(crate) const SHOW_STORE: u8 = 27;
 
-pub(crate) const ENCODE: u8 = 28;
+pub(crate) const CRC: u8 = 28;
 
-pub(crate) const REPAIR: u8 = 29;
+pub(crate) const ENCODE: u8 = 29;
 
-pub(crate) const READ: u8 = 30;
+pub(crate) const REPAIR: u8 = 30;
 
-pub(crate) const DESCRIBE: u8 = 31;
+pub(crate) const READ: u8 = 31;
 
-pub(crate) const COMPOSE: u8 = 32;
+pub(crate) const READ_HEADER: u8 = 32;
 
-pub(crate) const PACK: u8 = 33;
+pub(crate) const DESCRIBE: u8 = 33;
 
-pub(crate) const PACK_AS: u8 = 34;
+pub(crate) const COMPOSE: u8 = 34;
 
-pub(crate) const PACK_HOUSE: u8 = 35;
+pub(crate) const PACK: u8 = 35;
 
-pub(crate) const OPEN: u8 = 36;
+pub(crate) const PACK_AS: u8 = 36;
 
-pub(crate) const OPEN_AS: u8 = 37;
+pub(crate) const PACK_HOUSE: u8 = 37;
 
-pub(crate) const OPEN_HOUSE: u8 = 38;
+pub(crate) const OPEN: u8 = 38;
 
-pub(crate) const OFFER: u8 = 39;
+pub(crate) const OPEN_AS: u8 = 39;
 
-pub(crate) const STATUS: u8 = 40;
+pub(crate) const OPEN_HOUSE: u8 = 40;
 
-pub(crate) const HAND: u8 = 41;
+pub(crate) const OFFER: u8 = 41;
 
-pub(crate) const CLOSE: u8 = 42;
+pub(crate) const STATUS: u8 = 42;
 
-pub(crate) const SEND: u8 = 43;
+pub(crate) const HAND: u8 = 43;
 
-pub(crate) const CASE: u8 = 44;
+pub(crate) const CLOSE: u8 = 44;
+
+pub(crate) const SEND: u8 = 45;
+
+pub(crate) const CASE: u8 = 46;
 
 // The command that a line names; a number above all of these if it names none.
 pub(crate) fn command_of(line: &[u8]) -> u8 {
     words::order(
         words::word(line, 0),
-        b"file file-put value bytes random fill put flip cut grow take append seal damage line insert drop swap out store poke held place settings edition show-held show-store crc encode repair read describe compose pack pack-as pack-house open open-as open-house offer status hand close send case",
+        b"file file-put value bytes random fill put flip cut grow take append seal damage line insert drop swap out store poke held place settings edition order show-held show-store crc encode repair read read-header describe compose pack pack-as pack-house open open-as open-house offer status hand close send case",
     )
 }

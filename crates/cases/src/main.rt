@@ -24,7 +24,7 @@ struct State {
     tally: Tally,
 }
 
-// What is at hand at the start: nothing, and edition 2.
+// What is at hand at the start: nothing, and edition 2 in row order.
 fn start() -> State {
     State {
         lengths: Lengths {
@@ -42,6 +42,7 @@ fn start() -> State {
             rows: 0,
             size: 0,
             edition: 2,
+            order: 0,
         },
         answer: Answer {
             number: 0,

@@ -75,13 +75,14 @@ pub(crate) fn set_store(command: u8, line: &[u8], store: &mut [u8], length: usiz
     length
 }
 
-// The eighteen bytes of a place.
-fn place(line: &[u8]) -> [u8; 18] {
+// The twenty bytes of a place.
+fn place(line: &[u8]) -> [u8; 20] {
     let count = memory::four(words::number32(line, 5));
     let start = memory::four(words::number32(line, 9));
     let resource = words::number16(line, 2);
     let slot = words::number16(line, 8);
     let edition = words::number16(line, 10);
+    let order = words::number16(line, 11);
     [
         (resource % 256) as u8,
         (resource / 256) as u8,
@@ -101,6 +102,8 @@ fn place(line: &[u8]) -> [u8; 18] {
         start[0],
         (edition % 256) as u8,
         (edition / 256) as u8,
+        (order % 256) as u8,
+        (order / 256) as u8,
     ]
 }
 
@@ -114,7 +117,7 @@ pub(crate) fn set_held(command: u8, line: &[u8], held: &mut [u8], length: usize)
         let end = memory::fit(length, held);
         let i = words::number(line, 1);
         if i < 8 {
-            let at = i as usize * 18;
+            let at = i as usize * 20;
             if at < end {
                 memory::copy(&place(line), &mut held[at..end]);
             }
@@ -245,11 +248,17 @@ pub(crate) fn set_settings(command: u8, line: &[u8], settings: Settings) -> Sett
             rows: words::number8(line, 5),
             size: words::number16(line, 6),
             edition: settings.edition,
+            order: settings.order,
         };
     }
     if command == commands::EDITION {
         let mut next = settings;
         next.edition = words::number16(line, 1);
+        return next;
+    }
+    if command == commands::ORDER {
+        let mut next = settings;
+        next.order = words::number16(line, 1);
         return next;
     }
     settings

@@ -56,6 +56,7 @@ fn take_turn(
         s.rows,
         s.size,
         s.edition,
+        s.order,
         number,
         &mut room,
     );

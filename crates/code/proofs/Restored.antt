@@ -1,4 +1,4 @@
--- Restoring is exact (document 01, section 3, and request R-8): the search meets every list of 255 bytes, so it finds a coded row that has the known bytes if there is one; two such
+-- Restoring is exact (document 01, section 3; document 02, R-8): the search meets every list of 255 bytes, so it finds a coded row that has the known bytes if there is one; two such
 -- rows differ at lost bytes only, at most sixteen, and are one (`coded-unique`).
 -- Assumes nothing.
 use mathlib.Core.Path.{_≡_, refl, sym, ap, ap₂, subst, _∙_}

@@ -1,4 +1,4 @@
--- A row of which some bytes are known to be lost: document 01, section 3, and request R-8. Contracts cite `restoreOf`; `RestoreIsExact` and `OnlyOne` say what it is, in terms of
+-- A row of which some bytes are known to be lost: document 01, section 3; document 02, R-8. Contracts cite `restoreOf`; `RestoreIsExact` and `OnlyOne` say what it is, in terms of
 -- `Coded` alone, and are proved (proofs/Restored.antt). How it is made, nobody has to read. Assumes nothing.
 use mathlib.Core.Path.{_≡_}
 use mathlib.Core.Bool.{Bool, true, false, cond}

@@ -1,4 +1,4 @@
--- What is to be added to a row at given places, whose bytes are lost, so that it becomes a coded row: document 01, section 3, and request R-8. It is the same for all rows that
+-- What is to be added to a row at given places, whose bytes are lost, so that it becomes a coded row: document 01, section 3; document 02, R-8. It is the same for all rows that
 -- leave the same when the generator divides them (`filling-found`, `filling-none`, proofs/Filled.antt). A place is told by its exponent a: byte 254 - a of a row is the coefficient
 -- of x^a. Assumes nothing.
 use mathlib.Core.Bool.{Bool, true, false, cond, _&&_, _||_}

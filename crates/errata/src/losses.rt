@@ -1,4 +1,4 @@
-// What is to be added at given places of a row, whose bytes are lost, so that it becomes a coded row (document 01, section 3, and request R-8), by what the row leaves
+// What is to be added at given places of a row, whose bytes are lost, so that it becomes a coded row (document 01, section 3; document 02, R-8), by what the row leaves
 // when the generator divides it.
 ghost use mathlib.Core.Path.{_≡_};
 ghost use Prim.Native.Nat.{_≤_};

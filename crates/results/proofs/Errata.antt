@@ -7,3 +7,6 @@ use Rattle.errata.proofs as errata
 
 pub find-one : OneResult errata.find.ended errata.find.Reads.Learnt
 find-one κs a r s d e p q = (equation p q, refl)
+
+pub fill-one : OneResult errata.fill.ended errata.fill.Reads.Learnt
+fill-one κs a r s d e p q = (equation p q, refl)

@@ -31,8 +31,11 @@ bh-repair-row-one κs a r s d e p q = (equation (p .answers) (q .answers), after
 pub bh-read-fields-one : OneResult brithelva.bh_read_fields.ended brithelva.bh_read_fields.Reads.Learnt
 bh-read-fields-one κs a r s d e p q = (equation (p .answers) (q .answers), after 1 (lent (equation (p .leaves) (q .leaves)) refl))
 
+pub bh-read-header-one : OneResult brithelva.bh_read_header.ended brithelva.bh_read_header.Reads.Learnt
+bh-read-header-one κs a r s d e p q = (equation (p .answers) (q .answers), after 1 (lent (equation (p .leaves) (q .leaves)) refl))
+
 pub bh-pack-as-one : OneResult brithelva.bh_pack_as.ended brithelva.bh_pack_as.Reads.Learnt
-bh-pack-as-one κs a r s d e p q = (equation (p .answers) (q .answers), after 9 (lent (equation (p .leaves) (q .leaves)) refl))
+bh-pack-as-one κs a r s d e p q = (equation (p .answers) (q .answers), after 10 (lent (equation (p .leaves) (q .leaves)) refl))
 
 pub bh-pack-one : OneResult brithelva.bh_pack.ended brithelva.bh_pack.Reads.Learnt
 bh-pack-one κs a r s d e p q = (equation (p .answers) (q .answers), after 8 (lent (equation (p .leaves) (q .leaves)) refl))

@@ -7,6 +7,7 @@ pub mod Crc
 pub mod Roots
 pub mod Encoding
 pub mod Filling
+pub mod Laying
 pub mod Terms
 pub mod Errata
 pub mod Repair
@@ -21,6 +22,8 @@ pub mod Contents
 pub mod Opening
 pub mod Record
 pub mod Standing
+pub mod Losses
+pub mod Columns
 pub mod Handing
 pub mod Readout
 pub mod Descriptions

@@ -8,6 +8,9 @@ use Rattle.packet.proofs as packet
 pub read-fields-one : OneResult packet.read_fields.ended packet.read_fields.Reads.Learnt
 read-fields-one κs a r s d e p q = (equation p q, refl)
 
+pub read-header-one : OneResult packet.read_header.ended packet.read_header.Reads.Learnt
+read-header-one κs a r s d e p q = (equation p q, refl)
+
 pub header-one : OneResult packet.header.ended packet.header.Reads.Learnt
 header-one κs a r s d e p q = (equation p q, refl)
 

@@ -5,6 +5,9 @@ use Rattle.ground.proofs.OneResult.{equation}
 use Rattle.results.specs.OneResult.{OneResult}
 use Rattle.settings.proofs as settings
 
+pub row-wise-one : OneResult settings.row_wise.ended settings.row_wise.Reads.Learnt
+row-wise-one κs a r s d e p q = (equation p q, refl)
+
 pub size-fits-one : OneResult settings.size_fits.ended settings.size_fits.Reads.Learnt
 size-fits-one κs a r s d e p q = (equation p q, refl)
 
