@@ -3,7 +3,7 @@
 -- Assumes nothing.
 use mathlib.Core.Path.{_≡_, refl, sym, ap, ap₂, subst, _∙_}
 use mathlib.Core.Logic.{⊎-elim}
-use mathlib.Core.Bool.{Bool, true, false, cond}
+use mathlib.Core.Bool.{Bool, true, false, cond, _||_}
 use mathlib.Core.List.{List, [], append-nil}
 use Prim.Native.Nat.{ℕ, zero, suc, _≤_, _<_}
 use native.Mathlib.Nat.{le-refl, le-trans, le-suc, not-suc-le-zero}
@@ -12,11 +12,11 @@ use lib.Dec.{eqb}
 use lib.ListN.{length, getD}
 use borrow.Author.Tests.{eqb-true, eq-eqb}
 use Rattle.ground.proofs.Numbers.{below-suc}
-use Rattle.ground.proofs.Truth.{differ}
+use Rattle.ground.proofs.Truth.{differ, neither}
 use Rattle.code.specs.Code.{Bytes, Coded, distance}
 use Rattle.code.specs.Search.{Repaired, remainder, allZero, seek}
 use Rattle.code.specs.Search.Repaired.{found, none}
-use Rattle.code.specs.Restore.{Fits, lostOf, hasKnown, isFit, restoreOf, RestoreIsExact, OnlyOne}
+use Rattle.code.specs.Restore.{Fits, lostOf, hasKnown, isFit, restoreOf, RestoreIsExact, OnlyOne, WrongIsFound}
 use Rattle.code.proofs.Lists.{zeros}
 use Rattle.code.proofs.Division.{length-remainder, coded-remainder, remainder-coded}
 use Rattle.code.proofs.Distance.{coded-unique}
@@ -144,3 +144,13 @@ pub restore-same : (lost lost' : ℕ → Bool) (r r' : List ℕ) → ((c : ℕ) 
 unfolding restoreOf isFit
 restore-same lost lost' r r' e k =
     λ i. seek 255 [] (λ s. cond (known-same lost lost' r r' s 255 e k i) (allZero (remainder 239 s)) false)
+
+-- ---- wrong bytes
+
+pub wrong-is-found : WrongIsFound
+wrong-is-found lost wrong r s coded few agrees c l known wrong-there =
+    restore-none lost r (λ t f.
+    let same : t ≡ s = only-one (λ k. lost k || wrong k) s t s few
+        (record { coded = f .coded; known = λ k h e. f .known k h (neither (lost k) (wrong k) e .0) ∙ agrees k h e })
+        (record { coded = coded; known = λ k h e. refl }) in
+    wrong-there (sym (f .known c l known) ∙ ap (λ (x : List ℕ). getD x c 0) same))

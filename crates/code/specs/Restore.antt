@@ -1,7 +1,7 @@
--- A row of which some bytes are known to be lost: document 01, section 3; document 02, R-8. Contracts cite `restoreOf`; `RestoreIsExact` and `OnlyOne` say what it is, in terms of
+-- A row of which some bytes are known to be lost: document 01, section 3; document 02, R-8. Contracts cite `restoreOf`; `RestoreIsExact`, `OnlyOne` and `WrongIsFound` say what it is, in terms of
 -- `Coded` alone, and are proved (proofs/Restored.antt). How it is made, nobody has to read. Assumes nothing.
 use mathlib.Core.Path.{_≡_}
-use mathlib.Core.Bool.{Bool, true, false, cond}
+use mathlib.Core.Bool.{Bool, true, false, cond, _||_}
 use mathlib.Core.List.{List, []}
 use Prim.Native.Nat.{ℕ, zero, suc, _≤_, _<_}
 use lib.Dec.{eqb}
@@ -47,3 +47,11 @@ RestoreIsExact = Restoring restoreOf
 -- at most sixteen lost bytes leave one row at most
 abbrev pub OnlyOne : Type 0
 OnlyOne = (lost : ℕ → Bool) (r s s' : List ℕ) → lostOf lost 255 ≤ 16 → Fits lost r s → Fits lost r s' → s ≡ s'
+
+-- wrong bytes among the known ones of a coded row s are found, where they and the losses are at most sixteen: then no coded row has the known bytes. So one wrong byte is found beside
+-- fifteen losses
+abbrev pub WrongIsFound : Type 0
+WrongIsFound =
+    (lost wrong : ℕ → Bool) (r s : List ℕ) → Coded s → lostOf (λ c. lost c || wrong c) 255 ≤ 16
+    → ((c : ℕ) → c < 255 → (lost c || wrong c) ≡ false → getD r c 0 ≡ getD s c 0)
+    → (c : ℕ) → c < 255 → lost c ≡ false → (getD r c 0 ≡ getD s c 0 → ⊥) → restoreOf lost r ≡ none
