@@ -151,6 +151,6 @@ pub wrong-is-found : WrongIsFound
 wrong-is-found lost wrong r s coded few agrees c l known wrong-there =
     restore-none lost r (λ t f.
     let same : t ≡ s = only-one (λ k. lost k || wrong k) s t s few
-        (record { coded = f .coded; known = λ k h e. f .known k h (neither (lost k) (wrong k) e .0) ∙ agrees k h e })
-        (record { coded = coded; known = λ k h e. refl }) in
+    (record { coded = f .coded; known = λ k h e. f .known k h (neither (lost k) (wrong k) e .0) ∙ agrees k h e })
+    (record { coded = coded; known = λ k h e. refl }) in
     wrong-there (sym (f .known c l known) ∙ ap (λ (x : List ℕ). getD x c 0) same))
