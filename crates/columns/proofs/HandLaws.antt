@@ -36,7 +36,7 @@ use Rattle.columns.proofs.PaddingLaws.{padding-told}
 abbrev pub Comes : Handing → Verdict → List ℕ → Type 0
 Comes h answer output = (answer ≡ h .answer) × (output ≡ h .output)
 
-comes : {h : Handing} (g : Handing) → h ≡ g → Comes h (g .answer) (g .output)
+pub comes : {h : Handing} (g : Handing) → h ≡ g → Comes h (g .answer) (g .output)
 comes g e = (ap (λ (x : Handing). x .answer) (sym e), ap (λ (x : Handing). x .output) (sym e))
 
 -- the same from another

@@ -1,18 +1,18 @@
 -- Slots that hold parts of the coded tables of a file in column order, or nothing, with no row short of more than sixteen bytes: every row is restored as it was sent, and the file
 -- is handed out (document 02, R-8). Assumes nothing.
-use mathlib.Core.Path.{_≡_, refl, sym, ap, ap₂, subst, _∙_}
+use mathlib.Core.Path.{_≡_, refl, sym, ap, ap₂, _∙_}
 use mathlib.Core.Logic.{_⊎_, inl, inr}
 use mathlib.Core.Bool.{Bool, true, false, not, _&&_, true≢false}
 use mathlib.Core.List.{List, []}
 use Prim.Native.Nat.{ℕ, zero, suc, _+_, _-_, _*_, _/_, _%_, _<_, _≤_, min}
-use native.Mathlib.Nat.{mul-comm, mul-assoc, mul-pos, mod-lt, div-add-mod', div-lt-iff-lt-mul, zero-lt-suc}
+use native.Mathlib.Nat.{mul-comm, mod-lt, div-add-mod', div-lt-iff-lt-mul, zero-lt-suc}
 use native.Mathlib.Omega.{arith}
-use borrow.Author.Tests.{le-leb, le-ltb, eq-eqb, eqb-true, eqb-false}
+use borrow.Author.Tests.{le-leb, le-ltb, eq-eqb}
 use lib.Arith.{digits-lt, digits-div, digits-mod}
 use lib.Dec.{eqb}
 use lib.ListN.{length, getD, take, drop, length-take, length-drop}
 use lib.Seq.{getD-take, getD-drop}
-use Rattle.ground.specs.Lists.{listed, ceil}
+use Rattle.ground.specs.Lists.{ceil}
 use Rattle.ground.proofs.Listed.{getD-listed-0, listed-ext, ceil-upper}
 use Rattle.code.specs.Code.{Bytes}
 use Rattle.code.specs.Search.{Repaired}
@@ -27,7 +27,7 @@ use Rattle.places.specs.declared.Found.the-variants.{Nothing}
 use Rattle.places.specs.Room.{lowestFrom}
 use Rattle.contents.specs.Contents.{Slot as Content, wrong, holding}
 use Rattle.losses.specs.Losses.{payloadOf, payloadAt, cameAt, lostAt, sentAt, rowCame, lostIn}
-use Rattle.columns.specs.Columns.{sentLength, lengthServes, misfits, lacks, rowRestored, uncoded, isNone, rowIn, restored, handShaped, handColumns}
+use Rattle.columns.specs.Columns.{sentLength, lengthServes, misfits, lacks, rowRestored, uncoded, isNone, rowIn, restored, handColumns}
 use Rattle.columns.proofs.Handed.{accepted, tables-coded}
 
 and-not : (x : Bool) → (not x && false) ≡ false

@@ -118,9 +118,6 @@ module _ (m n : ℕ) (h : 0 < m) where
   pub base-few : (q : ℕ) → m ≤ 255 → q < m * tablesOf m n → q / m * (239 * m) + q % m < n + 255
   base-few q l b = let r : q % m < m = mod-lt q h in omega (arith, start-few q b)
 
-pub start-is : (m q : ℕ) → q / m * (239 * m) + q % m ≡ rowStart m q
-start-is m q = omega arith
-
 -- ---- bytes that follow one another in one slot
 
 module _ (m size n f left len : ℕ) (h : 0 < m) (g : 0 < size) (b : f < n) where

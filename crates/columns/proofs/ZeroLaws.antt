@@ -6,7 +6,7 @@ use mathlib.Core.Bool.{Bool, true, false, cond, _&&_}
 use mathlib.Core.List.{List, [], _∷_}
 use Prim.Native.Nat.{ℕ, zero, suc, _+_, _-_, _*_, _<_, _≤_}
 use native.Mathlib.Omega.{arith}
-use borrow.Author.Tests.{eq-eqb, ne-eqb, eqb-true, lt-ltb, le-ltb}
+use borrow.Author.Tests.{eq-eqb, ne-eqb, eqb-true, eqb-false, lt-ltb, le-ltb}
 use lib.Dec.{eqb, ltb}
 use lib.ListN.{length, getD}
 use Rattle.ground.proofs.Listed.{length-listed, getD-listed, getD-listed-0}
@@ -16,7 +16,8 @@ use Rattle.layout.specs.Spread.{rowStart}
 use Rattle.contents.specs.Contents.{bytesAt}
 use Rattle.contents.proofs.Bytes.{length-bytes}
 use Rattle.columns.specs.Handing.{allZero}
-use Rattle.columns.specs.InnerJudge.{Columns, beyondIn}
+use Rattle.columns.specs.InnerJudge.{beyondIn}
+use Rattle.layout.specs.Spread.{Columns}
 
 -- two tests that pass together
 pub both-ways : (a b : Bool) → (a ≡ true → b ≡ true) → (b ≡ true → a ≡ true) → a ≡ b
@@ -38,6 +39,27 @@ zero-all (x ∷ l) e i = by (zero-all l) (eqb x 0) refl e i
 pub all-zero : (l : List ℕ) → ((i : ℕ) → i < length l → getD l i 0 ≡ 0) → allZero l ≡ true
 all-zero [] h = refl
 all-zero (x ∷ l) h = rw (eq-eqb x 0 (h 0 (omega arith))) (all-zero l (λ i k. h (suc i) (omega arith)))
+
+pub one-not : (l : List ℕ) (i : ℕ) → (getD l i 0 ≡ 0 → ⊥) → allZero l ≡ false
+one-not l i h = by (allZero l) refl
+  where
+    by : (b : Bool) → allZero l ≡ b → b ≡ false
+    by true e = absurd (h (zero-all l e i))
+    by false e = refl
+
+-- where it lies
+pub record Another (l : List ℕ) : Type 0 where
+  pub number : ℕ
+  pub below : number < length l
+  pub other : getD l number 0 ≡ 0 → ⊥
+
+pub not-zero : (l : List ℕ) → allZero l ≡ false → Another l
+not-zero [] e = differ e
+not-zero (x ∷ l) e = by (not-zero l) (eqb x 0) refl e
+  where
+    by : (allZero l ≡ false → Another l) → (b : Bool) → eqb x 0 ≡ b → (b && allZero l) ≡ false → Another (x ∷ l)
+    by later true t e = let a = later e in record { number = suc (a .number); below = omega (arith, a .below); other = a .other }
+    by later false t e = record { number = 0; below = omega arith; other = eqb-false x 0 t }
 
 -- ---- the loop over the bytes from from to to: those from i on say what all say
 

@@ -3,7 +3,7 @@
 use mathlib.Core.Path.{_≡_}
 use mathlib.Core.Bool.{Bool, true, false, cond, not}
 use mathlib.Core.List.{List}
-use Prim.Native.Nat.{ℕ, _+_, _*_, _≤_, _<_}
+use Prim.Native.Nat.{ℕ, _+_, _*_, _≤_}
 use lib.Dec.{ltb}
 use lib.ListN.{length, getD}
 use Rattle.ground.specs.Lists.{listed}
@@ -48,12 +48,6 @@ pub record Shaped (p : Place) (s : List ℕ) (n : ℕ) : Type 0 where
 abbrev pub isNothing : Found → Bool
 isNothing (At k) = false
 isNothing Nothing = true
-
--- of the bytes at p, p + m, .., 239 of them, the first k stand below n and the others do not
-pub record Columns (m n p k : ℕ) : Type 0 where
-  pub within : k ≤ 239
-  pub inside : (c : ℕ) → c < k → p + c * m < n
-  pub outside : (c : ℕ) → k ≤ c → c < 239 → n ≤ p + c * m
 
 -- the information bytes of row q that stand beyond n bytes of the file, and 0 for each of the others
 unfoldable pub beyondIn : ℕ → ℕ → ℕ → List ℕ → List ℕ

@@ -1,11 +1,11 @@
 -- Hand out, case by case, in the order of its refusals: 9, 10, 15, 21, 22, 23, 24, 26. Assumes nothing.
 use mathlib.Core.Path.{_≡_, refl, sym, ap, _∙_}
-use mathlib.Core.Bool.{Bool, true, false, true≢false, not, _&&_, _||_}
+use mathlib.Core.Bool.{Bool, true, false, true≢false, not, _||_}
 use mathlib.Core.List.{List, _++_}
-use Prim.Native.Nat.{ℕ, zero, suc, _-_, _*_, _/_, _%_, _<_, _≤_}
+use Prim.Native.Nat.{ℕ, _-_, _*_, _/_, _%_, _<_, _≤_}
 use native.Mathlib.Nat.{mul-comm, div-add-mod', div-div-eq-div-mul}
 use native.Mathlib.Omega.{arith}
-use borrow.Author.Tests.{lt-ltb, le-ltb, lt-leb, le-leb, leb-true, eq-eqb, ne-eqb, eqb-true, eqb-false}
+use borrow.Author.Tests.{lt-leb, le-leb, leb-true, eq-eqb, ne-eqb, eqb-true, eqb-false}
 use lib.Dec.{eqb, leb}
 use lib.ListN.{length, getD, drop}
 use Rattle.ground.proofs.Listed.{length-listed}
@@ -13,7 +13,6 @@ use Rattle.ground.proofs.Truth.{and-both}
 use Rattle.settings.proofs.Laws.{by-one}
 use Rattle.refusals.specs.declared.Refusal.{Refusal}
 use Rattle.refusals.specs.declared.Refusal.the-variants.{Unknown, Slot, Missing, Shape, Size, Output}
-use Rattle.refusals.specs.declared.Verdict.{Verdict}
 use Rattle.refusals.specs.declared.Verdict.the-variants.{Accepted, Refused}
 use Rattle.layout.specs.Layout.{tablesOf, readBack, undone}
 use Rattle.layout.specs.Spread.{scattered}
@@ -26,23 +25,13 @@ use Rattle.places.specs.Places.{Name, unused, endOf, good, placeNamed}
 use Rattle.places.proofs.Facts.{PlaceFacts, named-facts}
 use Rattle.contents.specs.Contents.{Slot as Content, contents, anyWrong, lowestEmpty, joined}
 use Rattle.losses.specs.Losses.{tabled}
-use Rattle.columns.specs.Handing.{Handing, refusing, handed, allZero, handTables}
+use Rattle.columns.specs.Handing.{refusing, handed, allZero, handTables}
 use Rattle.columns.specs.Columns.{handColumnsOf}
 use Rattle.columns.proofs.Handed.{handed-short, handed-whole, tabled-made}
+use Rattle.columns.proofs.HandLaws.{Comes, comes, comes-from}
 use Rattle.handing.specs.Hand.{handRows, handJoined, handContents, usableIn, handPlaceOf, handFound, handOutOf}
 use Rattle.handing.specs.Passes.{infoAt, infoIn, Padding, Usable}
 use Rattle.handing.proofs.PaddingLaws.{padding-told}
-
--- an answer and an output are those of h
-abbrev pub Comes : Handing → Verdict → List ℕ → Type 0
-Comes h answer output = (answer ≡ h .answer) × (output ≡ h .output)
-
-pub comes : {h : Handing} (g : Handing) → h ≡ g → Comes h (g .answer) (g .output)
-comes g e = (ap (λ (x : Handing). x .answer) (sym e), ap (λ (x : Handing). x .output) (sym e))
-
--- the same from another
-pub comes-from : {h g : Handing} {answer : Verdict} {output : List ℕ} → h ≡ g → Comes g answer output → Comes h answer output
-comes-from e c = (c .0 ∙ ap (λ (x : Handing). x .answer) (sym e), c .1 ∙ ap (λ (x : Handing). x .output) (sym e))
 
 -- ---- without protection
 

@@ -1,21 +1,20 @@
 -- What Hand out promises: document 01, section 5. Of slots that all hold the payloads of a file the file is handed out, with and without protection; a refusal
 -- changes nothing; nothing is seen of the store but the contents of the place. Assumes nothing.
 use mathlib.Core.Path.{_≡_, refl, sym, ap, ap₂, _∙_}
-use mathlib.Core.Bool.{Bool, true, false, cond, not}
-use mathlib.Core.List.{List, _++_}
-use Prim.Native.Nat.{ℕ, zero, suc, _-_, _*_, _/_, _%_, _<_, _≤_}
+use mathlib.Core.Bool.{false, cond, not}
+use mathlib.Core.List.{List}
+use Prim.Native.Nat.{ℕ, _-_, _*_, _/_, _%_, _<_, _≤_}
 use native.Mathlib.Nat.{mul-assoc, mul-pos, mul-div-cancel-left, mul-mod-right, zero-lt-suc}
 use native.Mathlib.Omega.{arith}
 use borrow.Author.Tests.{eq-eqb}
-use lib.Dec.{eqb, ltb}
-use lib.ListN.{length, getD, take, drop, replicate}
+use lib.Dec.{eqb}
+use lib.ListN.{length, getD, take, drop}
 use Rattle.ground.specs.Lists.{listed}
-use Rattle.ground.proofs.Listed.{length-listed}
 use Rattle.refusals.specs.declared.Refusal.{Refusal}
-use Rattle.refusals.specs.declared.Refusal.the-variants.{Unknown, Slot, Missing, Shape, Size, Padding, Output}
-use Rattle.refusals.specs.declared.Verdict.the-variants.{Accepted, Refused}
-use Rattle.layout.specs.Layout.{tablesOf, readBack, undone, codedFile}
-use Rattle.layout.proofs.Coded.{length-coded, tables-reach, undone-file, undone-padding}
+use Rattle.refusals.specs.declared.Refusal.the-variants.{Unknown, Slot, Missing, Shape, Size}
+use Rattle.refusals.specs.declared.Verdict.the-variants.{Refused}
+use Rattle.layout.specs.Layout.{tablesOf, codedFile}
+use Rattle.layout.proofs.Coded.{length-coded}
 use Rattle.places.specs.declared.Place.{Place}
 use Rattle.places.specs.declared.Record.{Record}
 use Rattle.places.specs.declared.Found.{Found}

@@ -14,7 +14,7 @@ use Rattle.layout.specs.Spread.{rowStart}
 use Rattle.layout.proofs.Places.{file-rule, table-below, byte-below}
 use Rattle.columns.specs.Handing.{allZero}
 use Rattle.handing.specs.Passes.{Padding, clear, spoilt}
-use Rattle.handing.proofs.TableLaws.{all-zero, one-not}
+use Rattle.columns.proofs.ZeroLaws.{all-zero, one-not}
 
 module _ (m : ℕ) (h : 0 < m) (sent : List ℕ) (n t : ℕ) where
   -- byte c of row q

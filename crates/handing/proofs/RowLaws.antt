@@ -14,8 +14,9 @@ use Rattle.layout.proofs.Scatter.{length-spread}
 use Rattle.contents.specs.Contents.{bytesAt}
 use Rattle.contents.proofs.Bytes.{length-bytes}
 use Rattle.columns.specs.Handing.{allZero}
-use Rattle.handing.specs.Passes.{Columns, infoAt, Scatters, Clear, Padding, clear, spoilt}
-use Rattle.handing.proofs.TableLaws.{zero-all, Another, not-zero}
+use Rattle.handing.specs.Passes.{infoAt, Scatters, Clear, Padding, clear, spoilt}
+use Rattle.layout.specs.Spread.{Columns}
+use Rattle.columns.proofs.ZeroLaws.{zero-all, Another, not-zero}
 
 -- ---- rows that are written: j of them
 

@@ -20,12 +20,6 @@ infoAt s at = listed (λ c. getD s (at + c) 0) 239 0
 abbrev pub infoIn : List ℕ → ℕ → List ℕ
 infoIn sent q = infoAt sent (q * 255)
 
--- of the bytes at p, p + m, .., 239 of them, the first k stand below n and the others do not
-pub record Columns (m n p k : ℕ) : Type 0 where
-  pub within : k ≤ 239
-  pub inside : (c : ℕ) → c < k → p + c * m < n
-  pub outside : (c : ℕ) → k ≤ c → c < 239 → n ≤ p + c * m
-
 -- count rows from at on lie in a store of that length, as do as many bytes as all rows up to them have, the first being row q of tables of m rows
 pub record RowsAt (m size at count q : ℕ) : Type 0 where
   pub some : 0 < m

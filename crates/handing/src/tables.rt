@@ -7,7 +7,8 @@ ghost use Rattle.layout.specs.Layout.{tablesOf};
 ghost use Rattle.layout.specs.Spread.{spread, rowStart};
 ghost use Rattle.contents.specs.Contents.{bytesAt};
 ghost use Rattle.columns.specs.Handing.{allZero};
-ghost use Rattle.handing.specs.Passes.{Columns, RowsAt, infoAt, Scatters, Padding};
+ghost use Rattle.handing.specs.Passes.{RowsAt, infoAt, Scatters, Padding};
+ghost use Rattle.layout.specs.Spread.{Columns};
 
 // Whether a file of `n` bytes needs `count` tables of `m` rows.
 pub(crate) fn needs_tables(n: usize, m: usize, count: usize) -> bool

@@ -2,3 +2,4 @@ pub mod Places
 pub mod Coded
 pub mod Scatter
 pub mod Cases
+pub mod Spans

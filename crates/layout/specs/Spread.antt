@@ -2,7 +2,7 @@
 -- Nobody needs to believe it: `scattered-all` (proofs/Scatter.antt) says that it gives the tables undone. Assumes nothing.
 use mathlib.Core.Bool.{cond}
 use mathlib.Core.List.{List, [], _∷_}
-use Prim.Native.Nat.{ℕ, zero, suc, _+_, _/_, _%_}
+use Prim.Native.Nat.{ℕ, zero, suc, _+_, _*_, _/_, _%_, _<_, _≤_}
 use lib.Dec.{ltb}
 use lib.ListN.{set}
 use Rattle.layout.specs.Layout.{fileByteAt}
@@ -24,3 +24,9 @@ rowStart m q = fileByteAt m (record { table = q / m; row = q % m; column = 0 })
 abbrev pub scattered : ℕ → ℕ → (ℕ → List ℕ) → ℕ → List ℕ → List ℕ
 scattered m n row zero out = out
 scattered m n row (suc k) out = spread m n (row k) (rowStart m k) (scattered m n row k out)
+
+-- of the bytes at p, p + m, .., 239 of them, the first k stand below n and the others do not
+pub record Columns (m n p k : ℕ) : Type 0 where
+  pub within : k ≤ 239
+  pub inside : (c : ℕ) → c < k → p + c * m < n
+  pub outside : (c : ℕ) → k ≤ c → c < 239 → n ≤ p + c * m

@@ -4,14 +4,14 @@ use mathlib.Core.Path.{_≡_, refl, sym, ap, ap₂, subst, _∙_}
 use mathlib.Core.Bool.{Bool, true, false, cond, not, true≢false}
 use mathlib.Core.List.{List, _++_, append-assoc, flatten}
 use Prim.Native.Nat.{ℕ, _+_, _-_, _*_, _/_, _%_, _^_, _<_, _≤_, min}
-use native.Mathlib.Nat.{add-mul, one-mul, mul-assoc, mul-comm, mul-left-comm, mul-pos, zero-lt-suc, div-div-eq-div-mul, div-add-mod', mod-lt, mod-eq-of-lt, div-lt-iff-lt-mul}
+use native.Mathlib.Nat.{add-mul, one-mul, mul-assoc, mul-left-comm, mul-pos, zero-lt-suc, div-div-eq-div-mul, div-add-mod', mod-lt, mod-eq-of-lt, div-lt-iff-lt-mul}
 use native.Mathlib.Omega.{arith}
 use borrow.Author.Tests.{eq-eqb, ne-eqb, eqb-false, not-true}
 use lib.Dec.{eqb}
 use lib.ListN.{length, getD, take, drop, length-append, length-take, length-drop, take-append-drop}
 use lib.Seq.{take-at, drop-at, drop-drop, getD-append-add}
 use Rattle.ground.specs.Lists.{listed}
-use Rattle.ground.proofs.Listed.{part-of-front, joined-all, ceil-upper, ceil-short, ceil-below, ceil-lower}
+use Rattle.ground.proofs.Listed.{part-of-front, joined-all, ceil-upper, ceil-below, ceil-lower}
 use Rattle.code.specs.Code.{Bytes, Coded}
 use Rattle.code.proofs.Lists.{bytes-of, bytes-parts, append-bytes}
 use Rattle.crc.specs.Crc.{crc32Of}

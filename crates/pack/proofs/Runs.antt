@@ -1,17 +1,14 @@
 -- Rows of the coded file, written run by run: rows that follow each other are written one run behind the other, and what a run writes is what `put_rows` gives.
 -- Assumes nothing.
 use mathlib.Core.Path.{_≡_, sym, ap, _∙_}
-use mathlib.Core.Bool.{Bool}
 use mathlib.Core.List.{List, _++_, flatten}
 use Prim.Native.Nat.{ℕ, _+_, _-_, _*_, _/_, _%_, _<_, _≤_}
-use native.Mathlib.Nat.{add-zero, mul-assoc, mul-comm, add-mul, mul-pos, mul-le-mul-right, zero-lt-suc, mod-lt, le-div-iff-mul-le, div-lt-iff-lt-mul}
+use native.Mathlib.Nat.{add-zero, mul-assoc, mul-comm, add-mul, mul-pos, zero-lt-suc, mod-lt, div-lt-iff-lt-mul}
 use native.Mathlib.Omega.{arith}
 use borrow.Author.Tests.{le-leb}
 use borrow.Rule.Slice.PartMut.{putMid}
-use lib.Dec.{T, leb, leb→le}
 use lib.ListN.{length, take, drop, length-take, length-drop}
 use lib.Seq.{sets, take-add, drop-drop}
-use Rattle.ground.proofs.Sweep.{all, below}
 use Rattle.ground.proofs.Listed.{listed-same, ceil-below}
 use Rattle.ground.proofs.Writing.{sets-append, lent-sets}
 use Rattle.refusals.specs.declared.Verdict.the-variants.{Accepted}

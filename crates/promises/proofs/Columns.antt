@@ -1,40 +1,35 @@
 -- Demand 3 in column order (document 02, R-8): a slot that is empty at the end is one whose packet was never offered, so no row lacks more than sixteen bytes, and the file is handed
 -- out; and no second file fits the same offers. Assumes nothing.
 use mathlib.Core.Path.{_≡_, refl, sym, ap, ap₂, _∙_}
-use mathlib.Core.Logic.{_⊎_, inl, inr, ⊎-elim}
-use mathlib.Core.Bool.{Bool, true, false, not, true≢false}
-use mathlib.Core.List.{List, [], _∷_, _++_}
+use mathlib.Core.Bool.{Bool, true, false, true≢false}
+use mathlib.Core.List.{List}
 use Prim.Native.Nat.{ℕ, zero, suc, _+_, _*_, _/_, _%_, _≤_, _<_}
 use native.Mathlib.Nat.{mul-comm, mod-lt, div-add-mod', zero-lt-suc}
 use native.Mathlib.Omega.{arith}
-use borrow.Author.Tests.{eqb-true, ne-eqb}
+use borrow.Author.Tests.{eqb-true}
 use lib.Arith.{digits-lt, digits-div, digits-mod}
 use lib.Dec.{eqb}
-use lib.ListN.{length, getD, take, drop}
+use lib.ListN.{length, getD, drop}
 use lib.Seq.{getD-take, getD-drop}
 use Rattle.ground.specs.Lists.{listed}
 use Rattle.ground.proofs.Listed.{getD-listed-0, listed-ext}
-use Rattle.ground.proofs.Truth.{differ}
-use Rattle.refusals.specs.Told.{acceptedWith, verdictTold}
-use Rattle.code.specs.Restore.{Fits, lostOf}
-use Rattle.code.proofs.Lost.{lost-more}
+use Rattle.refusals.specs.Told.{verdictTold}
+use Rattle.code.specs.Restore.{lostOf}
 use Rattle.code.proofs.Restored.{only-one}
 use Rattle.layout.specs.Layout.{Spot, tablesOf, sentByteAt, sentSpot, rowOf, codedAt, codedFile, undone}
 use Rattle.layout.proofs.Places.{sent-rule, table-below}
 use Rattle.layout.proofs.Coded.{row-coded, undone-file}
 use Rattle.settings.specs.declared.Settings.{Settings}
 use Rattle.settings.proofs.Laws.{settings-facts}
-use Rattle.pack.specs.Pack.{Packing, countOf, sentOf, payloadOf as sentPart, packetOf}
-use Rattle.pack.specs.Told.{packedTold}
+use Rattle.pack.specs.Pack.{countOf, sentOf, payloadOf as sentPart}
 use Rattle.pack.proofs.Laws.{rows-positive, sent-coded, payload-some}
-use Rattle.pack.proofs.Plans.{pack-accepts}
-use Rattle.contents.specs.Contents.{Slot as Content, wrong, holding, contents}
+use Rattle.contents.specs.Contents.{contents}
 use Rattle.contents.proofs.Places.{length-contents}
 use Rattle.losses.specs.Losses.{payloadOf, sentAt, lostIn}
 use Rattle.columns.specs.Handing.{Handing}
-use Rattle.promises.specs.Calls.{Call, Answer, State, step, run, fresh}
-use Rattle.promises.specs.Calls.Call.{opening, offering}
-use Rattle.promises.specs.Statements.{Protected, Carries, CarriesEnough, HandsOut, Demand3Columns, FromFreshColumns, NoSecondColumns}
+use Rattle.promises.specs.Calls.{Call, Answer, State, step, fresh}
+use Rattle.promises.specs.Calls.Call.{offering}
+use Rattle.promises.specs.Statements.{Protected, CarriesEnough, HandsOut, Demand3Columns, FromFreshColumns, NoSecondColumns}
 use Rattle.promises.proofs.Whole.{sent-total, sent-slot, contents-recovered}
 use Rattle.promises.proofs.Demand.{Collecting, Has, own, slot-in, fair-run, offered-run, handed, begun}
 use Rattle.promises.proofs.Fresh.{opens, packed}

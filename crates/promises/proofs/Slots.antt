@@ -8,7 +8,7 @@ use Prim.Native.Nat.{ℕ, _+_, _%_, _<_, _≤_}
 use native.Mathlib.Omega.{arith}
 use lib.Dec.{eqb}
 use lib.ListN.{length, getD, List·getD-eq-default}
-use Rattle.refusals.specs.declared.Refusal.the-variants.{Other, Slot, Conflict}
+use Rattle.refusals.specs.declared.Refusal.the-variants.{Slot, Conflict}
 use Rattle.refusals.specs.Told.{refusedAs}
 use Rattle.refusals.proofs.Told.{number-not-0}
 use Rattle.ground.proofs.Numbers.{lt-or-ge, same-or-not}

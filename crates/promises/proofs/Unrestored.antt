@@ -2,15 +2,12 @@
 -- file of sixteen bytes 7 in one row, sent in packets of sixteen bytes; the first packet, which is the file itself, never comes.
 -- Assumes nothing.
 use mathlib.Core.Path.{_≡_, refl, sym, ap, ap₂, subst, _∙_}
-use mathlib.Core.Logic.{_⊎_, inl, inr}
-use mathlib.Core.Bool.{Bool, true, false, cond}
 use mathlib.Core.List.{List, [], _∷_, _++_, map}
 use Prim.Native.Nat.{ℕ, zero, suc, _+_, _-_, _*_, _/_, _%_, _≤_, _<_}
-use native.Mathlib.Nat.{eq-or-lt-of-le}
 use native.Mathlib.Omega.{arith}
 use borrow.Author.Tests.{ne-eqb, eqb-false}
 use lib.Dec.{eqb}
-use lib.ListN.{length, getD, drop, replicate, length-replicate, List·getD-append}
+use lib.ListN.{length, getD, drop, replicate, List·getD-append}
 use Rattle.ground.specs.Lists.{listed}
 use Rattle.ground.proofs.Listed.{length-listed, getD-listed-0}
 use Rattle.code.specs.Code.{Bytes, distance}
@@ -21,23 +18,20 @@ use Rattle.code.specs.Restore.{lostOf}
 use Rattle.code.proofs.Exact.{repair-near}
 use Rattle.code.proofs.Lists.{bytes-of}
 use Rattle.refusals.specs.Told.{acceptedWith}
-use Rattle.layout.specs.Layout.{tablesOf}
 use Rattle.settings.specs.declared.Settings.{Settings}
 use Rattle.settings.specs.Settings.{settingsFit}
-use Rattle.pack.specs.Pack.{countOf, packetOf}
+use Rattle.pack.specs.Pack.{packetOf}
 use Rattle.places.specs.declared.Place.{Place}
-use Rattle.places.specs.declared.Found.{Found}
-use Rattle.places.specs.declared.Found.the-variants.{At}
-use Rattle.places.specs.Places.{settingsName, freshRecord, unused, placeNamed}
+use Rattle.places.specs.Places.{settingsName, freshRecord}
 use Rattle.opening.specs.Open.{Opening}
 use Rattle.opening.proofs.OpenLaws.{open-empty}
 use Rattle.contents.specs.Contents.{Slot as Content, wrong, holding, contents}
 use Rattle.losses.specs.Losses.{payloadOf, sentAt, cameAt, rowCame}
 use Rattle.columns.specs.Columns.{rowIn}
-use Rattle.promises.specs.Calls.{Call, Answer, State, Program, step, run, fresh}
-use Rattle.promises.specs.Calls.Call.{packing, opening, offering, asking, handing, closing}
-use Rattle.promises.specs.Statements.{Protected, AllFair, Offers, CarriesEnough, Fair, HandsOut, Demand3Columns}
-use Rattle.promises.specs.Wrong.{fileIn, handedBy, handingBy, leavingZeros, repairing}
+use Rattle.promises.specs.Calls.{Call, Answer, State, step, run, fresh}
+use Rattle.promises.specs.Calls.Call.{opening, offering, handing}
+use Rattle.promises.specs.Statements.{Protected, CarriesEnough, Fair, Demand3Columns}
+use Rattle.promises.specs.Wrong.{fileIn, handingBy, leavingZeros, repairing}
 use Rattle.promises.proofs.Own.{fair-from, whole-copy, own-offers}
 use Rattle.promises.proofs.Demand.{Collecting, own, slot-in, copy-go, copy-leaves, fair-run, opened-collecting}
 use Rattle.promises.proofs.Fresh.{takes, taken, opens}

@@ -33,7 +33,6 @@ use Rattle.record.specs.declared.Offered.{Offered}
 use Rattle.record.specs.declared.Offered.the-variants.{Stored, Repeat, Refused}
 use Rattle.code.specs.Mend.{alteredIn}
 use Rattle.record.specs.Mend.{payloadIn}
-use Rattle.sealing.specs.Sealing.{agrees}
 use Rattle.settings.specs.Settings.{rowWise}
 use Rattle.record.specs.Offer.{packetName, nameIn, readFor, mendAs, Judged, refuse, put, judge, putInto, Offering, storing, offerJudged, offerOf}
 use Rattle.record.proofs.OfferCases.{said, payload-length, judge-puts, Puts, puts-known, offer-bad, offer-unread, offer-unknown, offer-placed}

@@ -6,7 +6,8 @@ use native.Mathlib.Omega.{arith}
 use borrow.Author.Tests.{not-true, not-false}
 use lib.ListN.{length}
 use Rattle.handing.specs.Hand.{usableIn}
-use Rattle.handing.proofs.HandCases.{comes-from, usable-known, place-columns, place-refused, place-usable}
+use Rattle.columns.proofs.HandLaws.{comes-from}
+use Rattle.handing.proofs.HandCases.{usable-known, place-columns, place-refused, place-usable}
 use Rattle.handing.proofs.hand_place.Statement.{statement}
 use Rattle.handing.proofs.hand_place.Tie as tie
 

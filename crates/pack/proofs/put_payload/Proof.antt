@@ -6,8 +6,7 @@ use native.Mathlib.Omega.{arith}
 use borrow.Author.Needs.{needs}
 use lib.ListN.{length, take, drop}
 use lib.Seq.{sets}
-use Rattle.laying.specs.Lay.{layInto, partOf}
-use Rattle.laying.specs.InnerLay.{Part}
+use Rattle.laying.specs.Lay.{layInto}
 use Rattle.laying.proofs.Serving.{lay-done}
 use Rattle.pack.specs.Inner.{payloadLength, codedRows, RunFits}
 use Rattle.pack.proofs.Laws.{row-order}

@@ -10,7 +10,8 @@ use Rattle.places.specs.declared.Found.the-variants.{At}
 use Rattle.places.specs.Places.{good, placeNamed}
 use Rattle.places.proofs.Steps.{mapped-length}
 use Rattle.places.proofs.Holders.{found-names}
-use Rattle.handing.proofs.HandCases.{comes-from, out-record, out-unknown, out-placed}
+use Rattle.columns.proofs.HandLaws.{comes-from}
+use Rattle.handing.proofs.HandCases.{out-record, out-unknown, out-placed}
 use Rattle.readout.proofs.hand_out.Statement.{statement}
 use Rattle.readout.proofs.hand_out.Tie as tie
 

@@ -2,7 +2,8 @@
 -- those before the first that does not.
 -- Assumes nothing.
 use native.Mathlib.Omega.{arith}
-use Rattle.columns.proofs.SpanLaws.{start-below, columns-all, columns-none, columns-few, columns-some}
+use Rattle.layout.proofs.Spans.{start-below}
+use Rattle.columns.proofs.SpanLaws.{columns-all, columns-none, columns-few, columns-some}
 use Rattle.columns.proofs.judge.columns_within.Statement.{statement}
 use Rattle.columns.proofs.judge.columns_within.Tie as tie
 

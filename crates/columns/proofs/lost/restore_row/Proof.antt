@@ -2,7 +2,8 @@
 -- Assumes nothing.
 use native.Mathlib.Omega.{arith}
 use borrow.Author.Needs.{needs}
-use Rattle.columns.proofs.Standings.{start-few, base-few, start-is}
+use Rattle.layout.proofs.Spans.{start-is}
+use Rattle.columns.proofs.Standings.{start-few, base-few}
 use Rattle.columns.proofs.Recovering.{came-few, came-below, row-whole, row-done}
 use Rattle.columns.proofs.lost.restore_row.Statement.{statement}
 use Rattle.columns.proofs.lost.restore_row.Tie as tie

@@ -3,7 +3,7 @@ use mathlib.Core.Path.{sym, ap, _∙_}
 use Prim.Native.Nat.{ℕ, _/_}
 use native.Mathlib.Omega.{arith}
 use borrow.Author.Tests.{not-true, not-false}
-use Rattle.handing.proofs.TableLaws.{start-most}
+use Rattle.layout.proofs.Spans.{start-most}
 use Rattle.handing.proofs.HandCases.{rows-shape, rows-size, rows-padding, rows-output, rows-file}
 use Rattle.handing.proofs.hand.hand_rows.Statement.{statement}
 use Rattle.handing.proofs.hand.hand_rows.Tie as tie

@@ -8,7 +8,8 @@ use borrow.Author.Tests.{not-true, not-false}
 use Rattle.contents.specs.Contents.{contents, joined}
 use Rattle.standing.proofs.SurveyLaws.{Tallied, Sees, sees}
 use Rattle.handing.specs.Hand.{handJoined, handContents}
-use Rattle.handing.proofs.HandCases.{comes-from, plain-size, plain-output, plain-file, joined-rows, contents-slot, contents-missing, contents-full}
+use Rattle.columns.proofs.HandLaws.{comes-from}
+use Rattle.handing.proofs.HandCases.{plain-size, plain-output, plain-file, joined-rows, contents-slot, contents-missing, contents-full}
 use Rattle.handing.proofs.hand.hand_usable.Statement.{statement}
 use Rattle.handing.proofs.hand.hand_usable.Tie as tie
 

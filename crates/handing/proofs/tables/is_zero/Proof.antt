@@ -2,7 +2,8 @@
 use Prim.Native.Nat.{_-_}
 use native.Mathlib.Omega.{arith}
 use borrow.Author.Count.{falls}
-use Rattle.handing.proofs.TableLaws.{one-on, Zeroing, zeroing-first, zeroing-end, zeroing-next, zeroing-not}
+use Rattle.handing.proofs.TableLaws.{one-on}
+use Rattle.columns.proofs.ZeroLaws.{Zeroing, zeroing-first, zeroing-end, zeroing-next, zeroing-not}
 use Rattle.handing.proofs.tables.is_zero.Statement.{statement}
 use Rattle.handing.proofs.tables.is_zero.Tie as tie
 

@@ -1,7 +1,7 @@
 -- The rows before it have at most 239 bytes each in the file, fewer than they have in the store. All 239 of its bytes stand there where the last stands below n,
 -- none where the first does not, and otherwise those before the first that does not.
 use native.Mathlib.Omega.{arith}
-use Rattle.handing.proofs.TableLaws.{start-is, start-below, columns-all, columns-none, columns-few, columns-some}
+use Rattle.layout.proofs.Spans.{start-is, start-below, columns-all, columns-none, columns-few, columns-some}
 use Rattle.handing.proofs.tables.row_span.Statement.{statement}
 use Rattle.handing.proofs.tables.row_span.Tie as tie
 

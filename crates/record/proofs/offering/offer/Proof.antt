@@ -1,7 +1,7 @@
 -- The record is judged, the place that the packet names is found, the fields are read as that place has them; the rest is `offer_at`. A good record's place is sound.
 use mathlib.Core.Path.{_≡_, sym, ap, _∙_}
 use mathlib.Core.Bool.{true, not}
-use Prim.Native.Nat.{_<_, _≤_}
+use Prim.Native.Nat.{_<_}
 use native.Mathlib.Omega.{arith}
 use borrow.Author.Needs.{needs}
 use borrow.Author.Tests.{not-true, not-false}
@@ -9,7 +9,6 @@ use lib.Dec.{eqb}
 use lib.ListN.{length, getD}
 use Rattle.packet.specs.declared.Reading.the-variants.{Sent}
 use Rattle.packet.specs.Packet.{readBy}
-use Rattle.places.specs.declared.Found.{Found}
 use Rattle.places.specs.declared.Found.the-variants.{At}
 use Rattle.places.specs.Places.{Name, unused, names, good, placeNamed}
 use Rattle.places.proofs.Steps.{mapped-length}

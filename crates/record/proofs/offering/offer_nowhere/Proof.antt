@@ -1,7 +1,6 @@
 -- What reading refuses comes first; else the packet is Unknown.
 use mathlib.Core.Path.{sym, ap, _∙_}
 use native.Mathlib.Omega.{arith}
-use Rattle.packet.specs.declared.Reading.{Reading}
 use Rattle.record.specs.InnerOffer.{nowhere}
 use Rattle.record.proofs.OfferCases.{refusal-read}
 use Rattle.record.proofs.offering.offer_nowhere.Statement.{statement}

@@ -1,8 +1,5 @@
 -- The place's order says which of the two readings is asked for.
-use mathlib.Core.Path.{ap, sym, _∙_}
-use mathlib.Core.Bool.{Bool, not}
 use borrow.Author.Tests.{eq-eqb, ne-eqb}
-use Rattle.packet.specs.Packet.{readBy}
 use Rattle.record.proofs.offering.read_at.Statement.{statement}
 use Rattle.record.proofs.offering.read_at.Tie as tie
 
