@@ -4,3 +4,4 @@ pub mod Walking
 pub mod Payloads
 pub mod Gathering
 pub mod Tabling
+pub mod Stepping

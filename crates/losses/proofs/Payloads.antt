@@ -1,17 +1,17 @@
 -- Where the bytes of what was sent stand in a place: slot by slot (`payloadAt`, specs/Losses.antt), and in the store.
 -- Assumes nothing.
 use mathlib.Core.Path.{_≡_, refl, sym, ap, _∙_}
-use mathlib.Core.Bool.{true, false}
+use mathlib.Core.Bool.{Bool, true, false, not, _&&_, _||_}
 use mathlib.Core.List.{List}
 use Prim.Native.Nat.{ℕ, _+_, _-_, _*_, _/_, _%_, _≤_, _<_}
 use native.Mathlib.Nat.{add-mul, one-mul, mul-add, mul-assoc, mul-comm, div-add-mod', div-eq-of-lt-le}
 use native.Mathlib.Omega.{arith}
 use borrow.Author.Tests.{eq-eqb, ne-eqb}
-use lib.Dec.{eqb}
+use lib.Dec.{eqb, leb}
 use lib.ListN.{length, getD, List·getD-eq-default}
 use Rattle.ground.proofs.Listed.{getD-listed}
 use Rattle.places.specs.declared.Place.{Place}
-use Rattle.places.specs.Places.{endOf}
+use Rattle.places.specs.Places.{endOf, inRows}
 use Rattle.contents.specs.Slots.{lengthAt}
 use Rattle.contents.specs.Contents.{wrong, bytesAt, slotAt, lengthFits, contents}
 use Rattle.contents.proofs.Bytes.{length-bytes}
@@ -73,6 +73,15 @@ module _ (p : Place) (s : List ℕ) (k : ℕ) where
 pub slot-sum : (p : Place) (k : ℕ) → p .start + k * (p .slot + 2) ≡ slotAt p k
 unfolding slotAt
 slot-sum p k = refl
+
+-- its length lies in the store
+pub slot-room : (p : Place) (k size : ℕ) → k < p .count → endOf p ≤ size → p .start + k * (p .slot + 2) + 2 ≤ size
+unfolding slotAt
+slot-room p k size h l = omega (arith, slot-within p k h .1)
+
+-- whether a length fits, where it is known whether payloads are whole rows
+pub fits-known : (p : Place) (n : ℕ) (b : Bool) → b ≡ inRows p → (leb n (p .slot) && (not b || eqb (n % 255) 0)) ≡ lengthFits p n
+fits-known p n b e = ap (λ (x : Bool). leb n (p .slot) && (not x || eqb (n % 255) 0)) e
 
 -- ---- a column that stands in slot k
 

@@ -8,7 +8,7 @@ use lib.Dec.{ltb}
 use lib.ListN.{length, getD}
 use Rattle.roots.specs.Roots.{passing}
 use Rattle.places.specs.declared.Place.{Place}
-use Rattle.places.specs.Places.{endOf}
+use Rattle.places.specs.Places.{endOf, inRows}
 use Rattle.contents.specs.Contents.{contents, bytesAt, slotAt}
 use Rattle.losses.specs.Losses.{payloadAt, cameAt, lostAt}
 
@@ -99,3 +99,27 @@ pub record Begins (p : Place) (s : List ℕ) (first k c lost : ℕ) (row at : Li
 pub record Ended (p : Place) (s : List ℕ) (first c r lost : ℕ) (row at : List ℕ) : Type 0 where
   pub on : c < r
   pub gathered : Gathered p s first r lost row at
+
+-- the byte step slots and rest bytes behind byte b of slot k, in slots of that size, is byte y of slot x
+pub record Behind (k b step rest size x y : ℕ) : Type 0 where
+  pub byte : y < size
+  pub place : x * size + y ≡ k * size + b + (step * size + rest)
+
+-- column c stands alone in its slot; what is known beside where that is
+pub record Alone (p : Place) (size : ℕ) (rows : Bool) (c lost : ℕ) (row at : List ℕ) : Type 0 where
+  pub ends : endOf p ≤ size
+  pub judged : rows ≡ inRows p
+  pub short : c < 255
+  pub few : lost ≤ 255
+  pub long : length row ≡ 255
+  pub room : length at ≡ 16
+
+-- the columns before c are gathered, and column c is byte b of slot k
+pub record Stands (p : Place) (s : List ℕ) (first k b c lost : ℕ) (row at : List ℕ) : Type 0 where
+  pub byte : b < p .slot
+  pub place : k * p .slot + b ≡ first + c * p .rows
+  pub gathered : Gathered p s first c lost row at
+
+-- and then it is gathered besides
+pub record Taken (p : Place) (s : List ℕ) (k b c lost : ℕ) (row at : List ℕ) (more : ℕ) (row' at' : List ℕ) : Type 0 where
+  pub gathered : (first : ℕ) → Stands p s first k b c lost row at → Gathered p s first (c + 1) more row' at'

@@ -23,7 +23,7 @@ pub fn gather(p: Place, store: &[u8], q: u32) -> Came
         return Came { row, lost: 0, at };
     }
     let first = runs::first_byte(q, p.rows);
-    let lost = runs::take_runs(p, store, first, &mut row, &mut at);
+    let lost = runs::take_row(p, store, first, &mut row, &mut at);
     Came { row, lost, at }
 }
 

@@ -2,9 +2,12 @@
 // sent, `first` being where its column 0 stands.
 ghost use mathlib.Core.Path.{_≡_};
 ghost use Prim.Native.Nat.{_+_, _*_, _/_, _%_, _<_, _≤_, _^_};
+ghost use mathlib.Core.Bool.{not, _&&_, _||_};
+ghost use lib.Dec.{eqb, leb};
 ghost use lib.ListN.{length};
-ghost use Rattle.places.specs.Places.{endOf};
-ghost use Rattle.losses.specs.InnerRuns.{Tabled, Held, Least, Walk, Reached, Copied, One, Noted, Gathered, Begins, Ended};
+ghost use Rattle.places.specs.Places.{endOf, inRows};
+ghost use Rattle.contents.specs.Slots.{lengthAt};
+ghost use Rattle.losses.specs.InnerRuns.{Tabled, Held, Least, Walk, Reached, Copied, One, Noted, Gathered, Begins, Ended, Behind, Alone, Taken};
 use places::Place;
 
 // Where a run ended: the column behind it, and how many columns are lost up to there.
@@ -13,19 +16,45 @@ struct Run {
     lost: usize,
 }
 
-// The length of the payload in slot `k`; 0 where it is empty, where its length is wrong, and where there is no such slot.
-fn held(p: Place, store: &[u8], k: usize) -> usize
-    requires { ⌜ endOf p ≤ length (now store) ⌝ }
+// The length that stands in the slot at `at`, which lies in the store.
+fn length_at(store: &[u8], at: usize) -> usize
+    requires { ⌜ at + 2 ≤ length (now store) ⌝ }
+    ensures { λ r. ⌜ r ≡ lengthAt (now (store .entry)) at ⌝ }
+{
+    words::index(store[at]) + words::index(store[at + 1]) * 256
+}
+
+// Whether a slot for `size` bytes may hold `n`, `in_rows` saying whether payloads are whole rows.
+fn may_hold(size: usize, in_rows: bool, n: usize) -> bool
+    ensures { λ r. ⌜ r ≡ (leb n size && (not in_rows || eqb (n % 255) 0)) ⌝ }
+{
+    if size < n {
+        return false;
+    }
+    !in_rows || n % 255 == 0
+}
+
+// The length of the payload in slot `k`; 0 where it is empty, where its length is wrong, and where there is no such slot. `in_rows` says whether payloads are whole rows.
+fn held_by(p: Place, store: &[u8], k: usize, in_rows: bool) -> usize
+    requires { ⌜ (endOf p ≤ length (now store)) × (in_rows ≡ inRows p) ⌝ }
     ensures { λ r. ⌜ Held p (now (store .entry)) k r ⌝ }
 {
     if p.count as usize <= k {
         return 0;
     }
-    let n = contents::slot_length(store, p.start as usize + k * (p.slot as usize + 2));
-    if contents::length_fits(p, n) {
+    let n = length_at(store, p.start as usize + k * (p.slot as usize + 2));
+    if may_hold(p.slot as usize, in_rows, n) {
         return n;
     }
     0
+}
+
+// The same where that is not known yet.
+fn held(p: Place, store: &[u8], k: usize) -> usize
+    requires { ⌜ endOf p ≤ length (now store) ⌝ }
+    ensures { λ r. ⌜ Held p (now (store .entry)) k r ⌝ }
+{
+    held_by(p, store, k, settings::row_wise(p.protection, p.order))
 }
 
 // The slot in which byte `j` stands. No division where it is slot `k`.
@@ -151,14 +180,8 @@ fn take_run(
     Run { column, lost }
 }
 
-// Gathers the row whose column 0 is byte `first`, in a row and places that are all 0. Answers how many columns are lost.
-pub(crate) fn take_runs(
-    p: Place,
-    store: &[u8],
-    first: usize,
-    row: &mut [u8; 255],
-    at: &mut [u8; 16],
-) -> usize
+// Gathers the row whose column 0 is byte `first`, in a row and places that are all 0, run by run. Answers how many columns are lost.
+fn take_runs(p: Place, store: &[u8], first: usize, row: &mut [u8; 255], at: &mut [u8; 16]) -> usize
     requires { ⌜ Tabled p (length (now store)) × (first < 2 ^ 46) × Gathered p (now store) first 0 0 (now row) (now at) ⌝ }
     ensures { λ r. ⌜ Gathered p (now (store .entry)) first 255 r (now (row .exit)) (now (at .exit)) ⌝ }
 {
@@ -175,6 +198,102 @@ pub(crate) fn take_runs(
         k += 1;
     }
     lost
+}
+
+// Where a byte of what was sent stands: its slot, and its number there.
+struct Spot {
+    slot: usize,
+    byte: usize,
+}
+
+// Where the byte stands that is `step` slots and `rest` bytes behind.
+fn spot_behind(s: Spot, step: usize, rest: usize, size: usize) -> Spot
+    requires { ⌜ (s .slot < 2 ^ 48) × (s .byte < size) × (step < 256) × (rest < size) × (size < 2 ^ 16) ⌝ }
+    ensures { λ r. ⌜ Behind (s .slot) (s .byte) step rest size (r .slot) (r .byte) ⌝ }
+{
+    let byte = s.byte + rest;
+    if byte < size {
+        return Spot {
+            slot: s.slot + step,
+            byte,
+        };
+    }
+    Spot {
+        slot: s.slot + step + 1,
+        byte: byte - size,
+    }
+}
+
+// Gathers column `c` alone, which stands at that spot. Answers how many columns are lost then.
+fn take_column(
+    p: Place,
+    store: &[u8],
+    in_rows: bool,
+    s: Spot,
+    c: usize,
+    lost: usize,
+    row: &mut [u8; 255],
+    at: &mut [u8; 16],
+) -> usize
+    requires { ⌜ Alone p (length (now store)) in_rows c lost (now row) (now at) ⌝ }
+    ensures { λ r. ⌜ Taken p (now (store .entry)) (s .slot) (s .byte) c lost (now (row .entry)) (now (at .entry)) r (now (row .exit)) (now (at .exit)) ⌝ }
+{
+    let n = held_by(p, store, s.slot, in_rows);
+    if s.byte < n {
+        row[c] = store[p.start as usize + s.slot * (p.slot as usize + 2) + 2 + s.byte];
+        return lost;
+    }
+    if 0 < n {
+        return lost;
+    }
+    note(at, lost, c);
+    lost + 1
+}
+
+// Gathers the row as `take_runs` does, column by column: the faster way where a slot holds one column at most.
+fn take_columns(
+    p: Place,
+    store: &[u8],
+    first: usize,
+    row: &mut [u8; 255],
+    at: &mut [u8; 16],
+) -> usize
+    requires { ⌜ Tabled p (length (now store)) × (first < 2 ^ 46) × Gathered p (now store) first 0 0 (now row) (now at) ⌝ }
+    ensures { λ r. ⌜ Gathered p (now (store .entry)) first 255 r (now (row .exit)) (now (at .exit)) ⌝ }
+{
+    let in_rows = settings::row_wise(p.protection, p.order);
+    let size = p.slot as usize;
+    let step = p.rows as usize / size;
+    let rest = p.rows as usize % size;
+    let mut s = Spot {
+        slot: first / size,
+        byte: first % size,
+    };
+    let mut lost: usize = 0;
+    let mut c: usize = 0;
+    while c < 255 {
+        lost = take_column(p, store, in_rows, s, c, lost, row, at);
+        s = spot_behind(s, step, rest, size);
+        c += 1;
+    }
+    lost
+}
+
+// Gathers the row whose column 0 is byte `first`, in a row and places that are all 0. Answers how many columns are lost.
+pub(crate) fn take_row(
+    p: Place,
+    store: &[u8],
+    first: usize,
+    row: &mut [u8; 255],
+    at: &mut [u8; 16],
+) -> usize
+    requires { ⌜ Tabled p (length (now store)) × (first < 2 ^ 46) × Gathered p (now store) first 0 0 (now row) (now at) ⌝ }
+    ensures { λ r. ⌜ Gathered p (now (store .entry)) first 255 r (now (row .exit)) (now (at .exit)) ⌝ }
+{
+    if p.slot as usize <= p.rows as usize {
+        return take_columns(p, store, first, row, at);
+    }
+    take_runs(p, store, first, row, at)
 }
 
 // Where column 0 of row `q` stands in what was sent, the rows of all tables counted through.

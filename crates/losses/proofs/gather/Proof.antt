@@ -22,13 +22,13 @@ returns c = came-nothing _ _ _ (sym (c .before .is-tabled .ensures) ∙ not-true
 first-byte-requires : tie.Need-first-byte-requires
 first-byte-requires c κs = tabled-facts _ _ (is c) .rows
 
-take-runs-requires : tie.Need-take-runs-requires
-take-runs-requires c κs = (tabled-facts _ _ (is (c .before .before .before)), c .before .before .first-byte .ensures .1, gathered-nothing _ _ _)
+take-row-requires : tie.Need-take-row-requires
+take-row-requires c κs = (tabled-facts _ _ (is (c .before .before .before)), c .before .before .first-byte .ensures .1, gathered-nothing _ _ _)
 
 returns-2 : tie.Need-returns-2
-returns-2 c = gathered-came _ (c .before .before .before .first-byte .ensures .0) (c .take-runs .ensures) ∙ came-tabled _ _ _ (is (c .before .before .before .before))
+returns-2 c = gathered-came _ (c .before .before .before .first-byte .ensures .0) (c .take-row .ensures) ∙ came-tabled _ _ _ (is (c .before .before .before .before))
 
 pub gather-spec : {M : Type 1} → statement M
 gather-spec =
     tie.close
-    (tie.spec is-tabled-requires returns first-byte-requires take-runs-requires returns-2)
+    (tie.spec is-tabled-requires returns first-byte-requires take-row-requires returns-2)
