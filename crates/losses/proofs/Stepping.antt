@@ -105,6 +105,15 @@ module _ {p : Place} {s : List ℕ} {first k b c lost : ℕ} {row at : List ℕ}
         gathered = taken .gathered first v;
       }
 
+  -- where slots lie evenly below the columns
+  pub stands-even : p .rows % p .slot ≡ 0 → {more : ℕ} {row' at' : List ℕ} → Taken p s k b c lost row at more row' at' → Stands p s first (k + p .rows / p .slot) b (c + 1) more row' at'
+  stands-even e taken =
+      record {
+        byte = v .byte;
+        place = omega (arith, v .place, next-times c (p .rows), div-add-mod' (p .rows) (p .slot), add-mul k (p .rows / p .slot) (p .slot));
+        gathered = taken .gathered first v;
+      }
+
   pub stands-end : 255 ≤ c → Gathered p s first 255 lost row at
   stands-end h =
       let e : c ≡ 255 = omega (arith, v .gathered .within) in

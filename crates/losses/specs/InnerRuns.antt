@@ -105,7 +105,7 @@ pub record Behind (k b step rest size x y : ℕ) : Type 0 where
   pub byte : y < size
   pub place : x * size + y ≡ k * size + b + (step * size + rest)
 
--- column c stands alone in its slot; what is known beside where that is
+-- what taking column c alone asks, wherever it stands
 pub record Alone (p : Place) (size : ℕ) (rows : Bool) (c lost : ℕ) (row at : List ℕ) : Type 0 where
   pub ends : endOf p ≤ size
   pub judged : rows ≡ inRows p

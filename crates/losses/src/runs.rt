@@ -1,8 +1,8 @@
 // A row gathered by its runs, a run being the columns that stand in one slot: document 02, R-8. Private to the crate. Column x of a row stands at byte `first + x * m` of what was
 // sent, `first` being where its column 0 stands.
 ghost use mathlib.Core.Path.{_≡_};
-ghost use Prim.Native.Nat.{_+_, _*_, _/_, _%_, _<_, _≤_, _^_};
 ghost use mathlib.Core.Bool.{not, _&&_, _||_};
+ghost use Prim.Native.Nat.{_+_, _*_, _/_, _%_, _<_, _≤_, _^_};
 ghost use lib.Dec.{eqb, leb};
 ghost use lib.ListN.{length};
 ghost use Rattle.places.specs.Places.{endOf, inRows};
@@ -279,6 +279,26 @@ fn take_columns(
     lost
 }
 
+// The same where slots lie evenly below the columns: each column is the same byte of its slot.
+fn take_even(p: Place, store: &[u8], first: usize, row: &mut [u8; 255], at: &mut [u8; 16]) -> usize
+    requires { ⌜ Tabled p (length (now store)) × (first < 2 ^ 46) × (p .rows % p .slot ≡ 0) × Gathered p (now store) first 0 0 (now row) (now at) ⌝ }
+    ensures { λ r. ⌜ Gathered p (now (store .entry)) first 255 r (now (row .exit)) (now (at .exit)) ⌝ }
+{
+    let in_rows = settings::row_wise(p.protection, p.order);
+    let size = p.slot as usize;
+    let step = p.rows as usize / size;
+    let byte = first % size;
+    let mut k = first / size;
+    let mut lost: usize = 0;
+    let mut c: usize = 0;
+    while c < 255 {
+        lost = take_column(p, store, in_rows, Spot { slot: k, byte }, c, lost, row, at);
+        k += step;
+        c += 1;
+    }
+    lost
+}
+
 // Gathers the row whose column 0 is byte `first`, in a row and places that are all 0. Answers how many columns are lost.
 pub(crate) fn take_row(
     p: Place,
@@ -290,7 +310,12 @@ pub(crate) fn take_row(
     requires { ⌜ Tabled p (length (now store)) × (first < 2 ^ 46) × Gathered p (now store) first 0 0 (now row) (now at) ⌝ }
     ensures { λ r. ⌜ Gathered p (now (store .entry)) first 255 r (now (row .exit)) (now (at .exit)) ⌝ }
 {
-    if p.slot as usize <= p.rows as usize {
+    let m = p.rows as usize;
+    let size = p.slot as usize;
+    if m % size == 0 {
+        return take_even(p, store, first, row, at);
+    }
+    if size <= m {
         return take_columns(p, store, first, row, at);
     }
     take_runs(p, store, first, row, at)
