@@ -1,15 +1,15 @@
 -- A row gathered column by column (`Stands`, `Taken`, specs/InnerRuns.antt): what one column adds, by what its slot holds, and where the next one stands.
 -- Assumes nothing.
-use mathlib.Core.Path.{_≡_, refl, sym, ap, subst, _∙_}
-use mathlib.Core.Bool.{true, false}
+use mathlib.Core.Path.{_≡_, ap, subst, _∙_}
+use mathlib.Core.Bool.{false}
 use mathlib.Core.List.{List}
 use Prim.Native.Nat.{ℕ, _+_, _-_, _*_, _/_, _%_, _^_, _≤_, _<_}
 use native.Mathlib.Nat.{le-refl, mul-add, add-mul, mul-le-mul, mod-lt, div-add-mod'}
 use native.Mathlib.Omega.{arith}
-use lib.ListN.{length, getD, set}
+use lib.ListN.{getD, set}
 use Rattle.places.specs.declared.Place.{Place}
 use Rattle.places.specs.Places.{endOf}
-use Rattle.losses.specs.InnerRuns.{byteIn, goneIn, Tabled, Held, One, Gathered, Behind, Stands, Taken}
+use Rattle.losses.specs.InnerRuns.{byteIn, goneIn, Held, One, Gathered, Behind, Stands, Taken}
 use Rattle.losses.proofs.Noting.{told-came}
 use Rattle.losses.proofs.Walking.{next-times, part-more, part-zero}
 use Rattle.losses.proofs.Payloads.{byte-came, byte-none, gone-empty, gone-not, held-inside}
