@@ -53,7 +53,7 @@ pub extern "C" fn bh_repair_row(row: &[u8], fixed: &mut [u8]) -> u64
 pub extern "C" fn bh_read_fields(packet: &[u8], fields: &mut [u32]) -> u64
     ensures { λ r. ⌜ Says (readSays true (now (packet .entry)) (now (fields .entry))) r (now (fields .exit)) ⌝ }
 {
-    put_reading(packet::read_fields(packet), fields)
+    put_reading(fields::read_fields(packet), fields)
 }
 
 // The same without refusal 7, for packets of either order.
@@ -61,7 +61,7 @@ pub extern "C" fn bh_read_fields(packet: &[u8], fields: &mut [u32]) -> u64
 pub extern "C" fn bh_read_header(packet: &[u8], fields: &mut [u32]) -> u64
     ensures { λ r. ⌜ Says (readSays false (now (packet .entry)) (now (fields .entry))) r (now (fields .exit)) ⌝ }
 {
-    put_reading(packet::read_header(packet), fields)
+    put_reading(fields::read_header(packet), fields)
 }
 
 // What was read, at the start of `fields`.
@@ -254,7 +254,7 @@ pub extern "C" fn bh_offer(held: &[u8], store: &mut [u8], packet: &[u8]) -> u64
     if held.len() != face::RECORD {
         return NO_RECORD;
     }
-    let offered = record::offer(face::record_in(held), store, packet);
+    let offered = offering::offer(face::record_in(held), store, packet);
     answers::offered_as(offered)
 }
 

@@ -1,7 +1,6 @@
 -- What is judged by lengths alone: the place, the file's length, and the loop over the lengths of the slots.
 -- Assumes nothing.
 use mathlib.Core.Path.{_≡_, refl, sym, ap, ap₂, _∙_}
-use mathlib.Core.Logic.{⊎-elim}
 use mathlib.Core.Bool.{Bool, true, false, not, _&&_}
 use mathlib.Core.List.{List}
 use Prim.Native.Nat.{ℕ, suc, _+_, _-_, _*_, _^_, _<_, _≤_, min}
@@ -11,7 +10,6 @@ use borrow.Author.Tests.{le-leb, lt-leb, leb-true, eq-eqb, ne-eqb, eqb-true}
 use lib.Dec.{eqb, leb}
 use lib.ListN.{length}
 use Rattle.ground.specs.Lists.{ceil}
-use Rattle.ground.proofs.Numbers.{lt-or-ge}
 use Rattle.ground.proofs.Truth.{and-both}
 use Rattle.layout.specs.Layout.{tablesOf}
 use Rattle.places.specs.declared.Place.{Place}
@@ -84,13 +82,6 @@ module _ (p : Place) (n : ℕ) where
       }
 
 -- ---- a slot
-
--- the lesser of two numbers
-pub least-is : {a b r : ℕ} → (r ≤ a) × (r ≤ b) × ((x : ℕ) → x < a → x < b → x < r) → r ≡ min a b
-least-is {a} {b} {r} h = ⊎-elim (λ (e : r < min a b). absurd (omega (arith, h .2 r (omega arith) (omega arith)))) (λ (e : min a b ≤ r). low e) (lt-or-ge r (min a b))
-  where
-    low : min a b ≤ r → r ≡ min a b
-    low e = omega (arith, h .0, h .1)
 
 pub differs-yes : (n full : ℕ) → (n ≡ 0 → ⊥) → not (eqb n full) ≡ (not (eqb n 0) && not (eqb n full))
 differs-yes n full d = rw (ne-eqb n 0 d) refl

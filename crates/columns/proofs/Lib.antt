@@ -7,9 +7,9 @@ pub mod ZeroLaws
 pub mod SpanLaws
 pub mod RowLaws
 pub mod LengthLaws
-pub mod JudgeLaws
 pub mod PaddingLaws
 pub mod HandLaws
+pub mod Weighed
 pub mod Nearing
 pub mod Standings
 pub mod Coming

@@ -4,15 +4,13 @@ use mathlib.Core.Path.{_≡_, refl, sym, ap, ap₂, subst, _∙_}
 use mathlib.Core.Logic.{⊎-elim}
 use mathlib.Core.Bool.{Bool, true, false, cond}
 use mathlib.Core.List.{List, _∷_}
-use Prim.Native.Nat.{ℕ, zero, suc, _+_, _-_, _*_, _/_, _<_, _≤_}
-use native.Mathlib.Nat.{min-eq-right}
+use Prim.Native.Nat.{ℕ, zero, suc, _+_, _-_, _<_, _≤_}
 use native.Mathlib.Omega.{arith}
-use lib.ListN.{length, getD, set, take, drop, length-set}
-use lib.Seq.{sets, ext-getD, getD-set-same, getD-set-other, getD-take, take-all, length-take-le}
+use lib.ListN.{length, getD, set, take, length-set}
+use lib.Seq.{ext-getD, getD-set-same, getD-set-other, getD-take, take-all}
 use Rattle.ground.specs.Bits.{sum}
 use Rattle.ground.proofs.Sums.{zero-sum, sum-cancel}
 use Rattle.ground.proofs.Listed.{getD-listed-0}
-use Rattle.ground.proofs.Writing.{sets-all}
 use Rattle.ground.proofs.Numbers.{same-or-not}
 use Rattle.ground.proofs.Truth.{differ}
 use Rattle.field.specs.Field.{product, expo}
@@ -22,13 +20,11 @@ use Rattle.code.specs.Search.{Repaired, remainder}
 use Rattle.code.specs.Search.Repaired.{found, none}
 use Rattle.code.specs.Restore.{restoreOf}
 use Rattle.code.specs.Value.{value}
-use Rattle.code.proofs.Lists.{zeros, length-zeros, bytes-at}
+use Rattle.code.proofs.Lists.{bytes-at}
 use Rattle.code.proofs.Weights.{expo-zero, expo-suc, one-product}
 use Rattle.code.proofs.Values.{value-nil, value-byte, value-take, value-set, coded-values}
 use Rattle.code.proofs.Division.{length-remainder, remainder-bytes}
 use Rattle.code.proofs.Restored.{restore-found}
-use Rattle.encoding.specs.Encode.{remaindersOf}
-use Rattle.encoding.proofs.Feeding.{rest-there, rest-among, length-remainders}
 use Rattle.errata.specs.declared.Errata.{Errata}
 use Rattle.errata.specs.Errata.{leaving}
 use Rattle.errata.specs.Restoring.{fallingTo, among, fillingFor, fillingOf}
@@ -167,18 +163,5 @@ module _ (row at : List ℕ) (n : ℕ) (long : length row ≡ 255) (bytes : Byte
       ∙ ap (λ (y : ℕ). sum (getD row (254 - y) 0) (getD (e .values) k 0)) q
       ∙ ap (λ (x : ℕ). sum x (getD (e .values) k 0)) (l .empty k h) ∙ zero-sum (getD (e .values) k 0))
 
-pub filled-restores : (row at rest : List ℕ) (n : ℕ) (e : Errata) → length row ≡ 255 → Bytes row → length at ≡ 16 → rest ≡ remainder 239 row → e ≡ fillingOf rest at n
-    → Restores row at n (e .values)
-filled-restores row at rest n e long bytes room r is s l k h =
-    filled-lost row at n long bytes room s l e (is ∙ ap (λ (x : List ℕ). fillingOf x at n) r) k h
-
--- ---- what one row leaves
-
-pub rest-one : (row rests rest : List ℕ) → length row ≡ 255 → rests ≡ remaindersOf row → rest ≡ sets (zeros 16) 0 (take (16 - 0) (drop 0 rests)) → rest ≡ remainder 239 row
-rest-one row rests rest long e d =
-    let one : length row / 255 ≡ 1 = omega arith in
-    let few : length row / 255 ≤ 15 = omega arith in
-    let part : List ℕ = take 16 (drop (0 * 16) (remaindersOf row)) in
-    let size : length part ≡ 16 = length-take-le 16 (remaindersOf row) (omega (arith, length-remainders row)) in
-    d ∙ ap (λ (x : List ℕ). sets (zeros 16) 0 (take 16 x)) e ∙ sets-all (zeros 16) part (size ∙ sym (length-zeros 16))
-    ∙ rest-among row 0 (omega (arith, min-eq-right few)) ∙ rest-there row 0 (omega arith) ∙ ap (remainder 239) (take-all 255 row (omega arith))
+pub filled-restores : (row at : List ℕ) (n : ℕ) (e : Errata) → length row ≡ 255 → Bytes row → length at ≡ 16 → e ≡ fillingOf (remainder 239 row) at n → Restores row at n (e .values)
+filled-restores row at n e long bytes room is s l k h = filled-lost row at n long bytes room s l e is k h

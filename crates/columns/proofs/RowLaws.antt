@@ -72,23 +72,23 @@ module _ (p : Place) (s : List ℕ) (fits : tabled p (length s) ≡ true) (q : �
         (λ k h. ap₂ (λ (l : List ℕ) (n : ℕ). among l n k) at-is lost-is ∙ among-lost gone few-gone k h) (λ k h e. refl)
         ∙ ap (restoreOf gone) row-is
 
-    module _ (bytes : Bytes (c .row)) (rest : List ℕ) (left : rest ≡ remainder 239 (c .row)) (e : Errata) (filled : e ≡ fillingOf rest (c .at) (c .lost)) where
-      rest-long : length rest ≡ 16
-      rest-long = ap length left ∙ length-remainder 239 (c .row) row-long
+    module _ (bytes : Bytes (c .row)) (e : Errata) (filled : e ≡ fillingOf (remainder 239 (c .row)) (c .at) (c .lost)) where
+      rest-long : length (remainder 239 (c .row)) ≡ 16
+      rest-long = length-remainder 239 (c .row) row-long
 
-      rest-bytes : Bytes rest
-      rest-bytes = subst Bytes (sym left) (remainder-bytes 239 (c .row) bytes)
+      rest-bytes : Bytes (remainder 239 (c .row))
+      rest-bytes = remainder-bytes 239 (c .row) bytes
 
       pub row-placed : Placed (e .n) (e .at)
-      row-placed = filling-placed rest (c .at) (c .lost) rest-long rest-bytes room falling e filled
+      row-placed = filling-placed (remainder 239 (c .row)) (c .at) (c .lost) rest-long rest-bytes room falling e filled
 
       pub row-found : e .fits ≡ true → rowRestored (p .rows) (p .slot) (contents p s) q ≡ found (mendedBy (c .row) (entries (e .at)) (entries (e .values)) (e .n))
       row-found t =
-          sym restored-by ∙ filling-found rest (c .at) (c .lost) rest-long rest-bytes room falling (c .row) row-long bytes left e filled t
+          sym restored-by ∙ filling-found (remainder 239 (c .row)) (c .at) (c .lost) rest-long rest-bytes room falling (c .row) row-long bytes refl e filled t
 
       pub row-none : e .fits ≡ false → rowRestored (p .rows) (p .slot) (contents p s) q ≡ none
       row-none t =
-          sym restored-by ∙ filling-none rest (c .at) (c .lost) rest-long rest-bytes room falling (c .row) row-long bytes left e filled t
+          sym restored-by ∙ filling-none (remainder 239 (c .row)) (c .at) (c .lost) rest-long rest-bytes room falling (c .row) row-long bytes refl e filled t
 
 -- ---- what is wrong with it
 

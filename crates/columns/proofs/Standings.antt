@@ -1,6 +1,6 @@
 -- Where a byte of the file stands: in what was sent, and in which row and column. Assumes nothing.
 use mathlib.Core.Path.{_≡_, sym, ap, ap₂, _∙_}
-use Prim.Native.Nat.{ℕ, _+_, _-_, _*_, _/_, _%_, _<_, _≤_}
+use Prim.Native.Nat.{ℕ, _+_, _-_, _*_, _/_, _%_, _<_, _≤_, min}
 use native.Mathlib.Nat.{mod-lt, mul-comm, mul-assoc, mul-pos, add-mul, div-add-mod', zero-lt-suc, div-eq-of-lt-le, div-lt-iff-lt-mul, mul-add}
 use native.Mathlib.Omega.{arith}
 use lib.Arith.{digits-lt, digits-div, digits-mod}
@@ -139,10 +139,9 @@ module _ (m size n f left len : ℕ) (h : 0 < m) (g : 0 < size) (b : f < n) wher
   pub rest-below : j % size < size
   rest-below = mod-lt j g
 
-  pub together : left ≤ n → left ≤ (t + 1) * (239 * m) → ((x : ℕ) → x < n → x < (t + 1) * (239 * m) → x < left) → len ≤ size - j % size → len ≤ left - f → ((x : ℕ) → x < size - j % size → x < left - f → x < len)
-      → Together m size n f (j / size) (j % size) len
-  together a c d x y e = record {
-    some = e 0 (omega (arith, rest-below)) (omega (arith, d f b below-next));
+  pub together : left ≡ min n ((t + 1) * (239 * m)) → len ≡ min (size - j % size) (left - f) → Together m size n f (j / size) (j % size) len
+  together d e = record {
+    some = omega (arith, rest-below, below-next);
     ends = omega arith;
     inside = omega (arith, rest-below);
     at = λ i l.

@@ -4,10 +4,11 @@ use mathlib.Core.Bool.{Bool, true, false, cond, not, _&&_}
 use mathlib.Core.List.{List, []}
 use Prim.Native.Nat.{ℕ, _+_, _-_, _*_, min}
 use lib.Dec.{eqb, leb, ltb}
-use lib.ListN.{length, getD}
+use lib.ListN.{length, getD, replicate}
 use Rattle.ground.specs.Lists.{listed, ceil}
 use Rattle.refusals.specs.declared.Refusal.{Refusal}
 use Rattle.refusals.specs.declared.Refusal.the-variants.{Slot, Shape, Size, Lost, Code}
+use Rattle.refusals.specs.declared.Verdict.{Verdict}
 use Rattle.code.specs.Search.{Repaired}
 use Rattle.code.specs.Search.Repaired.{found, none}
 use Rattle.code.specs.Restore.{lostOf, restoreOf}
@@ -81,3 +82,7 @@ module _ (p : Place) (c : List Content) (n : ℕ) (out : List ℕ) where
 unfoldable pub handColumnsOf : Place → List ℕ → ℕ → List ℕ → Handing
 handColumnsOf p s n out =
     cond (tabled p (length s)) (cond (anyWrong (contents p s)) (refusing Slot out) (handColumns p (contents p s) n out)) (refusing Refusal.Record out)
+
+-- what is answered where the output has room: every refusal but 26
+unfoldable pub weighedOf : Place → List ℕ → ℕ → Verdict
+weighedOf p s n = handColumnsOf p s n (replicate n 0) .answer

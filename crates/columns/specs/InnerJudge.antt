@@ -15,9 +15,7 @@ use Rattle.places.specs.declared.Found.the-variants.{At, Nothing}
 use Rattle.places.specs.Places.{endOf}
 use Rattle.places.specs.Room.{lowestFrom}
 use Rattle.contents.specs.Contents.{Slot as Content, contents, anyWrong}
-use Rattle.standing.specs.Survey.{before}
 use Rattle.losses.specs.Losses.{tabled}
-use Rattle.columns.specs.declared.judge.Judged.{Judged}
 use Rattle.columns.specs.Handing.{Handing, allZero}
 use Rattle.columns.specs.Columns.{sentLength, lengthServes, misfits, lacks, uncoded, rowRestored, rowIn, handFull}
 
@@ -60,12 +58,6 @@ spoilt m size c n q = not (allZero (beyondIn m n q (rowIn (rowRestored m size c 
 -- what is wrong with row q: 1 where it lacks more than sixteen bytes, 2 where it fits no coded row, 3 where its padding is not 0; 0 where nothing is
 unfoldable pub faultOf : ℕ → ℕ → List Content → ℕ → ℕ → ℕ
 faultOf m size c n q = cond (lacks m size c q) 1 (cond (uncoded m size c q) 2 (cond (spoilt m size c n q) 3 0))
-
--- what is wrong with all of them: the first row that lacks more than sixteen bytes; where none does, whether every row is coded, and has 0 in its padding
-pub record Judges (m size : ℕ) (c : List Content) (n rows : ℕ) (j : Judged) : Type 0 where
-  pub lacking : j .lacks ≡ before (lowestFrom (lacks m size c) 0 rows) rows
-  pub coded : j .lacks ≡ rows → j .coded ≡ isNothing (lowestFrom (uncoded m size c) 0 rows)
-  pub clear : j .lacks ≡ rows → j .clear ≡ isNothing (lowestFrom (spoilt m size c n) 0 rows)
 
 -- Hand out where no length is wrong
 unfoldable pub handJudged : Place → List ℕ → ℕ → List ℕ → Handing

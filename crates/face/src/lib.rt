@@ -161,6 +161,6 @@ pub fn put_fields(f: Packet, out: &mut [u32]) -> u64
     out[6] = f.protection as u32;
     out[7] = f.rows as u32;
     out[8] = f.reserved as u32;
-    out[9] = packet::edition_of(f) as u32;
+    out[9] = edition::edition_of(f) as u32;
     0
 }

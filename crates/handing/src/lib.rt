@@ -17,7 +17,7 @@ pub fn hand_place(p: Place, store: &[u8], n: usize, out: &mut [u8]) -> Verdict
         × (now (out .exit) ≡ handPlaceOf p (now (store .entry)) n (now (out .entry)) .output) ⌝ }
 {
     if p.order == 1 {
-        return columns::hand_columns(p, store, n, out);
+        return restoring::hand_columns(p, store, n, out);
     }
     if !is_usable(p, store.len()) {
         return Verdict::Refused(Refusal::Record);

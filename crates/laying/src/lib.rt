@@ -1,7 +1,7 @@
 // The payload of a packet that is sent by columns (document 02, R-8): a part of all tables, column behind column. The information columns are the file's own bytes; a row whose
 // checks are in the part is encoded once, by crate filling, which this stands on.
 ghost use mathlib.Core.Path.{_≡_};
-ghost use Prim.Native.Nat.{_+_, _-_, _*_, _<_, _≤_, min};
+ghost use Prim.Native.Nat.{_+_, _-_, _*_, _<_, _≤_};
 ghost use lib.ListN.{length, getD};
 ghost use lib.Seq.{sets};
 ghost use Rattle.ground.specs.Lists.{listed};
@@ -9,13 +9,6 @@ ghost use Rattle.laying.specs.InnerLay.{sentByte, tableByte, Table, Part
 ghost use Rattle.laying.specs.Lay.{layServes, layVerdict, layInto};
 use refusals::Refusal;
 use refusals::Verdict;
-
-// The lesser of two numbers.
-fn lesser(a: usize, b: usize) -> usize
-    ensures { λ r. ⌜ r ≡ min a b ⌝ }
-{
-    if a <= b { a } else { b }
-}
 
 // Whether `put_columns` serves, given room.
 fn serves(len: usize, m: usize, from: usize, n: usize) -> bool
@@ -57,8 +50,8 @@ fn put_info(file: &[u8], at: usize, n: usize, out: &mut [u8], o: usize)
     requires { ⌜ (at ≤ 16842240) × (n ≤ 4077) × (o + n ≤ length (now out)) ⌝ }
     ensures { λ r. ⌜ now (out .exit) ≡ sets (now (out .entry)) o (listed (λ k. getD (now (file .entry)) k 0) n at) ⌝ }
 {
-    let a = lesser(at, file.len());
-    let b = lesser(at + n, file.len());
+    let a = words::lesser(at, file.len());
+    let b = words::lesser(at + n, file.len());
     words::copy_in(out, o, &file[a..b]);
     put_zeros(n - (b - a), out, o + (b - a));
 }
@@ -92,7 +85,7 @@ fn put_checks(file: &[u8], m: usize, t: usize, p: usize, n: usize, out: &mut [u8
     requires { ⌜ Table (length (now file)) m t × (p + n ≤ 255 * m) × (o + n ≤ length (now out)) ⌝ }
     ensures { λ r. ⌜ now (out .exit) ≡ sets (now (out .entry)) o (listed (tableByte m (now (file .entry)) t) n p) ⌝ }
 {
-    let rows = lesser(n, m);
+    let rows = words::lesser(n, m);
     let mut i: usize = 0;
     while i < rows {
         put_row(file, m, t, p + i, n - i, out, o + i);
@@ -108,11 +101,11 @@ fn put_run(file: &[u8], m: usize, j: usize, left: usize, out: &mut [u8], o: usiz
     let t = j / (255 * m);
     let p = j % (255 * m);
     if p < 239 * m {
-        let n = lesser(left, 239 * m - p);
+        let n = words::lesser(left, 239 * m - p);
         put_info(file, t * (239 * m) + p, n, out, o);
         return n;
     }
-    let n = lesser(left, 255 * m - p);
+    let n = words::lesser(left, 255 * m - p);
     put_checks(file, m, t, p, n, out, o);
     n
 }

@@ -1,10 +1,9 @@
 // Packing a file, packet by packet: document 01, section 4.
 ghost use mathlib.Core.Path.{_≡_};
 ghost use mathlib.Core.Bool.{true};
-ghost use Prim.Native.Nat.{_+_, _≤_, _<_, min};
+ghost use Prim.Native.Nat.{_+_, _≤_, _<_};
 ghost use lib.ListN.{length, take, drop};
 ghost use lib.Seq.{sets};
-ghost use Rattle.ground.specs.Lists.{ceil};
 ghost use Rattle.settings.specs.Settings.{settingsFit, house};
 ghost use Rattle.pack.specs.Pack.{largestFile, codedLength, countOf, payloadOf, headerFor, packetOf, written, packOf, Packs};
 ghost use Rattle.pack.specs.Inner.{payloadLength, planOf, Packable, codedRows, RunFits};
@@ -27,14 +26,6 @@ enum Plan {
 // The longest file.
 const LARGEST_FILE: usize = 16777216;
 
-// a over b, rounded up.
-fn over(a: usize, b: usize) -> usize
-    requires { ⌜ (0 < b) × (a + b < 4294967296) ⌝ }
-    ensures { λ r. ⌜ r ≡ ceil a b ⌝ }
-{
-    (a + (b - 1)) / b
-}
-
 // The bytes that are sent of a file of `len` bytes: the file itself, or its coded rows.
 fn coded_length(settings: Settings, len: usize) -> usize
     requires { ⌜ (settingsFit settings ≡ true) × (len ≤ largestFile) ⌝ }
@@ -44,14 +35,7 @@ fn coded_length(settings: Settings, len: usize) -> usize
         return len;
     }
     let rows = settings.rows as usize;
-    255 * rows * over(len, 239 * rows)
-}
-
-// The smaller of the two.
-fn lesser(size: usize, left: usize) -> usize
-    ensures { λ r. ⌜ r ≡ min size left ⌝ }
-{
-    if size <= left { size } else { left }
+    255 * rows * words::over(len, 239 * rows)
 }
 
 // The first of the refusals 17, 23, 25, 6; or what packet `number` of a file of `len` bytes will be.
@@ -69,14 +53,17 @@ fn judge(settings: Settings, len: usize, number: u32) -> Plan
     }
     let coded = coded_length(settings, len);
     let size = settings.size as usize;
-    let count = over(coded, size);
+    let count = words::over(coded, size);
     if 1048575 < count {
         return Plan::Stop(Refusal::Count);
     }
     if count <= number as usize {
         return Plan::Stop(Refusal::Number);
     }
-    Plan::Go(count as u32, lesser(size, coded - number as usize * size))
+    Plan::Go(
+        count as u32,
+        words::lesser(size, coded - number as usize * size),
+    )
 }
 
 // The bytes of `src` from `from` on, n of them, at the start of `out`.
@@ -96,7 +83,7 @@ fn put_header(settings: Settings, number: u32, count: u32, size: usize, out: &mu
     requires { ⌜ (size ≤ 4077) × (14 ≤ length (now out)) ⌝ }
     ensures { λ r. ⌜ now (out .exit) ≡ sets (now (out .entry)) 0 (headerFor settings count number size) ⌝ }
 {
-    let head = packet::header(Packet {
+    let head = fields::header(Packet {
         resource: settings.resource,
         number: number,
         update: settings.update,
@@ -105,7 +92,7 @@ fn put_header(settings: Settings, number: u32, count: u32, size: usize, out: &mu
         kind: settings.kind,
         protection: settings.protection,
         rows: settings::rows_sent(settings),
-        reserved: packet::spare_of(settings.edition).reserved,
+        reserved: edition::spare_of(settings.edition).reserved,
     });
     put_part(&head, 0, Packet::HEADER, out);
 }
@@ -115,7 +102,7 @@ fn put_run(file: &[u8], m: usize, q: usize, left: usize, out: &mut [u8], at: usi
     requires { ⌜ (0 < left) × RunFits (now file) m q left (length (now out)) at ⌝ }
     ensures { λ r. ⌜ (0 < r) × (r ≤ left) × (now (out .exit) ≡ sets (now (out .entry)) at (codedRows (now (file .entry)) m q r)) ⌝ }
 {
-    let n = lesser(left, m - q % m);
+    let n = words::lesser(left, m - q % m);
     filling::put_rows(file, m, q / m * (239 * m) + q % m, n, &mut out[at..]);
     n
 }

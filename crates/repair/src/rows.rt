@@ -60,7 +60,7 @@ pub(crate) fn mend_from(rows: &mut [u8], i: usize, rests: &[u8; 240]) -> usize
     if rows.len() == 0 {
         return 15;
     }
-    let e = errata::find(rest_in(rests, i));
+    let e = solving::find(rest_in(rests, i));
     if !e.fits {
         return i;
     }

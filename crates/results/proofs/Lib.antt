@@ -9,10 +9,11 @@ pub mod Encoding
 pub mod Filling
 pub mod Laying
 pub mod Terms
-pub mod Errata
+pub mod Solving
 pub mod Repair
 pub mod Single
-pub mod Packet
+pub mod Fields
+pub mod Edition
 pub mod Sealing
 pub mod Settings
 pub mod Pack
@@ -20,10 +21,11 @@ pub mod Places
 pub mod Room
 pub mod Contents
 pub mod Opening
-pub mod Record
+pub mod Offering
 pub mod Standing
 pub mod Losses
-pub mod Columns
+pub mod Weighing
+pub mod Restoring
 pub mod Handing
 pub mod Readout
 pub mod Descriptions

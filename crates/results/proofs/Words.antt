@@ -26,3 +26,9 @@ same-one κs a r s d e p q = (equation p q, refl)
 
 pub within-one : OneResult words.within.ended words.within.Reads.Learnt
 within-one κs a r s d e p q = (equation p q, refl)
+
+pub lesser-one : OneResult words.lesser.ended words.lesser.Reads.Learnt
+lesser-one κs a r s d e p q = (equation p q, refl)
+
+pub over-one : OneResult words.over.ended words.over.Reads.Learnt
+over-one κs a r s d e p q = (equation p q, refl)

@@ -96,7 +96,7 @@ pub fn rows_sent(settings: Settings) -> u8
     if settings.protection != 0 {
         return settings.rows;
     }
-    packet::spare_of(settings.edition).rows
+    edition::spare_of(settings.edition).rows
 }
 
 // The house setting, for a packing or an opening call that names none.

@@ -1,8 +1,9 @@
-// Bytes as numbers of a wider type, the bytes of a word, bytes copied and compared, and numbers in a range. A wider number asks of a caller no more than the byte: that it is below 256 is known of
+// Bytes as numbers of a wider type, the bytes of a word, bytes copied and compared, numbers in a range, the lesser of two, and quotients rounded up. A wider number asks of a caller no more than the byte: that it is below 256 is known of
 // the result.
 ghost use mathlib.Core.Path.{_≡_};
-ghost use Prim.Native.Nat.{_+_, _<_, _≤_};
+ghost use Prim.Native.Nat.{_+_, _<_, _≤_, min};
 ghost use lib.Seq.{sets};
+ghost use Rattle.ground.specs.Lists.{ceil};
 ghost use Rattle.ground.specs.Ranges.{between};
 ghost use Rattle.words.specs.Words.{byteAt, same};
 
@@ -85,4 +86,24 @@ pub fn within(low: u64, high: u64, n: u64) -> bool
     ensures { λ r. ⌜ r ≡ between low high n ⌝ }
 {
     (low <= n) & (n <= high)
+}
+
+// The lesser of two numbers.
+pub fn lesser(a: usize, b: usize) -> usize
+    ensures { λ r. ⌜ r ≡ min a b ⌝ }
+{
+    if a <= b { a } else { b }
+}
+
+// a over b, rounded up; 0 where b is 0.
+pub fn over(a: usize, b: usize) -> usize
+    ensures { λ r. ⌜ r ≡ ceil a b ⌝ }
+{
+    if b == 0 {
+        return 0;
+    }
+    if a == 0 {
+        return 0;
+    }
+    (a - 1) / b + 1
 }

@@ -22,9 +22,7 @@ mul-over : tie.Need-mul-over
 mul-over c = omega arith
 
 over-requires : tie.Need-over-requires
-over-requires c κs =
-    let p : 0 < c .before .before .before .args .settings .rows = rows-positive _ (c .before .before .before .pre .0) (c .before .if1 .left) in
-    search needs
+over-requires c κs = tt
 
 mul-result-2 : tie.Need-mul-result-2
 mul-result-2 c =

@@ -2,7 +2,7 @@
 -- Assumes nothing.
 use mathlib.Core.Path.{_≡_, sym, ap, ap₂, subst, _∙_}
 use mathlib.Core.Bool.{Bool, true, false, not}
-use Prim.Native.Nat.{ℕ, _+_, _-_, _*_, _<_, _≤_, min}
+use Prim.Native.Nat.{ℕ, _-_, _*_, _<_, _≤_, min}
 use native.Mathlib.Nat.{mul-le-mul, le-of-lt}
 use native.Mathlib.Omega.{arith}
 use borrow.Author.Needs.{needs}
@@ -15,7 +15,6 @@ use Rattle.settings.proofs.Laws.{settings-facts}
 use Rattle.pack.specs.Pack.{codedLength, countOf}
 use Rattle.pack.specs.Inner.{payloadLength}
 use Rattle.pack.specs.declared.Plan.the-variants.{Go}
-use Rattle.pack.proofs.Laws.{coded-few}
 use Rattle.pack.proofs.Plans.{plan-field, plan-none, plan-long, plan-count, plan-number, plan-go}
 use Rattle.pack.proofs.judge.Statement.{statement}
 use Rattle.pack.proofs.judge.Tie as tie
@@ -47,11 +46,7 @@ cast-size : tie.Need-cast-size
 cast-size c = omega arith
 
 over-requires : tie.Need-over-requires
-over-requires c κs =
-    let g = c .before .before .before .before .before .before .args .settings in
-    let fit : settingsFit g ≡ true = fitting g _ (c .before .before .before .before .before .settings-fit .ensures) (c .before .before .before .before .if1 .left) in
-    let few : c .before .coded-length .result ≤ 2 * (c .before .before .before .before .before .before .args .len + 60945) = rw (c .before .coded-length .ensures) (coded-few g _ fit) in
-    omega (arith, settings-facts g fit .size .least, settings-facts g fit .size .most, c .before .before .if3 .left)
+over-requires c κs = tt
 
 returns-4 : tie.Need-returns-4
 returns-4 c =

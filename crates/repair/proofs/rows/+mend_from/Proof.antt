@@ -16,7 +16,7 @@ use Rattle.repair.proofs.AllRows.{no-rows, some-rows, row-broken, row-d
 use Rattle.repair.proofs.rows.mend_from.Reads as mend-from
 use Rattle.repair.proofs.rows.mend_from.Kinds as mend-from-kinds
 use Rattle.repair.proofs.rows.+mend_from.Lts-mend_from as mend-from-lts
-use Rattle.errata.proofs.find.Reads as find-reads
+use Rattle.solving.proofs.find.Reads as find-reads
 use Rattle.repair.proofs.rows.finish.Reads as finish-reads
 use Rattle.repair.proofs.rows.rest_in.Reads as rest-in-reads
 use Rattle.repair.proofs.rows.+mend_from.{statement}
