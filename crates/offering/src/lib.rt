@@ -11,7 +11,7 @@ ghost use Rattle.places.specs.Places.{names, fits};
 ghost use Rattle.contents.specs.Contents.{slotAt};
 ghost use Rattle.code.specs.Mend.{mendRows};
 ghost use Rattle.record.specs.Offer.{packetName, differs, judgeMended, judge, offerJudged, offerOf};
-ghost use Rattle.record.specs.InnerOffer.{Comes, judgeCrc, refusalIn, nowhere};
+ghost use Rattle.record.specs.InnerOffer.{Comes, refusalIn, nowhere};
 use packet::Packet;
 use packet::Reading;
 use places::Found;
@@ -84,38 +84,6 @@ fn differs(p: Place, fields: Packet) -> bool
     fields.protection == 1 && fields.rows != p.rows
 }
 
-// A payload, of which `mended` bytes were mended, meets the slot of its number: an empty one takes it, and no other changes. `agrees` says whether the packet's CRC is
-// that of its header and this payload; where it is not, the slot is not looked at.
-fn put_in(
-    p: Place,
-    store: &mut [u8],
-    number: u32,
-    payload: &[u8],
-    mended: u32,
-    agrees: bool,
-) -> Offered
-    requires { ⌜ (slotAt p number + (p .slot + 2) ≤ length (now store)) × (length (now payload) ≤ p .slot) ⌝ }
-    ensures { λ r. ⌜ Comes (offerJudged p (now (store .entry)) (judgeCrc number (now (payload .entry)) mended agrees)) r (now (store .exit)) ⌝ }
-{
-    if !agrees {
-        return Offered::Refused(Refusal::Crc);
-    }
-    let at = p.start as usize + number as usize * (p.slot as usize + 2);
-    let n = contents::slot_length(store, at);
-    if !contents::length_fits(p, n) {
-        return Offered::Refused(Refusal::Slot);
-    }
-    if n == 0 {
-        contents::put_slot(store, at, payload);
-        return Offered::Stored(mended);
-    }
-    let from = at + 2;
-    if words::same(&store[from..from + n], payload) {
-        return Offered::Repeat(mended);
-    }
-    Offered::Refused(Refusal::Conflict)
-}
-
 // A packet with protection: each row of its payload is repaired first, and the repaired payload goes on. There are fifteen rows at most.
 fn offer_rows(p: Place, store: &mut [u8], number: u32, packet: &[u8], payload: &[u8]) -> Offered
     requires { ⌜ (slotAt p number + (p .slot + 2) ≤ length (now store)) × (14 ≤ length (now packet)) × (length (now payload) ≤ p .slot) × (length (now payload) ≤ 3825) × (length (now payload) % 255 ≡ 0) ⌝ }
@@ -130,7 +98,7 @@ fn offer_rows(p: Place, store: &mut [u8], number: u32, packet: &[u8], payload: &
         return Offered::Refused(refusal);
     }
     let repaired = &buffer[..n];
-    put_in(
+    storing::put_in(
         p,
         store,
         number,
@@ -157,7 +125,7 @@ fn offer_at(p: Place, store: &mut [u8], fields: Packet, packet: &[u8]) -> Offere
         return Offered::Refused(Refusal::Wide);
     }
     if !settings::row_wise(fields.protection, p.order) {
-        return put_in(
+        return storing::put_in(
             p,
             store,
             fields.number,

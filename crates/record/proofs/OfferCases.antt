@@ -5,11 +5,12 @@ use mathlib.Core.Bool.{Bool, true, false, cond, not}
 use mathlib.Core.List.{List}
 use Prim.Native.Nat.{ℕ, zero, suc, _+_, _-_, _/_, _%_, _<_, _≤_}
 use native.Mathlib.Omega.{arith}
-use borrow.Author.Tests.{lt-ltb, le-ltb, ltb-false, eq-eqb, ne-eqb, eqb-true, not-false}
-use lib.Dec.{eqb, ltb}
+use borrow.Author.Tests.{lt-ltb, le-ltb, ltb-false, le-leb, leb-true, eq-eqb, ne-eqb, eqb-true, not-false}
+use lib.Dec.{eqb, leb, ltb}
 use lib.ListN.{length, getD, take, drop, replicate, length-drop, length-replicate}
 use lib.Seq.{sets, take-at, length-take-le}
 use Rattle.ground.proofs.Writing.{sets-front}
+use Rattle.ground.proofs.Truth.{and-both, and-join}
 use Rattle.words.specs.Words.{same}
 use Rattle.refusals.specs.declared.Refusal.{Refusal}
 use Rattle.refusals.specs.declared.Refusal.the-variants.{Unknown, Other, Edition, Wide, Crc, Slot, Conflict}
@@ -35,7 +36,8 @@ use Rattle.code.specs.Mend.{Mended, whole, broken, mendRows}
 use Rattle.record.specs.Mend.{payloadIn, mendedIn}
 use Rattle.sealing.specs.Sealing.{agrees}
 use Rattle.record.specs.Offer.{packetName, readFor, differs, Judged, refuse, put, judgeMended, mendAs, judge, Offering, storing, offerJudged, offerOf, judgeBy, offerBy}
-use Rattle.record.specs.InnerOffer.{Comes, judgeCrc, refusalIn}
+use Rattle.record.specs.InnerOffer.{Comes, refusalIn}
+use Rattle.record.specs.Put.{judgeCrc, slotHas, putOf}
 
 abbrev pub said : Offered → List ℕ → Offering
 said a s = record { answer = a; store = s }
@@ -47,7 +49,31 @@ told e = (ap (λ (x : Offering). x .answer) (sym e), ap (λ (x : Offering). x .s
 pub come : {o o′ : Offering} {a : Offered} {s : List ℕ} → o ≡ o′ → Comes o′ a s → Comes o a s
 come e c = (c .0 ∙ ap (λ (x : Offering). x .answer) (sym e), c .1 ∙ ap (λ (x : Offering). x .store) (sym e))
 
--- ---- a payload and the slot of its number, which stands at at and has the length n, where the CRC agrees with it
+-- ---- a payload and the slot of its number
+
+module _ (p : Place) (s : List ℕ) (k : ℕ) (b : List ℕ) (m : ℕ) (a : Bool) where
+  -- the code's own start of the slot
+  module _ (at : ℕ) (d : at ≡ slotAt p k) (r : Bool) (t : r ≡ slotHas p (length s) at (length b)) where
+    pub put-nowhere : r ≡ false → putOf p s k b m a ≡ said (Refused Refusal.Record) s
+    unfolding putOf
+    put-nowhere e = rw (← d, sym t ∙ e) refl
+
+    pub put-there : r ≡ true → putOf p s k b m a ≡ offerJudged p s (judgeCrc k b m a)
+    unfolding putOf
+    put-there e = rw (← d, sym t ∙ e) refl
+
+    pub put-room : r ≡ true → (at + (p .slot + 2) ≤ length s) × (length b ≤ p .slot)
+    put-room e =
+        let w = and-both (leb (at + (p .slot + 2)) (length s)) (leb (length b) (p .slot)) (sym t ∙ e) in
+        (leb-true _ _ (w .0), leb-true _ _ (w .1))
+
+  -- a slot that is there
+  pub put-at : slotAt p k + (p .slot + 2) ≤ length s → length b ≤ p .slot → putOf p s k b m a ≡ offerJudged p s (judgeCrc k b m a)
+  put-at l h =
+      let t : slotHas p (length s) (slotAt p k) (length b) ≡ true = and-join (le-leb _ _ l) (le-leb _ _ h) in
+      put-there (slotAt p k) refl true (sym t) refl
+
+-- which starts at at and has the length n, where the CRC agrees with the payload
 
 pub put-crc : (p : Place) (s : List ℕ) (k : ℕ) (b : List ℕ) (m : ℕ) (a : Bool) → a ≡ false → offerJudged p s (judgeCrc k b m a) ≡ said (Refused Crc) s
 put-crc p s k b m a h = rw h refl

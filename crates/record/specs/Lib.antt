@@ -1,4 +1,5 @@
 pub mod Mend
 pub mod Offer
+pub mod Put
 pub mod InnerOffer
 pub mod Told

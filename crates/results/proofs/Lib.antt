@@ -21,6 +21,7 @@ pub mod Places
 pub mod Room
 pub mod Contents
 pub mod Opening
+pub mod Storing
 pub mod Offering
 pub mod Standing
 pub mod Losses

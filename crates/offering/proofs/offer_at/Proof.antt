@@ -16,7 +16,7 @@ use Rattle.contents.specs.Contents.{slotAt}
 use Rattle.record.specs.Mend.{payloadIn}
 use Rattle.record.specs.Offer.{packetName, differs, offerJudged}
 use Rattle.sealing.proofs.Laws.{agrees-long}
-use Rattle.record.proofs.OfferCases.{told, come, payload-cut, rows-cut, judge-other, judge-edition, judge-wide, offer-as-it-came, offer-repaired}
+use Rattle.record.proofs.OfferCases.{told, come, put-at, payload-cut, rows-cut, judge-other, judge-edition, judge-wide, offer-as-it-came, offer-repaired}
 use Rattle.record.proofs.OfferFacts.{no-stream, slot-room, mends-nothing, mends-rows, rows-judged, rows-protected}
 use Rattle.offering.proofs.offer_at.Statement.{statement}
 use Rattle.offering.proofs.offer_at.Tie as tie
@@ -84,7 +84,7 @@ agrees-requires : tie.Need-agrees-requires
 agrees-requires c κs = tt
 
 put-in-requires : tie.Need-put-in-requires
-put-in-requires c κs = (room (c .before .before .before .before .before .before .before .before .before .before), omega arith)
+put-in-requires c κs = tt
 
 same-length : tie.Need-same-length
 same-length c = omega arith
@@ -94,7 +94,7 @@ returns-4 c =
     let p = c .before .before .before .before .before .before .before .before .before .before .before .before .before .before .before .before .before .args .p in
     let f = c .before .before .before .before .before .before .before .before .before .before .before .before .before .before .before .before .before .args .fields in
     let q = c .before .before .before .before .before .before .before .before .before .before .before .before .before .before .before .before .before .args .packet .now in
-    come (offer-as-it-came p f q (alike (c .before .before .before .before .before .before .before .before .before .before .before .before .before)) (own (c .before .before .before .before .before .before .before .before .before .before)) _ (narrow (c .before .before .before .before .before .before .before)) (mends-nothing p f (sym (c .before .before .before .before .before .before .row-wise .ensures) ∙ not-true _ (c .before .before .before .before .before .if4 .taken))) _ (c .before .before .before .agrees .ensures ∙ agrees-long q _ (headed (c .before .before .before .before .before .before .before .before .before .before .before .before .before .before .before)))) (c .before .before .put-in .ensures)
+    come (offer-as-it-came p f q (alike (c .before .before .before .before .before .before .before .before .before .before .before .before .before)) (own (c .before .before .before .before .before .before .before .before .before .before)) _ (narrow (c .before .before .before .before .before .before .before)) (mends-nothing p f (sym (c .before .before .before .before .before .before .row-wise .ensures) ∙ not-true _ (c .before .before .before .before .before .if4 .taken))) _ (c .before .before .before .agrees .ensures ∙ agrees-long q _ (headed (c .before .before .before .before .before .before .before .before .before .before .before .before .before .before .before)))) (come (sym (put-at p _ (f .number) _ _ _ (room (c .before .before .before .before .before .before .before .before .before .before .before .before .before)) (omega (arith, narrow (c .before .before .before .before .before .before .before), ap length (payload-cut q))))) (c .before .before .put-in .ensures))
 
 offer-rows-requires : tie.Need-offer-rows-requires
 offer-rows-requires c κs =

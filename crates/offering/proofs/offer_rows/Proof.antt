@@ -11,7 +11,7 @@ use Rattle.repair.proofs.AllRows.{mend-accepted}
 use Rattle.code.specs.Mend.{whole}
 use Rattle.record.specs.Offer.{offerJudged}
 use Rattle.sealing.proofs.Laws.{agrees-long}
-use Rattle.record.proofs.OfferCases.{told, come, copied-part, rows-broken, mended-crc}
+use Rattle.record.proofs.OfferCases.{told, come, put-at, copied-part, rows-broken, mended-crc}
 use Rattle.offering.proofs.offer_rows.Statement.{statement}
 use Rattle.offering.proofs.offer_rows.Tie as tie
 
@@ -77,9 +77,7 @@ agrees-requires : tie.Need-agrees-requires
 agrees-requires c κs = tt
 
 put-in-requires : tie.Need-put-in-requires
-put-in-requires c κs =
-    let m = c .before .before .before .before .before .before in
-    (omega arith, omega (arith, ap length (front m (drop (length (b (copied m))) (copied m .copy-in .last .0))), long m))
+put-in-requires c κs = tt
 
 same-length : tie.Need-same-length
 same-length c = omega arith
@@ -93,7 +91,11 @@ returns-2 c =
     (mended-crc (a .number) (a .packet .now) _ _ _
     (mend-accepted (b (copied m)) (c .before .before .before .before .before .before .before .before .before .before .before .before .before .before .before .before .before .pre .4) (c .before .before .before .before .before .before .before .before .before .before .before .before .before .before .before .before .before .pre .3) _ _ (mended m) (c .before .before .before .before .before .before .enum-told .given .1) ∙ ap (λ (l : List ℕ). whole l (m .mend .result .count)) (sym (front m _)))
     _ (c .before .before .before .agrees .ensures ∙ agrees-long (a .packet .now) _ (c .before .before .before .before .before .before .before .before .before .before .before .before .before .before .before .before .before .pre .1))))
-    (c .before .before .put-in .ensures)
+    (come
+    (sym
+    (put-at (a .p) (a .store .now) (a .number) _ _ _ (c .before .before .before .before .before .before .before .before .before .before .before .before .before .before .before .before .before .pre .0)
+    (omega (arith, ap length (front m (drop (length (b (copied m))) (copied m .copy-in .last .0))), long m, c .before .before .before .before .before .before .before .before .before .before .before .before .before .before .before .before .before .pre .2))))
+    (c .before .before .put-in .ensures))
 
 pub offer-rows-spec : {M : Type 1} → statement M
 offer-rows-spec =

@@ -1,0 +1,14 @@
+-- The first where it is not above the second, else the second.
+-- Assumes nothing.
+use native.Mathlib.Omega.{arith}
+use Rattle.words.proofs.lesser.Statement.{statement}
+use Rattle.words.proofs.lesser.Tie as tie
+
+returns : tie.Need-returns
+returns c = omega arith
+
+returns-2 : tie.Need-returns-2
+returns-2 c = omega arith
+
+pub lesser-spec : {M : Type 1} → statement M
+lesser-spec = tie.close (tie.spec returns returns-2)
