@@ -49,20 +49,29 @@ def powers_of_alpha():
 ALPHA = powers_of_alpha()
 
 
-# ---- the CRC, 000 Annex C: a shift register, bit by bit. The polynomial's own top bit takes away the bit that leaves
+# ---- the CRC, 000 Annex C: a shift register. The polynomial's own top bit takes away the bit that leaves
 
 
 def crc32(data):
     return crc_of(bytes(data))
 
 
+def shifted_out(register):
+    """Eight bits leave at the top, one by one."""
+    for _ in range(8):
+        register = register << 1 ^ 0x104C11DB7 if register >> 31 else register << 1
+    return register
+
+
+# what is left of each byte that stands alone at the register's top; the step is linear, so the other 24 bits only move up
+LEAVING = [shifted_out(byte << 24) for byte in range(256)]
+
+
 @functools.lru_cache(maxsize=64)
 def crc_of(data):
     register = 0xFFFFFFFF
     for byte in data:
-        register ^= byte << 24
-        for _ in (7, 6, 5, 4, 3, 2, 1, 0):
-            register = register << 1 ^ 0x104C11DB7 if register >> 31 else register << 1
+        register = (register & 0xFFFFFF) << 8 ^ LEAVING[register >> 24 ^ byte]
     return register ^ 0xFFFFFFFF
 
 
