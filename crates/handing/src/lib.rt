@@ -1,5 +1,5 @@
 // The file that one place holds: document 01, section 5, Hand out, behind the refusals 9 and 10. Every refusal is ruled out before a byte is written; the store is
-// only read. A place in column order is handed out by crate columns.
+// only read. A place in column order is handed out by crate restoring.
 ghost use mathlib.Core.Path.{_≡_};
 ghost use lib.ListN.{length};
 ghost use Rattle.handing.specs.Hand.{usableIn, handPlaceOf};

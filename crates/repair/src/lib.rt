@@ -1,5 +1,5 @@
 // Repair of rows of RS(255,239), exact: the one coded row within eight bytes, or that there is none (document 01, section 3, and demand 2). What is to be added to a row
-// is found in crate errata.
+// is found in crate solving.
 ghost use mathlib.Core.Path.{_≡_};
 ghost use Prim.Native.Nat.{_≤_};
 ghost use Rattle.repair.specs.InnerRows.{toldOf};
