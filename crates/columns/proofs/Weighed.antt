@@ -28,10 +28,10 @@ use Rattle.columns.proofs.LengthLaws.{serves-known}
 use Rattle.columns.proofs.Handed.{handed-short, handed-whole}
 use Rattle.columns.proofs.HandLaws.{Comes, comes, comes-from, columns-record, columns-slot, columns-size, columns-shape, shaped, columns-shaped, judged-lost, judged-code, judged-padding, judged-whole}
 
-module _ (p : Place) (s : List ℕ) (n : ℕ) where
-  abbrev rows : ℕ
-  rows = p .rows * tablesOf (p .rows) n
+not-both : {X : Type 0} (r : Refusal) → Refused r ≡ Accepted → X
+not-both r e = let d : _≡_ {A = ℕ} 0 1 = cc in absurd (omega arith)
 
+module _ (p : Place) (s : List ℕ) (n : ℕ) where
   abbrev lacking : Found
   lacking = lowestFrom (lacks (p .rows) (p .slot) (contents p s)) 0 (p .rows * tablesOf (p .rows) n)
 
@@ -135,10 +135,7 @@ module _ (p : Place) (s : List ℕ) (n : ℕ) where
           let z : Refused x ≡ Refused r = weighed-as (refusing x (replicate n 0)) (h (replicate n 0)) ∙ e in
           let d : x ≡ r = cc in
           h out ∙ ap (λ (y : Refusal). refusing y out) d
-      by (passes w h) =
-          let z : Accepted ≡ Refused r = weighed-whole (h (replicate n 0)) ∙ e in
-          let d : _≡_ {A = ℕ} 0 1 = cc in
-          absurd (omega arith)
+      by (passes w h) = not-both r (sym (weighed-whole (h (replicate n 0)) ∙ e))
 
   -- ---- accepted
 
@@ -148,20 +145,14 @@ module _ (p : Place) (s : List ℕ) (n : ℕ) where
     by-room out = by weighs
       where
         by : Weighs → handColumnsOf p s n out ≡ handed fileIn out
-        by (refuses x h) =
-            let z : Refused x ≡ Accepted = weighed-as (refusing x (replicate n 0)) (h (replicate n 0)) ∙ e in
-            let d : _≡_ {A = ℕ} 0 1 = cc in
-            absurd (omega arith)
+        by (refuses x h) = not-both x (weighed-as (refusing x (replicate n 0)) (h (replicate n 0)) ∙ e)
         by (passes w h) = h out
 
     pub weighed-writable : p .rows ≤ 255 → p .slot ≤ 65535 → Writable p s n
     weighed-writable = by weighs
       where
         by : Weighs → p .rows ≤ 255 → p .slot ≤ 65535 → Writable p s n
-        by (refuses x h) =
-            let z : Refused x ≡ Accepted = weighed-as (refusing x (replicate n 0)) (h (replicate n 0)) ∙ e in
-            let d : _≡_ {A = ℕ} 0 1 = cc in
-            absurd (omega arith)
+        by (refuses x h) = not-both x (weighed-as (refusing x (replicate n 0)) (h (replicate n 0)) ∙ e)
         by (passes w h) = w
 
     pub weighed-short : (out : List ℕ) → length out < n → Comes (handColumnsOf p s n out) (Refused Output) out

@@ -1,5 +1,5 @@
-// Whether the file that a place in column order holds can be handed out: document 02, R-8, every refusal but 9 and 10 of Hand out and the output's room. Nothing is written;
-// lengths are judged first, then row by row what is lost, what fits no coded row, and the padding.
+// Whether the file that a place in column order holds can be handed out: document 02, R-8, behind the refusals 9 and 10, and but for the output's room. Nothing is
+// written; lengths are judged first, then row by row what is lost, what fits no coded row, and the padding.
 ghost use mathlib.Core.Path.{_≡_};
 ghost use lib.ListN.{replicate};
 ghost use Rattle.columns.specs.Columns.{handColumnsOf, weighedOf};
