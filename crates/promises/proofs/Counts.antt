@@ -24,7 +24,7 @@ use Rattle.promises.proofs.Noise.{refused-is-noise}
 use Rattle.promises.proofs.Own.{fair-each, own, own-before, own-behind}
 use Rattle.promises.proofs.Demand.{collected, refuses}
 use Rattle.promises.proofs.Slots.{held-found}
-use Rattle.promises.proofs.Turned.{one, byte, protected}
+use Rattle.promises.proofs.Example.{one, byte, protected}
 
 -- a packet with another count is not of the place's file
 count-differs : (p : Place) (f : Packet) → (f .count ≡ p .count → ⊥) → differs p f ≡ true

@@ -3,7 +3,6 @@ pub mod Noise
 pub mod Judged
 pub mod NoSecond
 pub mod Columns
-pub mod Unrestored
 pub mod Views
 pub mod Sequences
 pub mod Own
@@ -14,10 +13,7 @@ pub mod Graded
 pub mod EachRow
 pub mod Slots
 pub mod Cases
-pub mod Turned
+pub mod Example
 pub mod Counts
 pub mod Editions
 pub mod Beside
-pub mod Misread
-pub mod Replaced
-pub mod FirstRow

@@ -1,5 +1,3 @@
 pub mod Calls
 pub mod Statements
-pub mod Wrong
-pub mod Misreadings
 pub mod Cases

@@ -19,8 +19,6 @@ use Rattle.code.proofs.Lists.{zeros-bytes, bytes-cons, append-bytes}
 use Rattle.code.proofs.Division.{remainder-coded}
 use Rattle.code.proofs.Distance.{distance-self, coded-unique}
 use Rattle.code.proofs.Exact.{repair-coded}
-use Rattle.settings.specs.declared.Settings.{Settings}
-use Rattle.settings.specs.Settings.{settingsFit}
 use Rattle.pack.specs.Pack.{packetOf}
 use Rattle.places.specs.declared.Place.{Place}
 use Rattle.places.specs.declared.Found.the-variants.{At, Nothing}
@@ -36,26 +34,17 @@ use Rattle.record.proofs.OfferFacts.{read-least}
 use Rattle.columns.specs.Handing.{Handing}
 use Rattle.handing.specs.Hand.{handContents, handOutOf}
 use Rattle.handing.proofs.HandCases.{out-found}
 use Rattle.promises.specs.Calls.{Answer, telling, State, Outcome, step, fresh}
 use Rattle.promises.specs.Calls.Call.{opening, offering, asking}
-use Rattle.promises.specs.Statements.{WholeRows, MendsEachRow, Protected, Carries, FromFresh, placeAt, Held, slotsTold, StatusBySlots, Carried, Accepts, OffersBySlots}
-use Rattle.promises.specs.Wrong.{refusing, losing, boasting, invented, inventing, firstRowOnly}
+use Rattle.promises.specs.Statements.{WholeRows, MendsEachRow, Carries, FromFresh, placeAt, Held, slotsTold, StatusBySlots, Carried, Accepts, OffersBySlots}
+use Rattle.turned.specs.Wrong.{refusing, losing, boasting, invented, inventing, firstRowOnly}
+use Rattle.promises.proofs.Example.{one, byte, protected}
 use Rattle.promises.proofs.Own.{some-carry}
 use Rattle.promises.proofs.Demand.{Collecting, opened-collecting}
 use Rattle.promises.proofs.Fresh.{takes, taken}
 use Rattle.promises.proofs.Slots.{held-found, found-held, status-by-slots}
 
 -- ---- the example
-
-abbrev pub one : Settings
-one = record { resource = 5; kind = 1; update = 0; protection = 1; rows = 1; size = 255; edition = 2; order = 0 }
-
-abbrev pub byte : List ℕ
-byte = 7 ∷ []
-
-pub protected : Protected one byte
-unfolding settingsFit Bytes
-protected = record { bytes = (omega arith, tt); some = omega arith; limit = omega arith; fit = refl; protection = refl; count = omega arith }
 
 abbrev pub packet : List ℕ
 packet = packetOf one byte 0

@@ -39,19 +39,19 @@ use Rattle.code.specs.Mend.{whole, behind, alteredIn}
 use Rattle.opening.specs.Open.{Opening, openOf}
 use Rattle.opening.proofs.PlanLaws.{Taking}
 use Rattle.opening.proofs.OpenLaws.{open-empty}
 use Rattle.promises.specs.Calls.{Answer, telling, State, fresh, step}
 use Rattle.promises.specs.Calls.Call.{opening, offering}
 use Rattle.promises.specs.Statements.{Protected, Copy, rowIn, bytesAltered, Fair, AllFair, Offers, Carries, HandsOut, Demand3, FromFresh, GradedFromFresh}
 use Rattle.refusals.specs.declared.Refusal.the-variants.{Crc, Missing}
 use lib.Dec.{eqb, ltb}
 use Rattle.pack.proofs.Laws.{fieldsOf, packet-edition}
 use Rattle.sealing.specs.Sealing.{agrees}
 use Rattle.record.specs.Offer.{Offering, storing, putInto, put, refuse, judgeMended, judgeBy, offerJudged, offerBy}
-use Rattle.promises.specs.Wrong.{firstRowOnly, mendingFirst, hushed, silent}
+use Rattle.turned.specs.Wrong.{firstRowOnly, mendingFirst, hushed, silent}
 use Rattle.promises.proofs.Judged.{not-different}
 use Rattle.promises.proofs.Demand.{Collecting, copy-reads-there, opened-collecting}
 use Rattle.promises.proofs.Fresh.{takes, taken, opens}
-use Rattle.promises.proofs.Turned.{zero-row, wrong-row, wrong-bytes, zero-coded}
+use Rattle.turned.proofs.Turned.{zero-row, wrong-row, wrong-bytes, zero-coded}
 
 abbrev two : Settings
 two = record { resource = 5; kind = 1; update = 0; protection = 1; rows = 1; size = 510; edition = 2; order = 0 }

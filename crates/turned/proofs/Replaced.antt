@@ -30,15 +30,16 @@ use Rattle.record.specs.declared.Offered.the-variants.{Refused}
 use Rattle.record.specs.Offer.{packetName, readFor, Offering, put, judge, putInto, storing, offerJudged, offerOf}
 use Rattle.record.specs.Told.{offeredTold}
 use Rattle.record.proofs.OfferCases.{offer-placed}
 use Rattle.promises.specs.Calls.{State, Outcome, step, telling}
 use Rattle.promises.specs.Calls.Call.{offering}
 use Rattle.promises.specs.Statements.{bytesAltered, Protected, Copy, placeAt, slotIn, Carried, Accepts, OffersBySlots, RefusalsChangeNothing}
-use Rattle.promises.specs.Misreadings.{putAt, putFound, putRead, replacing}
+use Rattle.turned.specs.Misreadings.{putAt, putFound, putRead, replacing}
 use Rattle.promises.proofs.Judged.{copy-name, copy-reads, copy-judged}
 use Rattle.promises.proofs.Own.{whole-copy}
 use Rattle.promises.proofs.Demand.{read-there, Collecting, copy-go}
 use Rattle.promises.proofs.Slots.{held-found}
-use Rattle.promises.proofs.Turned.{one, byte, protected, packet, opened, begun}
+use Rattle.promises.proofs.Example.{one, byte, protected}
+use Rattle.turned.proofs.Turned.{packet, opened, begun}
 
 -- ---- two files of one byte
 

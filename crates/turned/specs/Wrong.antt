@@ -1,4 +1,4 @@
--- Programs that are turned away: document 01, section 7; document 02, R-7, R-8 and R-9. Each is of the calls' own type, and does all else as `step` does; proofs/Turned.antt, FirstRow.antt and Editions.antt show which
+-- Programs that are turned away: document 01, section 7; document 02, R-7, R-8 and R-9. Each is of the calls' own type, and does all else as `step` does; proofs/Turned.antt, FirstRow.antt, Either.antt and Unrestored.antt show which
 -- promise each breaks. Assumes nothing.
 use mathlib.Core.Bool.{cond}
 use mathlib.Core.List.{List, [], _∷_, _++_, map}

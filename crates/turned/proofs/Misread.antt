@@ -22,8 +22,8 @@ use Rattle.record.specs.Mend.{mendedIn}
 use Rattle.sealing.specs.Sealing.{agrees}
 use Rattle.handing.specs.Hand.{handRows}
 use Rattle.handing.proofs.HandLaws.{rows-coded}
-use Rattle.promises.proofs.Turned.{zero-row, wrong-row, wrong-near, wrong-bytes}
-use Rattle.promises.specs.Misreadings.{infoByRows, informationFirst, agreesBefore, keptIfFits, cutZeros}
+use Rattle.turned.proofs.Turned.{zero-row, wrong-row, wrong-near, wrong-bytes}
+use Rattle.turned.specs.Misreadings.{infoByRows, informationFirst, agreesBefore, keptIfFits, cutZeros}
 
 abbrev five : List ℕ
 five = 10 ∷ 11 ∷ 12 ∷ 13 ∷ 14 ∷ []

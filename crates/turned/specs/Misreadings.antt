@@ -22,10 +22,10 @@ use Rattle.code.specs.Mend.{Mended, whole}
 use Rattle.record.specs.Mend.{payloadIn, mendedIn}
 use Rattle.sealing.specs.Sealing.{agrees}
 use Rattle.record.specs.Offer.{packetName, readFor, Judged, refuse, put, judge}
 use Rattle.promises.specs.Calls.{State, Program, step, telling}
 use Rattle.promises.specs.Calls.Call.{offering}
 use Rattle.promises.specs.Statements.{placeAt}
-use Rattle.promises.specs.Wrong.{offeringBy}
+use Rattle.turned.specs.Wrong.{offeringBy}
 
 -- tables filled row by row
 unfoldable pub infoByRows : ℕ → List ℕ → ℕ → ℕ → List ℕ

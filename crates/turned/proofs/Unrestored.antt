@@ -28,14 +28,14 @@ use Rattle.opening.proofs.OpenLaws.{open-empty}
 use Rattle.contents.specs.Contents.{Slot as Content, wrong, holding, contents}
 use Rattle.losses.specs.Losses.{payloadOf, sentAt, cameAt, rowCame}
 use Rattle.columns.specs.Columns.{rowIn}
 use Rattle.promises.specs.Calls.{Call, Answer, State, step, run, fresh}
 use Rattle.promises.specs.Calls.Call.{opening, offering, handing}
 use Rattle.promises.specs.Statements.{Protected, CarriesEnough, Fair, Demand3Columns}
-use Rattle.promises.specs.Wrong.{fileIn, handingBy, leavingZeros, repairing}
+use Rattle.turned.specs.Wrong.{fileIn, handingBy, leavingZeros, repairing}
 use Rattle.promises.proofs.Own.{fair-from, whole-copy, own-offers}
 use Rattle.promises.proofs.Demand.{Collecting, own, slot-in, copy-go, copy-leaves, fair-run, opened-collecting}
 use Rattle.promises.proofs.Fresh.{takes, taken, opens}
 use Rattle.promises.proofs.Columns.{demand-3-columns}
 
 -- ---- the example
 
