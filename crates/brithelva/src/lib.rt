@@ -5,7 +5,7 @@ ghost use lib.ListN.{length};
 ghost use Rattle.refusals.specs.Told.{verdictTold};
 ghost use Rattle.crc.specs.Crc.{crc32Of};
 ghost use Rattle.settings.specs.Settings.{meantEdition, meantOrder, house};
-ghost use Rattle.face.specs.Layout.{recordLength, recordBytes};
+ghost use Rattle.holding.specs.Layout.{recordLength, recordBytes};
 ghost use Rattle.face.specs.Face.{answerOf, Says, Keeps, encodeSays, repairSays, readingSays, readSays, packSays, openSays, offerSays, statusSays, handSays, closeSays};
 ghost use Rattle.listing.specs.Listing.{describeSays, composeSays};
 use attributes::Described;
@@ -157,7 +157,7 @@ fn put_kept(held: &mut [u8], kept: Kept) -> u64
     ensures { λ r. ⌜ (r ≡ answerOf (verdictTold (kept .verdict))) × (now (held .exit) ≡ recordBytes (kept .«record»)) ⌝ }
 {
     let next = kept.record;
-    words::copy_in(held, 0, &face::record_bytes(next));
+    words::copy_in(held, 0, &holding::record_bytes(next));
     let verdict = kept.verdict;
     answers::verdict_of(verdict)
 }
@@ -179,7 +179,7 @@ pub extern "C" fn bh_open_as(
 ) -> u64
     ensures { λ r. ⌜ Keeps (openSays (now (held .entry)) (now (store .entry)) (record { resource = resource; kind = kind; update = update; protection = protection; rows = rows; size = slot; edition = edition; order = order }) count) r (now (held .exit)) (now (store .exit)) ⌝ }
 {
-    if held.len() != face::RECORD {
+    if held.len() != holding::RECORD {
         return NO_RECORD;
     }
     let settings = Settings {
@@ -192,7 +192,7 @@ pub extern "C" fn bh_open_as(
         edition,
         order,
     };
-    let kept = opening::open(face::record_in(held), store, settings, count);
+    let kept = opening::open(holding::record_in(held), store, settings, count);
     put_kept(held, kept)
 }
 
@@ -238,10 +238,10 @@ pub extern "C" fn bh_open_house(
 ) -> u64
     ensures { λ r. ⌜ Keeps (openSays (now (held .entry)) (now (store .entry)) (house resource kind update) count) r (now (held .exit)) (now (store .exit)) ⌝ }
 {
-    if held.len() != face::RECORD {
+    if held.len() != holding::RECORD {
         return NO_RECORD;
     }
-    let before = face::record_in(held);
+    let before = holding::record_in(held);
     let kept = opening::open_house(before, store, resource, kind, update, count);
     put_kept(held, kept)
 }
@@ -251,10 +251,10 @@ pub extern "C" fn bh_open_house(
 pub extern "C" fn bh_offer(held: &[u8], store: &mut [u8], packet: &[u8]) -> u64
     ensures { λ r. ⌜ Keeps (offerSays (now (held .entry)) (now (store .entry)) (now (packet .entry))) r (now (held .entry)) (now (store .exit)) ⌝ }
 {
-    if held.len() != face::RECORD {
+    if held.len() != holding::RECORD {
         return NO_RECORD;
     }
-    let offered = offering::offer(face::record_in(held), store, packet);
+    let offered = offering::offer(holding::record_in(held), store, packet);
     answers::offered_as(offered)
 }
 
@@ -263,10 +263,10 @@ pub extern "C" fn bh_offer(held: &[u8], store: &mut [u8], packet: &[u8]) -> u64
 pub extern "C" fn bh_status(held: &[u8], store: &[u8], resource: u16, kind: u8) -> u64
     ensures { λ r. ⌜ r ≡ statusSays (now (held .entry)) (now (store .entry)) (record { resource = resource; kind = kind }) ⌝ }
 {
-    if held.len() != face::RECORD {
+    if held.len() != holding::RECORD {
         return NO_RECORD;
     }
-    let standing = standing::status(face::record_in(held), store, resource, kind);
+    let standing = standing::status(holding::record_in(held), store, resource, kind);
     answers::standing_as(standing)
 }
 
@@ -282,10 +282,10 @@ pub extern "C" fn bh_hand_out(
 ) -> u64
     ensures { λ r. ⌜ Says (handSays (now (held .entry)) (now (store .entry)) (record { resource = resource; kind = kind }) length (now (out .entry))) r (now (out .exit)) ⌝ }
 {
-    if held.len() != face::RECORD {
+    if held.len() != holding::RECORD {
         return NO_RECORD;
     }
-    let before = face::record_in(held);
+    let before = holding::record_in(held);
     let verdict = readout::hand_out(before, store, resource, kind, length as usize, out);
     answers::verdict_of(verdict)
 }
@@ -295,10 +295,10 @@ pub extern "C" fn bh_hand_out(
 pub extern "C" fn bh_close(held: &mut [u8], store: &[u8], resource: u16, kind: u8) -> u64
     ensures { λ r. ⌜ Keeps (closeSays (now (held .entry)) (now (store .entry)) (record { resource = resource; kind = kind })) r (now (held .exit)) (now (store .entry)) ⌝ }
 {
-    if held.len() != face::RECORD {
+    if held.len() != holding::RECORD {
         return NO_RECORD;
     }
-    let kept = opening::close(face::record_in(held), store, resource, kind);
+    let kept = opening::close(holding::record_in(held), store, resource, kind);
     put_kept(held, kept)
 }
 

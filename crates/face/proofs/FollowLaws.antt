@@ -24,10 +24,10 @@ use Rattle.places.proofs.Keeping.{at-set}
 use Rattle.opening.specs.Open.{Plan, refuse, take, planOf, openOf, closedAt, closeOf}
 use Rattle.opening.proofs.PlanLaws.{taking, open-by}
 use Rattle.opening.proofs.OpenLaws.{open-good, open-named, open-own, refused-record}
-use Rattle.face.specs.Layout.{placeLength, recordLength, two, four, placeIn, recordIn}
+use Rattle.holding.specs.Layout.{placeLength, recordLength, two, four, placeIn, recordIn}
 use Rattle.face.specs.Face.{openSays, closeSays}
 use Rattle.face.specs.Statements.{RecordsFollow}
-use Rattle.face.proofs.LayoutLaws.{Typed, record-again}
+use Rattle.holding.proofs.LayoutLaws.{Typed, record-again}
 
 -- ---- places whose fields fit
 

@@ -18,7 +18,7 @@ use Rattle.refusals.specs.Told.{verdictTold}
 use Rattle.record.specs.Offer.{offerOf}
 use Rattle.record.specs.Told.{offeredTold}
 use Rattle.handing.specs.Hand.{handOutOf}
-use Rattle.face.specs.Layout.{recordLength, recordIn, recordBytes}
+use Rattle.holding.specs.Layout.{recordLength, recordIn, recordBytes}
 use Rattle.face.specs.Face.{answerOf, Says, Keeps, badRecord, openSays, closeSays, offerSays, handSays}
 
 module _ (h s : List ℕ) where

@@ -1,8 +1,6 @@
 pub mod ToldLaws
 pub mod SayLaws
 pub mod PackLaws
-pub mod RecordLaws
-pub mod LayoutLaws
 pub mod HoldLaws
 pub mod StatusLaws
 pub mod RefusedLaws

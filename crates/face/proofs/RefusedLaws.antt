@@ -37,10 +37,10 @@ use Rattle.opening.proofs.OpenLaws.{refused-record, refused-store, refused-plan
 use Rattle.record.proofs.OfferLaws.{offer-refused}
 use Rattle.handing.proofs.HandLaws.{hand-refused}
 use Rattle.code.specs.Code.{Bytes}
-use Rattle.face.specs.Layout.{recordLength, recordIn, recordBytes}
+use Rattle.holding.specs.Layout.{recordLength, recordIn, recordBytes}
 use Rattle.face.specs.Face.{Said, Kept, answerOf, badRecord, puts, putsIf, valued, withValue, encodeSays, repairSays, readSays, packSays, openSays, closeSays, offerSays, handSays}
 use Rattle.face.specs.Statements.{numberIn, OutputKept, RecordKept, RefusalsChangeNothing}
-use Rattle.face.proofs.LayoutLaws.{bytes-again}
+use Rattle.holding.proofs.LayoutLaws.{bytes-again}
 
 -- ---- what is said of the definitions is said of every result that a contract allows
 

@@ -22,7 +22,7 @@ use Rattle.standing.specs.declared.Standing.{Standing}
 use Rattle.standing.specs.declared.Standing.the-variants.{Filled}
 use Rattle.standing.specs.Told.{standingTold}
 use Rattle.standing.specs.Status.{standingIn, statusFound, statusOf}
-use Rattle.face.specs.Layout.{recordLength, recordIn}
+use Rattle.holding.specs.Layout.{recordLength, recordIn}
 use Rattle.face.specs.Face.{answerOf, badRecord, statusSays}
 
 standing-short : (c : List Content) → length c ≤ 1048575 → answerOf (standingTold (standingIn c)) < 18446744073709551616

@@ -24,7 +24,7 @@ use Rattle.record.specs.Told.{offeredTold}
 use Rattle.standing.specs.Status.{statusOf}
 use Rattle.standing.specs.Told.{standingTold}
 use Rattle.handing.specs.Hand.{handOutOf}
-use Rattle.face.specs.Layout.{recordLength, recordIn, recordBytes}
+use Rattle.holding.specs.Layout.{recordLength, recordIn, recordBytes}
 
 -- values as one: 0 for none, v for one; for two, as of a Status with an empty slot, n + 2^24 · (i + 1)
 abbrev pub valueIn : List ℕ → ℕ

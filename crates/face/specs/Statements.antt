@@ -10,7 +10,7 @@ use Rattle.code.specs.Code.{Bytes}
 use Rattle.settings.specs.declared.Settings.{Settings}
 use Rattle.places.specs.Places.{Name}
 use Rattle.opening.specs.Open.{openOf, closeOf}
-use Rattle.face.specs.Layout.{recordLength, recordIn}
+use Rattle.holding.specs.Layout.{recordLength, recordIn}
 use Rattle.face.specs.Face.{Said, Says, Kept, Keeps, encodeSays, repairSays, readSays, packSays, openSays, offerSays, handSays, closeSays}
 
 -- the number in an answer: 0 is accepted

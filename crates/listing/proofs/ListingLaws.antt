@@ -26,7 +26,7 @@ use Rattle.attributes.specs.Compose.{composeOf}
 use Rattle.attributes.specs.Told.{descriptionList}
 use Rattle.face.specs.Face.{Says, answerOf, puts, putsIf}
 use Rattle.face.proofs.SayLaws.{says-as, refused-puts}
-use Rattle.face.proofs.LayoutLaws.{over-zeros}
+use Rattle.holding.proofs.LayoutLaws.{over-zeros}
 use Rattle.listing.specs.Listing.{descriptionFrom, describedSays, describeSays, composedAnswer, composeSays}
 
 -- ---- numbers

@@ -13,12 +13,6 @@ put-one κs a r s d e p q = (equation (p .answers) (q .answers), after 1 (lent (
 pub put-fields-one : OneResult face.put_fields.ended face.put_fields.Reads.Learnt
 put-fields-one κs a r s d e p q = (equation (p .answers) (q .answers), after 1 (lent (equation (p .leaves) (q .leaves)) refl))
 
-pub record-in-one : OneResult face.record_in.ended face.record_in.Reads.Learnt
-record-in-one κs a r s d e p q = (equation p q, refl)
-
-pub record-bytes-one : OneResult face.record_bytes.ended face.record_bytes.Reads.Learnt
-record-bytes-one κs a r s d e p q = (equation p q, refl)
-
 pub bh-crc32-one : OneResult brithelva.bh_crc32.ended brithelva.bh_crc32.Reads.Learnt
 bh-crc32-one κs a r s d e p q = (equation p q, refl)
 

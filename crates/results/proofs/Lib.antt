@@ -30,5 +30,6 @@ pub mod Restoring
 pub mod Handing
 pub mod Readout
 pub mod Descriptions
+pub mod Holding
 pub mod Answers
 pub mod Face

@@ -1,8 +1,8 @@
 -- The eight places stand one behind the other.
-use Rattle.face.specs.Layout.{recordIn}
+use Rattle.holding.specs.Layout.{recordIn}
 use native.Mathlib.Omega.{arith}
-use Rattle.face.proofs.places_in.Statement.{statement}
-use Rattle.face.proofs.places_in.Tie as tie
+use Rattle.holding.proofs.places_in.Statement.{statement}
+use Rattle.holding.proofs.places_in.Tie as tie
 
 place-in-requires : tie.Need-place-in-requires
 place-in-requires c κs = omega arith

@@ -1,9 +1,9 @@
 -- The entries are those of the definition, and none is too large for a byte.
 use mathlib.Core.Path.{refl}
-use Rattle.face.specs.Layout.{placeBytes}
+use Rattle.holding.specs.Layout.{placeBytes}
 use native.Mathlib.Omega.{arith}
-use Rattle.face.proofs.place_bytes.Statement.{statement}
-use Rattle.face.proofs.place_bytes.Tie as tie
+use Rattle.holding.proofs.place_bytes.Statement.{statement}
+use Rattle.holding.proofs.place_bytes.Tie as tie
 
 cast-t3 : tie.Need-cast-t3
 cast-t3 c = omega arith

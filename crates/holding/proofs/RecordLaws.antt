@@ -10,7 +10,7 @@ use lib.Seq.{sets, length-sets, drop-cons}
 use Rattle.ground.proofs.Writing.{sets-append, sets-all}
 use Rattle.places.specs.declared.Place.{Place}
 use Rattle.places.specs.Places.{unused}
-use Rattle.face.specs.Layout.{placeLength, recordLength, placeBytes, allBytes}
+use Rattle.holding.specs.Layout.{placeLength, recordLength, placeBytes, allBytes}
 
 pub length-place : (p : Place) → length (placeBytes p) ≡ placeLength
 unfolding placeBytes

@@ -6,10 +6,10 @@ use borrow.Author.Needs.{needs}
 use lib.ListN.{length}
 use Rattle.places.proofs.Steps.{mapped-length}
 use Rattle.code.proofs.Lists.{length-zeros}
-use Rattle.face.specs.Layout.{recordLength, recordBytes}
-use Rattle.face.proofs.RecordLaws.{Putting, put-begin, put-step, put-end}
-use Rattle.face.proofs.record_bytes.Statement.{statement}
-use Rattle.face.proofs.record_bytes.Tie as tie
+use Rattle.holding.specs.Layout.{recordLength, recordBytes}
+use Rattle.holding.proofs.RecordLaws.{Putting, put-begin, put-step, put-end}
+use Rattle.holding.proofs.record_bytes.Statement.{statement}
+use Rattle.holding.proofs.record_bytes.Tie as tie
 
 abbrev Inv-loop : tie.InvT-loop
 Inv-loop held out₀ i₀ out i = Putting (held .places) out i

@@ -1,10 +1,10 @@
 -- Bytes enough are read as they stand, fewer over zeros.
 use mathlib.Core.Path.{_∙_, ap}
 use native.Mathlib.Omega.{arith}
-use Rattle.face.specs.Layout.{recordIn}
-use Rattle.face.proofs.LayoutLaws.{record-padded}
-use Rattle.face.proofs.record_in.Statement.{statement}
-use Rattle.face.proofs.record_in.Tie as tie
+use Rattle.holding.specs.Layout.{recordIn}
+use Rattle.holding.proofs.LayoutLaws.{record-padded}
+use Rattle.holding.proofs.record_in.Statement.{statement}
+use Rattle.holding.proofs.record_in.Tie as tie
 
 places-in-requires : tie.Need-places-in-requires
 places-in-requires c κs = c .if1 .taken

@@ -18,8 +18,8 @@ use Rattle.contents.proofs.Bytes.{sets-above}
 use Rattle.places.specs.declared.Place.{Place}
 use Rattle.places.specs.declared.Record.{Record}
 use Rattle.places.specs.Places.{unused}
-use Rattle.face.proofs.RecordLaws.{length-place}
-use Rattle.face.specs.Layout.{placeLength, recordLength, two, four, placeIn, recordIn, asTwo, asFour, placeBytes, allBytes, recordBytes}
+use Rattle.holding.proofs.RecordLaws.{length-place}
+use Rattle.holding.specs.Layout.{placeLength, recordLength, two, four, placeIn, recordIn, asTwo, asFour, placeBytes, allBytes, recordBytes}
 
 -- ---- bytes to numbers and back
 

@@ -1,8 +1,8 @@
 -- Each field is taken from the bytes of the definition.
-use Rattle.face.specs.Layout.{placeIn}
+use Rattle.holding.specs.Layout.{placeIn}
 use native.Mathlib.Omega.{arith}
-use Rattle.face.proofs.place_in.Statement.{statement}
-use Rattle.face.proofs.place_in.Tie as tie
+use Rattle.holding.proofs.place_in.Statement.{statement}
+use Rattle.holding.proofs.place_in.Tie as tie
 
 two-in-requires : tie.Need-two-in-requires
 two-in-requires c κs = omega arith
