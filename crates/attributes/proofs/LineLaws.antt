@@ -10,8 +10,8 @@ use lib.Dec.{eqb, leb, ltb}
 use lib.ListN.{length, getD, take, drop, length-append, length-drop, List·getD-append}
 use lib.Seq.{drop-drop, drop-append-add, getD-append-seam, take-at}
 use Rattle.ground.proofs.Truth.{and-both, and-join}
-use Rattle.words.specs.Words.{same}
-use Rattle.words.proofs.SameLaws.{same-self}
+use Rattle.slices.specs.Slices.{same}
+use Rattle.slices.proofs.SameLaws.{same-self}
 use Rattle.texts.specs.Breaks.{LF, CR, untilLf, unbroken}
 use Rattle.texts.proofs.BreakLaws.{unbroken-append, unbroken-by}
 use Rattle.attributes.specs.declared.Part.{Part}

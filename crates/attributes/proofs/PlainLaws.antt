@@ -10,8 +10,8 @@ use lib.Dec.{eqb, leb, ltb}
 use lib.ListN.{length, getD, take, drop, take-append-drop}
 use lib.Seq.{drop-drop, take-suc}
 use Rattle.ground.proofs.Truth.{and-both}
-use Rattle.words.specs.Words.{same}
-use Rattle.words.proofs.SameLaws.{same-equal}
+use Rattle.slices.specs.Slices.{same}
+use Rattle.slices.proofs.SameLaws.{same-equal}
 use Rattle.texts.specs.Breaks.{LF, CR, untilLf, unbroken}
 use Rattle.texts.proofs.BreakLaws.{until-lf-part}
 use Rattle.attributes.specs.Attributes.{partOf}

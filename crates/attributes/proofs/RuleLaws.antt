@@ -12,7 +12,7 @@ use lib.ListN.{length, getD}
 use Rattle.ground.specs.Ranges.{between}
 use Rattle.ground.proofs.Truth.{and-both, and-join, either, or-left, or-right}
 use Rattle.ground.proofs.RangeLaws.{between-bounds, bounds-between}
-use Rattle.words.proofs.SameLaws.{same-equal}
+use Rattle.slices.proofs.SameLaws.{same-equal}
 use Rattle.texts.specs.Utf8.{wellFormed}
 use Rattle.texts.specs.Breaks.{unbroken}
 use Rattle.texts.proofs.BreakLaws.{unbroken-by}

@@ -5,7 +5,7 @@ use mathlib.Core.List.{List, [], _∷_, _++_}
 use Prim.Native.Nat.{ℕ, zero, suc, _+_, _-_, _/_, _%_}
 use lib.Dec.{eqb, ltb, leb}
 use lib.ListN.{length, getD, take, drop}
-use Rattle.words.specs.Words.{same}
+use Rattle.slices.specs.Slices.{same}
 use Rattle.texts.specs.Breaks.{LF, CR, untilLf}
 use Rattle.attributes.specs.declared.Part.{Part}
 

@@ -5,7 +5,7 @@ use mathlib.Core.List.{List}
 use Prim.Native.Nat.{ℕ, _%_}
 use lib.Dec.{eqb, leb, ltb}
 use lib.ListN.{length, getD}
-use Rattle.words.specs.Words.{same}
+use Rattle.slices.specs.Slices.{same}
 use Rattle.calendar.specs.declared.Time.{Time}
 use Rattle.times.specs.Written.{timeAt}
 use Rattle.refusals.specs.declared.Refusal.{Refusal}

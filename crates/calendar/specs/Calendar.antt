@@ -5,7 +5,7 @@ use mathlib.Core.List.{List, [], _∷_}
 use Prim.Native.Nat.{ℕ, _%_}
 use lib.Dec.{eqb, leb, ltb}
 use Rattle.ground.specs.Ranges.{between}
-use Rattle.words.specs.Words.{same}
+use Rattle.slices.specs.Slices.{same}
 use Rattle.calendar.specs.declared.Time.{Time}
 
 -- every fourth year, of the centuries every fourth

@@ -17,8 +17,8 @@ use calendar::not_given;
 use decimal::digits_of;
 use judging::lowest_fault;
 use refusals::Refusal;
+use slices::copy_in;
 use times::time_text;
-use words::copy_in;
 
 // A line's value: at most nineteen bytes at the front of `bytes`, then a part of the text. One of the two has no bytes.
 struct Value {

@@ -53,7 +53,7 @@ pub fn put_slot(store: &mut [u8], at: usize, payload: &[u8]) -> Verdict
     if !has_room(store.len(), at, n) {
         return Verdict::Refused(Refusal::Output);
     }
-    words::copy_in(store, at + 2, payload);
+    slices::copy_in(store, at + 2, payload);
     store[at] = (n % 256) as u8;
     store[at + 1] = (n / 256) as u8;
     Verdict::Accepted

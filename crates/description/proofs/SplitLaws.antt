@@ -10,8 +10,8 @@ use borrow.Author.Tests.{ltb-true}
 use lib.Dec.{eqb, leb, ltb}
 use lib.ListN.{length, getD, set, take, drop, replicate, length-set, length-drop, length-take, length-append}
 use Rattle.ground.proofs.Listed.{zeros-at}
-use Rattle.words.specs.Words.{same}
-use Rattle.words.proofs.SameLaws.{same-equal}
+use Rattle.slices.specs.Slices.{same}
+use Rattle.slices.proofs.SameLaws.{same-equal}
 use Rattle.texts.specs.Breaks.{CR, untilLf}
 use Rattle.attributes.specs.declared.Part.{Part}
 use Rattle.attributes.specs.Lines.{label, isLine, withoutCr, valueAt, behindLine, Found, alone, before, linesFrom, linesOf}

@@ -9,8 +9,8 @@ use borrow.Author.Tests.{eq-eqb, ne-eqb, le-leb}
 use lib.Dec.{eqb, leb}
 use lib.ListN.{length, getD, take, drop, length-drop}
 use lib.Seq.{length-take-le, take-all}
-use Rattle.words.specs.Words.{same}
-use Rattle.words.proofs.SameLaws.{same-lengths}
+use Rattle.slices.specs.Slices.{same}
+use Rattle.slices.proofs.SameLaws.{same-lengths}
 use Rattle.decimal.specs.Decimal.{numberIn, noNumber}
 use Rattle.times.specs.Written.{timeIn}
 use Rattle.texts.specs.Breaks.{CR}

@@ -4,7 +4,7 @@ ghost use mathlib.Core.Bool.{true};
 ghost use Prim.Native.Nat.{_+_, _≤_, _<_};
 ghost use lib.Dec.{ltb};
 ghost use lib.ListN.{length, take, drop};
-ghost use Rattle.words.specs.Words.{same};
+ghost use Rattle.slices.specs.Slices.{same};
 ghost use Rattle.texts.specs.Breaks.{untilLf};
 ghost use Rattle.attributes.specs.Lines.{label, withoutCr};
 ghost use Rattle.description.specs.Inner.{Split, Stepped};
@@ -40,7 +40,7 @@ fn labelled(text: &[u8], k: usize, at: usize) -> bool
         return false;
     }
     let start = [(k / 10 % 10) as u8 + 48, (k % 10) as u8 + 48, 58];
-    words::same(&text[at..at + 3], &start)
+    slices::same(&text[at..at + 3], &start)
 }
 
 // Of n bytes before LF, how many are the value: one CR straight before LF belongs to the end.

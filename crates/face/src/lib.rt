@@ -14,7 +14,7 @@ pub fn put(bytes: &[u8], out: &mut [u8]) -> u64
     if out.len() < bytes.len() {
         return NO_ROOM;
     }
-    words::copy_in(out, 0, bytes);
+    slices::copy_in(out, 0, bytes);
     0
 }
 

@@ -1,9 +1,9 @@
-// A packet's fields, read and written: document 01, sections 2 and 6; for packets of either order, document 02, R-8.
+// A packet's fields, read: document 01, sections 2 and 6; for packets of either order, document 02, R-8.
 ghost use mathlib.Core.Path.{_≡_};
 ghost use mathlib.Core.Bool.{_&&_};
 ghost use Prim.Native.Nat.{_+_, _*_, _/_, _%_, _≤_};
 ghost use lib.ListN.{length};
-ghost use Rattle.packet.specs.Packet.{fieldsIn, marked, badProtection, badNumber, badRows, judged, readBy, readOf, readHeaderOf, headerOf};
+ghost use Rattle.packet.specs.Packet.{fieldsIn, marked, badProtection, badNumber, badRows, judged, readBy, readOf, readHeaderOf};
 use packet::Packet;
 use packet::Reading;
 use refusals::Refusal;
@@ -152,26 +152,4 @@ fn read_by(rows: bool, packet: &[u8]) -> Reading
         return Reading::Refused(Refusal::Length);
     }
     judge(rows, fields, packet.len())
-}
-
-// The fourteen bytes before a payload. Of a field that is too wide for the header its low bits are written.
-pub fn header(packet: Packet) -> [u8; Packet::HEADER]
-    ensures { λ r. ⌜ r ≡ headerOf packet ⌝ }
-{
-    [
-        0x49,
-        0x59,
-        0x69,
-        (packet.resource / 256) as u8,
-        (packet.resource % 256) as u8,
-        (packet.number / 4096 % 256) as u8,
-        (packet.number / 16 % 256) as u8,
-        (packet.number % 16) as u8 * 16 + packet.update % 16,
-        (packet.length / 16 % 256) as u8,
-        (packet.length % 16) as u8 * 16 + (packet.count / 65536 % 16) as u8,
-        (packet.count / 256 % 256) as u8,
-        (packet.count % 256) as u8,
-        packet.kind % 4 * 64 + packet.protection % 4 * 16 + packet.rows / 16,
-        packet.rows % 16 * 16 + packet.reserved % 16,
-    ]
 }

@@ -25,7 +25,7 @@ fn write_plain(p: Place, store: &[u8], out: &mut [u8])
         let n = contents::slot_length(store, at);
         let from = at + 2;
         let to = from + n;
-        words::copy_in(out, o, &store[from..to]);
+        slices::copy_in(out, o, &store[from..to]);
         o += n;
         at += width;
         k += 1;

@@ -80,7 +80,7 @@ pub fn record_in(bytes: &[u8]) -> Record
         return places_in(bytes);
     }
     let mut whole = [0u8; RECORD];
-    words::copy_in(&mut whole, 0, bytes);
+    slices::copy_in(&mut whole, 0, bytes);
     places_in(&whole)
 }
 
@@ -121,7 +121,7 @@ pub fn record_bytes(held: Record) -> [u8; RECORD]
     while i < 8 {
         let p = held.places[i];
         let bytes = place_bytes(p);
-        words::copy_in(&mut out, i * PLACE, &bytes);
+        slices::copy_in(&mut out, i * PLACE, &bytes);
         i += 1;
     }
     out

@@ -52,7 +52,7 @@ fn put_info(file: &[u8], at: usize, n: usize, out: &mut [u8], o: usize)
 {
     let a = words::lesser(at, file.len());
     let b = words::lesser(at + n, file.len());
-    words::copy_in(out, o, &file[a..b]);
+    slices::copy_in(out, o, &file[a..b]);
     put_zeros(n - (b - a), out, o + (b - a));
 }
 

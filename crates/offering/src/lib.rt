@@ -91,7 +91,7 @@ fn offer_rows(p: Place, store: &mut [u8], number: u32, packet: &[u8], payload: &
 {
     let n = payload.len();
     let mut buffer = [0u8; Packet::PROTECTED];
-    words::copy_in(&mut buffer, 0, payload);
+    slices::copy_in(&mut buffer, 0, payload);
     let counted = repair::mend(&mut buffer[..n]);
     let verdict = counted.verdict;
     if let Verdict::Refused(refusal) = verdict {

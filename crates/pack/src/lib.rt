@@ -83,7 +83,7 @@ fn put_header(settings: Settings, number: u32, count: u32, size: usize, out: &mu
     requires { ⌜ (size ≤ 4077) × (14 ≤ length (now out)) ⌝ }
     ensures { λ r. ⌜ now (out .exit) ≡ sets (now (out .entry)) 0 (headerFor settings count number size) ⌝ }
 {
-    let head = fields::header(Packet {
+    let head = heading::header(Packet {
         resource: settings.resource,
         number: number,
         update: settings.update,

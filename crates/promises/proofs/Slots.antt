@@ -12,8 +12,8 @@ use Rattle.refusals.specs.declared.Refusal.the-variants.{Slot, Conflict}
 use Rattle.refusals.specs.Told.{refusedAs}
 use Rattle.refusals.proofs.Told.{number-not-0}
 use Rattle.ground.proofs.Numbers.{lt-or-ge, same-or-not}
-use Rattle.words.specs.Words.{same}
-use Rattle.words.proofs.SameLaws.{same-equal}
+use Rattle.slices.specs.Slices.{same}
+use Rattle.slices.proofs.SameLaws.{same-equal}
 use Rattle.packet.specs.declared.Packet.{Packet}
 use Rattle.packet.specs.declared.Reading.the-variants.{Sent}
 use Rattle.places.specs.declared.Place.{Place}

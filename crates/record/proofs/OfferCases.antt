@@ -11,7 +11,7 @@ use lib.ListN.{length, getD, take, drop, replicate, length-drop, length-replicat
 use lib.Seq.{sets, take-at, length-take-le}
 use Rattle.ground.proofs.Writing.{sets-front}
 use Rattle.ground.proofs.Truth.{and-both, and-join}
-use Rattle.words.specs.Words.{same}
+use Rattle.slices.specs.Slices.{same}
 use Rattle.refusals.specs.declared.Refusal.{Refusal}
 use Rattle.refusals.specs.declared.Refusal.the-variants.{Unknown, Other, Edition, Wide, Crc, Slot, Conflict}
 use Rattle.refusals.specs.declared.Verdict.the-variants as verdicts

@@ -9,8 +9,8 @@ use native.Mathlib.Omega.{arith}
 use lib.Dec.{eqb}
 use lib.ListN.{length, getD, set}
 use lib.Seq.{getD-set-same, getD-set-other}
-use Rattle.words.specs.Words.{same}
-use Rattle.words.proofs.SameLaws.{same-self}
+use Rattle.slices.specs.Slices.{same}
+use Rattle.slices.proofs.SameLaws.{same-self}
 use Rattle.refusals.specs.declared.Refusal.{Refusal}
 use Rattle.refusals.specs.declared.Refusal.the-variants.{Unknown}
 use Rattle.packet.specs.declared.Packet.{Packet}

@@ -15,7 +15,7 @@ fn rest_in(rests: &[u8; 240], i: usize) -> [u8; 16]
     let all: &[u8] = rests;
     let at = i * 16;
     let mut rest = [0u8; 16];
-    words::copy_in(&mut rest, 0, &all[at..at + 16]);
+    slices::copy_in(&mut rest, 0, &all[at..at + 16]);
     rest
 }
 
@@ -25,7 +25,7 @@ fn corrected(rows: &[u8], e: Errata) -> [u8; 255]
     ensures { λ r. ⌜ r ≡ mendedBy (take 255 (now (rows .entry))) (entries (e .at)) (entries (e .values)) (e .n) ⌝ }
 {
     let mut row = [0u8; 255];
-    words::copy_in(&mut row, 0, &rows[0..255]);
+    slices::copy_in(&mut row, 0, &rows[0..255]);
     let mut k: usize = 0;
     while k < e.n {
         let i = 254 - words::index(e.at[k]);
@@ -47,7 +47,7 @@ fn finish(ended: usize, rows: &mut [u8], e: Errata) -> usize
         return ended;
     }
     let row = corrected(rows, e);
-    words::copy_in(rows, 0, &row);
+    slices::copy_in(rows, 0, &row);
     ended + e.n
 }
 

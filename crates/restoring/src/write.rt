@@ -48,7 +48,7 @@ fn copy_chunk(p: Place, store: &[u8], c: Chunk, to: usize, out: &mut [u8])
         return;
     }
     let first = at + 2 + c.from;
-    words::copy_in(out, to, &store[first..first + c.len]);
+    slices::copy_in(out, to, &store[first..first + c.len]);
 }
 
 // Writes the bytes of the file that came.

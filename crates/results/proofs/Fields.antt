@@ -10,6 +10,3 @@ read-fields-one κs a r s d e p q = (equation p q, refl)
 
 pub read-header-one : OneResult fields.read_header.ended fields.read_header.Reads.Learnt
 read-header-one κs a r s d e p q = (equation p q, refl)
-
-pub header-one : OneResult fields.header.ended fields.header.Reads.Learnt
-header-one κs a r s d e p q = (equation p q, refl)

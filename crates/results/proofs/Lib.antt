@@ -2,6 +2,7 @@ mod Lent
 pub mod Weak
 pub mod Refusals
 pub mod Words
+pub mod Slices
 pub mod Field
 pub mod Crc
 pub mod Roots
@@ -13,6 +14,7 @@ pub mod Solving
 pub mod Repair
 pub mod Single
 pub mod Fields
+pub mod Heading
 pub mod Edition
 pub mod Sealing
 pub mod Settings

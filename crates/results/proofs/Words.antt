@@ -3,7 +3,6 @@
 use mathlib.Core.Path.{refl}
 use Rattle.ground.proofs.OneResult.{equation}
 use Rattle.results.specs.OneResult.{OneResult}
-use Rattle.results.proofs.Lent.{lent}
 use Rattle.words.proofs as words
 
 pub wide-one : OneResult words.wide.ended words.wide.Reads.Learnt
@@ -17,12 +16,6 @@ index-one κs a r s d e p q = (equation (p .0) (q .0), refl)
 
 pub byte-one : OneResult words.byte.ended words.byte.Reads.Learnt
 byte-one κs a r s d e p q = (equation p q, refl)
-
-pub copy-in-one : OneResult words.copy_in.ended words.copy_in.Reads.Learnt
-copy-in-one κs a r s d e p q = (refl, lent (equation p q) refl)
-
-pub same-one : OneResult words.same.ended words.same.Reads.Learnt
-same-one κs a r s d e p q = (equation p q, refl)
 
 pub within-one : OneResult words.within.ended words.within.Reads.Learnt
 within-one κs a r s d e p q = (equation p q, refl)

@@ -39,6 +39,6 @@ pub fn repair_row(row: &[u8]) -> Mended
             count: 0,
         };
     }
-    words::copy_in(&mut held, 0, row);
+    slices::copy_in(&mut held, 0, row);
     repair(held)
 }

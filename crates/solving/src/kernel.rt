@@ -39,7 +39,7 @@ fn shift(v: [u8; 9]) -> [u8; 9]
     ensures { λ r. ⌜ Shifted v r ⌝ }
 {
     let mut out = [0u8; 9];
-    words::copy_in(&mut out, 1, &v[0..8]);
+    slices::copy_in(&mut out, 1, &v[0..8]);
     out
 }
 

@@ -22,7 +22,7 @@ fn rest_of(row: [u8; 255]) -> [u8; 16]
 {
     let rests = encoding::remainders(&row);
     let mut rest = [0u8; 16];
-    words::copy_in(&mut rest, 0, &rests[0..16]);
+    slices::copy_in(&mut rest, 0, &rests[0..16]);
     rest
 }
 

@@ -36,7 +36,7 @@ pub fn put_in(
         return Offered::Stored(mended);
     }
     let from = at + 2;
-    if words::same(&store[from..from + n], payload) {
+    if slices::same(&store[from..from + n], payload) {
         return Offered::Repeat(mended);
     }
     Offered::Refused(Refusal::Conflict)

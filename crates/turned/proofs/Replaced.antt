@@ -7,7 +7,7 @@ use Prim.Native.Nat.{ℕ, _≤_, _<_}
 use native.Mathlib.Omega.{arith}
 use lib.ListN.{length, getD}
 use Rattle.ground.proofs.Numbers.{same-or-not}
-use Rattle.words.proofs.SameLaws.{same-differs}
+use Rattle.slices.proofs.SameLaws.{same-differs}
 use Rattle.refusals.specs.declared.Refusal.the-variants.{Conflict}
 use Rattle.refusals.specs.Told.{Told}
 use Rattle.layout.specs.Layout.{undone}

@@ -1,11 +1,10 @@
-// Bytes as numbers of a wider type, the bytes of a word, bytes copied and compared, numbers in a range, the lesser of two, and quotients rounded up. A wider number asks of a caller no more than the byte: that it is below 256 is known of
-// the result.
+// Bytes as numbers of a wider type, the bytes of a word, numbers in a range, the lesser of two, and quotients rounded up. A wider number asks of a caller no more
+// than the byte: that it is below 256 is known of the result.
 ghost use mathlib.Core.Path.{_≡_};
-ghost use Prim.Native.Nat.{_+_, _<_, _≤_, min};
-ghost use lib.Seq.{sets};
+ghost use Prim.Native.Nat.{_<_, min};
 ghost use Rattle.ground.specs.Lists.{ceil};
 ghost use Rattle.ground.specs.Ranges.{between};
-ghost use Rattle.words.specs.Words.{byteAt, same};
+ghost use Rattle.words.specs.Words.{byteAt};
 
 // A byte as a word of 64 bits.
 pub fn wide(b: u8) -> u64
@@ -36,49 +35,6 @@ pub fn byte(w: u64, k: u64) -> u8
         return 0;
     }
     ((w >> (k * 8)) % 256) as u8
-}
-
-// Copies `bytes` into `store` from `at` on, as far as the store reaches.
-pub fn copy_in(store: &mut [u8], at: usize, bytes: &[u8])
-    ensures { λ r. ⌜ now (store .exit) ≡ sets (now (store .entry)) at (now (bytes .entry)) ⌝ }
-{
-    let n = reach(store.len(), at, bytes.len());
-    let mut i: usize = 0;
-    while i < n {
-        store[at + i] = bytes[i];
-        i += 1;
-    }
-}
-
-// How many of `n` bytes from `at` on lie in `size` bytes.
-fn reach(size: usize, at: usize, n: usize) -> usize
-    ensures { λ r. ⌜ (r ≤ n) × (0 < r → at + r ≤ size) × (r < n → size ≤ at + r) ⌝ }
-{
-    if size <= at {
-        return 0;
-    }
-    if size - at < n {
-        return size - at;
-    }
-    n
-}
-
-// Whether two slices hold the same bytes.
-pub fn same(a: &[u8], b: &[u8]) -> bool
-    ensures { λ r. ⌜ r ≡ same (now (a .entry)) (now (b .entry)) ⌝ }
-{
-    let n = a.len();
-    if n != b.len() {
-        return false;
-    }
-    let mut i: usize = 0;
-    while i < n {
-        if a[i] != b[i] {
-            return false;
-        }
-        i += 1;
-    }
-    true
 }
 
 // Whether a number lies between two, both of them allowed.

@@ -4,7 +4,7 @@ use native.Mathlib.Omega.{arith}
 use mathlib.Core.Path.{ap, _∙_}
 use mathlib.Core.List.{List}
 use Prim.Native.Nat.{ℕ}
-use Rattle.words.specs.Words.{same}
+use Rattle.slices.specs.Slices.{same}
 use Rattle.attributes.specs.Lines.{label}
 use Rattle.description.proofs.ValueLaws.{part-is, label-short}
 use Rattle.description.proofs.lines.labelled.Statement.{statement}

@@ -8,7 +8,7 @@ use native.Mathlib.Omega.{arith}
 use borrow.Author.Tests.{not-true, not-false, ltb-true}
 use lib.Dec.{ltb}
 use lib.ListN.{length, take, drop, length-drop}
-use Rattle.words.specs.Words.{same}
+use Rattle.slices.specs.Slices.{same}
 use Rattle.texts.specs.Breaks.{untilLf}
 use Rattle.attributes.specs.Lines.{label, withoutCr}
 use Rattle.description.proofs.ValueLaws.{rest-is}

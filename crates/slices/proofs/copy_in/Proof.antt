@@ -5,8 +5,8 @@ use Prim.Native.Nat.{_+_, _-_, _<_}
 use native.Mathlib.Omega.{arith}
 use lib.ListN.{length, getD}
 use Rattle.ground.proofs.Writing.{sets-reach, Run, run-begin, run-step, run-end}
-use Rattle.words.proofs.copy_in.Statement.{statement}
-use Rattle.words.proofs.copy_in.Tie as tie
+use Rattle.slices.proofs.copy_in.Statement.{statement}
+use Rattle.slices.proofs.copy_in.Tie as tie
 
 abbrev Inv-loop : tie.InvT-loop
 Inv-loop store₀ at bytes n i₀ store i = Run (λ k. getD bytes k 0) n at store₀ store i

@@ -2,9 +2,9 @@
 -- same as comparing all. The measure is what is left.
 use Prim.Native.Nat.{_-_}
 use native.Mathlib.Omega.{arith}
-use Rattle.words.proofs.SameLaws.{Comparing, comparing-begin, comparing-more, comparing-not, comparing-end, same-lengths}
-use Rattle.words.proofs.same.Statement.{statement}
-use Rattle.words.proofs.same.Tie as tie
+use Rattle.slices.proofs.SameLaws.{Comparing, comparing-begin, comparing-more, comparing-not, comparing-end, same-lengths}
+use Rattle.slices.proofs.same.Statement.{statement}
+use Rattle.slices.proofs.same.Tie as tie
 
 abbrev Inv-loop : tie.InvT-loop
 Inv-loop a b n i₀ i = Comparing a b i

@@ -1,4 +1,4 @@
--- `fields::header` meets its contract: its fourteen entries are the definition's, and none is too large for a byte.
+-- `heading::header` meets its contract: its fourteen entries are the definition's, and none is too large for a byte.
 -- Assumes nothing.
 use mathlib.Core.Path.{refl}
 use Prim.Native.Nat.{ℕ, _+_, _*_, _/_, _%_}
@@ -6,8 +6,8 @@ use native.Mathlib.Omega.{arith}
 use mir.Syntax.{w8, w16}
 use mir.Val.{Fits}
 use Rattle.packet.specs.Packet.{headerOf}
-use Rattle.fields.proofs.header.Statement.{statement}
-use Rattle.fields.proofs.header.Tie as tie
+use Rattle.heading.proofs.header.Statement.{statement}
+use Rattle.heading.proofs.header.Tie as tie
 
 -- Over plain numbers: in the goals themselves each `omega` reads all that is known of the nine fields.
 byte : (x : ℕ) → Fits w8 (x % 256)

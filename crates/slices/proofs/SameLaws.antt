@@ -10,7 +10,7 @@ use borrow.Author.Tests.{eq-eqb, ne-eqb, eqb-true}
 use lib.Dec.{eqb}
 use lib.ListN.{length, getD, drop, drop-of-length-le}
 use lib.Seq.{drop-cons}
-use Rattle.words.specs.Words.{same}
+use Rattle.slices.specs.Slices.{same}
 
 pub same-equal : (a b : List ℕ) → same a b ≡ true → a ≡ b
 same-equal [] [] e = refl
