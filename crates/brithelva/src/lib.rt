@@ -24,7 +24,7 @@ const NOT_THIRTY: u64 = 17;
 pub extern "C" fn bh_crc32(bytes: &[u8]) -> u32
     ensures { λ r. ⌜ r ≡ crc32Of (now (bytes .entry)) ⌝ }
 {
-    crc::crc32(bytes)
+    checksum::crc32(bytes)
 }
 
 // The checks of 239 information bytes, at the start of `checks`.

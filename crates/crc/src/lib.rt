@@ -1,45 +1,13 @@
-// CRC-32 of source document 000, Annex C, as document 01, section 2, takes it: the whole at once, in parts, and with a table that the caller lends.
-// The table has an entry for each half byte at each of 32 places: sixteen bytes go in at once, and yet it is small enough to be made anew for a call.
+// The register of CRC-32 (source document 000, Annex C, as document 01, section 2, takes it), fed by a table that the caller lends. Beside this code the crate has
+// the definition of the CRC (specs/) and its laws (proofs/). The table has an entry for each half byte at each of 32 places: sixteen bytes go in at once, and yet
+// it is small enough to be made anew for a call.
 mod halfbytes;
 
 ghost use mathlib.Core.Path.{_≡_};
 ghost use mathlib.Core.List.{[], _∷_};
 ghost use Prim.Native.Nat.{_+_, _*_, _%_, _≤_, _<_};
 ghost use lib.ListN.{length, getD, take, drop};
-ghost use Rattle.ground.specs.Bits.{sum};
-ghost use Rattle.crc.specs.Crc.{feed, ones, crc32Of};
 ghost use Rattle.crc.specs.Table.{Rule, number, entries, groupBy, feedBy};
-
-const ONES: u32 = 0xFFFFFFFF;
-
-// The CRC-32 of the bytes.
-pub fn crc32(bytes: &[u8]) -> u32
-    ensures { λ r. ⌜ r ≡ crc32Of (now (bytes .entry)) ⌝ }
-{
-    feed(ONES, bytes) ^ ONES
-}
-
-// The register before the first byte.
-pub fn start() -> u32
-    ensures { λ r. ⌜ r ≡ ones 32 ⌝ }
-{
-    ONES
-}
-
-// The register after the bytes. A caller that has them in parts feeds one part after the other, from `start` on.
-pub fn feed(register: u32, bytes: &[u8]) -> u32
-    ensures { λ r. ⌜ r ≡ feed 32 0x04C11DB7 register (now (bytes .entry)) ⌝ }
-{
-    let t = table();
-    feed_by(&t, register, bytes)
-}
-
-// The CRC of all that was fed.
-pub fn finish(register: u32) -> u32
-    ensures { λ r. ⌜ r ≡ sum register (ones 32) ⌝ }
-{
-    register ^ ONES
-}
 
 // The table, for a caller that feeds many parts: made once, it is lent to each `feed_by`.
 pub fn table() -> [u32; 512]
@@ -48,7 +16,7 @@ pub fn table() -> [u32; 512]
     halfbytes::ROWS
 }
 
-// What `feed` gives, where the table is the one of `table`. Any other table is walked over in the same way.
+// The register after the bytes, where the table is the one of `table`. Any other table is walked over in the same way.
 pub fn feed_by(table: &[u32; 512], register: u32, bytes: &[u8]) -> u32
     ensures { λ r. ⌜ r ≡ feedBy 32 (now (table .entry)) (16 ∷ 4 ∷ 1 ∷ []) register (now (bytes .entry)) ⌝ }
 {

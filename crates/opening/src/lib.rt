@@ -48,7 +48,7 @@ fn plan_open(held: Record, n: usize, settings: Settings, count: u32) -> Planned
     if !room::is_good(held, n) {
         return Planned::Refuse(Refusal::Record);
     }
-    if !settings::settings_fit(settings) {
+    if !fitting::settings_fit(settings) {
         return Planned::Refuse(Refusal::Field);
     }
     if !places::count_fits(count) {

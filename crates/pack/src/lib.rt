@@ -42,7 +42,7 @@ fn coded_length(settings: Settings, len: usize) -> usize
 fn judge(settings: Settings, len: usize, number: u32) -> Plan
     ensures { λ r. ⌜ r ≡ planOf settings len number ⌝ }
 {
-    if !settings::settings_fit(settings) {
+    if !fitting::settings_fit(settings) {
         return Plan::Stop(Refusal::Field);
     }
     if len == 0 {

@@ -20,18 +20,6 @@ same-table r s p q = ext-getD 0 r s (p .size ∙ sym (q .size)) (λ i h. at r p 
     at t u i h =
         ap (λ (j : ℕ). getD t j 0) (sym (div-add-mod' i 16)) ∙ u .entry (i / 16) (i % 16) (omega (arith, u .size)) (mod-lt i (zero-lt-suc 15))
 
-pub crc32-one : OneResult crc.crc32.ended crc.crc32.Reads.Learnt
-crc32-one κs a r s d e p q = (equation p q, refl)
-
-pub start-one : OneResult crc.start.ended crc.start.Reads.Learnt
-start-one κs a r s d e p q = (equation p q, refl)
-
-pub feed-one : OneResult crc.feed.ended crc.feed.Reads.Learnt
-feed-one κs a r s d e p q = (equation p q, refl)
-
-pub finish-one : OneResult crc.finish.ended crc.finish.Reads.Learnt
-finish-one κs a r s d e p q = (equation p q, refl)
-
 pub table-one : OneResult crc.table.ended crc.table.Reads.Learnt
 table-one κs a r s d e p q = (same-table r s p q, refl)
 

@@ -5,6 +5,7 @@ pub mod Words
 pub mod Slices
 pub mod Field
 pub mod Crc
+pub mod Checksum
 pub mod Roots
 pub mod Encoding
 pub mod Filling
@@ -18,6 +19,7 @@ pub mod Heading
 pub mod Edition
 pub mod Sealing
 pub mod Settings
+pub mod Fitting
 pub mod Pack
 pub mod Places
 pub mod Room

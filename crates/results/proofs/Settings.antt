@@ -11,9 +11,6 @@ row-wise-one κs a r s d e p q = (equation p q, refl)
 pub size-fits-one : OneResult settings.size_fits.ended settings.size_fits.Reads.Learnt
 size-fits-one κs a r s d e p q = (equation p q, refl)
 
-pub settings-fit-one : OneResult settings.settings_fit.ended settings.settings_fit.Reads.Learnt
-settings-fit-one κs a r s d e p q = (equation p q, refl)
-
 pub rows-held-one : OneResult settings.rows_held.ended settings.rows_held.Reads.Learnt
 rows-held-one κs a r s d e p q = (equation p q, refl)
 

@@ -41,7 +41,7 @@ fn ranges_fit(p: Place) -> bool
     ensures { λ r. ⌜ r ≡ rangesFit p ⌝ }
 {
     let settings = settings_in(p);
-    if !settings::settings_fit(settings) {
+    if !fitting::settings_fit(settings) {
         return false;
     }
     if p.rows != settings::rows_held(settings) {

@@ -17,7 +17,7 @@ pub fn seal(out: &mut [u8], n: usize) -> Verdict
     if len - Packet::CRC < n {
         return Verdict::Refused(Refusal::Output);
     }
-    let sum = crc::crc32(&out[..n]);
+    let sum = checksum::crc32(&out[..n]);
     out[n] = (sum / 16777216 % 256) as u8;
     out[n + 1] = (sum / 65536 % 256) as u8;
     out[n + 2] = (sum / 256 % 256) as u8;
@@ -38,6 +38,6 @@ pub fn agrees(packet: &[u8], payload: &[u8]) -> bool
         + packet[n - 2] as u32 * 256
         + packet[n - 1] as u32;
     let t = crc::table();
-    let header = crc::feed_by(&t, crc::start(), &packet[..Packet::HEADER]);
-    sent == crc::finish(crc::feed_by(&t, header, payload))
+    let header = crc::feed_by(&t, checksum::start(), &packet[..Packet::HEADER]);
+    sent == checksum::finish(crc::feed_by(&t, header, payload))
 }

@@ -1,6 +1,6 @@
 // The settings under which a file is packed and collected: document 01, sections 2 and 4, and the house setting.
 ghost use mathlib.Core.Path.{_≡_};
-ghost use Rattle.settings.specs.Settings.{rowWise, sizeFits, orderFits, settingsFit, rowsHeld, rowsSent, house as houseOf};
+ghost use Rattle.settings.specs.Settings.{rowWise, sizeFits, rowsHeld, rowsSent, house as houseOf};
 use packet::Packet;
 
 // What a file is packed and collected under, besides its packets' count. `size` is the payload size P of packing and the slot size S of a
@@ -41,41 +41,6 @@ pub fn size_fits(protection: u8, order: u16, size: u16) -> bool
         return false;
     }
     255 <= size && size as usize <= Packet::PROTECTED
-}
-
-// Whether a file may be sent in this order. Columns are sent of tables alone, so under protection.
-fn order_fits(protection: u8, order: u16) -> bool
-    ensures { λ r. ⌜ r ≡ orderFits protection order ⌝ }
-{
-    if order == 0 {
-        return true;
-    }
-    order == 1 && protection != 0
-}
-
-// Whether every setting is within its range, type 0 being outside. Without protection any M is taken.
-pub fn settings_fit(settings: Settings) -> bool
-    ensures { λ r. ⌜ r ≡ settingsFit settings ⌝ }
-{
-    if settings.resource == 0 {
-        return false;
-    }
-    if settings.kind == 0 || 2 < settings.kind {
-        return false;
-    }
-    if 15 < settings.update || 1 < settings.protection {
-        return false;
-    }
-    if settings.protection == 1 && settings.rows == 0 {
-        return false;
-    }
-    if settings.edition == 0 || 2 < settings.edition {
-        return false;
-    }
-    if !order_fits(settings.protection, settings.order) {
-        return false;
-    }
-    size_fits(settings.protection, settings.order, settings.size)
 }
 
 // M as it is held: 0 without protection.

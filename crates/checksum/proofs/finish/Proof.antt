@@ -1,9 +1,9 @@
--- `crc::finish` adds ones to the register, and the sum is exclusive or.
+-- `checksum::finish` adds ones to the register, and the sum is exclusive or.
 -- Assumes nothing.
 use mathlib.Core.Path.{refl}
 use Rattle.ground.specs.Bits.{sum}
-use Rattle.crc.proofs.finish.Statement.{statement}
-use Rattle.crc.proofs.finish.Tie as tie
+use Rattle.checksum.proofs.finish.Statement.{statement}
+use Rattle.checksum.proofs.finish.Tie as tie
 
 returns : tie.Need-returns
 unfolding sum

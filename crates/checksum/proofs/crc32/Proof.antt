@@ -1,11 +1,11 @@
--- `crc::crc32` feeds the bytes to the register of ones, and complements it.
+-- `checksum::crc32` feeds the bytes to the register of ones, and complements it.
 -- Assumes nothing.
 use mathlib.Core.Path.{ap}
 use Prim.Native.Nat.{ℕ}
 use Rattle.ground.specs.Bits.{sum}
 use Rattle.crc.specs.Crc.{ones, crc}
-use Rattle.crc.proofs.crc32.Statement.{statement}
-use Rattle.crc.proofs.crc32.Tie as tie
+use Rattle.checksum.proofs.crc32.Statement.{statement}
+use Rattle.checksum.proofs.crc32.Tie as tie
 
 feed-requires : tie.Need-feed-requires
 feed-requires c κs = tt

@@ -1,4 +1,4 @@
--- `settings::settings_fit` meets its contract: where it stops, a fact that fitting settings have does not hold, and at the end only
+-- `fitting::settings_fit` meets its contract: where it stops, a fact that fitting settings have does not hold, and at the end only
 -- the size is left to judge.
 -- Assumes nothing.
 use mathlib.Core.Path.{_≡_, sym, _∙_}
@@ -8,9 +8,9 @@ use Prim.Native.Nat.{_<_}
 use native.Mathlib.Omega.{arith}
 use borrow.Author.Needs.{needs}
 use borrow.Author.Tests.{ltb-true, eqb-true, eqb-false, not-true, not-false}
 use Rattle.settings.proofs.Laws.{by-one, order-facts, order-fit, settings-unfit, settings-by-size}
-use Rattle.settings.proofs.settings_fit.Statement.{statement}
-use Rattle.settings.proofs.settings_fit.Tie as tie
+use Rattle.fitting.proofs.settings_fit.Statement.{statement}
+use Rattle.fitting.proofs.settings_fit.Tie as tie
 
 returns : tie.Need-returns
 returns c = sym (settings-unfit _ (λ s. omega arith))

@@ -1,9 +1,9 @@
--- `crc::feed` walks over the table that keeps the rule, and such a walk is the register's own.
+-- `checksum::feed` walks over the table that keeps the rule, and such a walk is the register's own.
 -- Assumes nothing.
 use mathlib.Core.Path.{_∙_}
 use Rattle.crc.proofs.Walk.{feed-by-table}
-use Rattle.crc.proofs.feed.Statement.{statement}
-use Rattle.crc.proofs.feed.Tie as tie
+use Rattle.checksum.proofs.feed.Statement.{statement}
+use Rattle.checksum.proofs.feed.Tie as tie
 
 table-requires : tie.Need-table-requires
 table-requires c κs = tt

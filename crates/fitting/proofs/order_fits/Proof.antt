@@ -1,8 +1,8 @@
--- `settings::order_fits` meets its contract: its tests are the definition's, in its order.
+-- `fitting::order_fits` meets its contract: its tests are the definition's, in its order.
 -- Assumes nothing.
 use borrow.Author.Tests.{eq-eqb, ne-eqb}
-use Rattle.settings.proofs.order_fits.Statement.{statement}
-use Rattle.settings.proofs.order_fits.Tie as tie
+use Rattle.fitting.proofs.order_fits.Statement.{statement}
+use Rattle.fitting.proofs.order_fits.Tie as tie
 
 returns : tie.Need-returns
 returns c = rw (eq-eqb _ _ (c .if1 .taken))
