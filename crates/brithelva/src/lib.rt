@@ -157,7 +157,7 @@ fn put_kept(held: &mut [u8], kept: Kept) -> u64
     ensures { λ r. ⌜ (r ≡ answerOf (verdictTold (kept .verdict))) × (now (held .exit) ≡ recordBytes (kept .«record»)) ⌝ }
 {
     let next = kept.record;
-    slices::copy_in(held, 0, &holding::record_bytes(next));
+    holding::put_record(next, held);
     let verdict = kept.verdict;
     answers::verdict_of(verdict)
 }

@@ -9,8 +9,9 @@ use lib.ListN.{length, getD, drop, length-append, drop-of-length-le}
 use lib.Seq.{sets, length-sets, drop-cons}
 use Rattle.ground.proofs.Writing.{sets-append, sets-all}
 use Rattle.places.specs.declared.Place.{Place}
+use Rattle.places.specs.declared.Record.{Record}
 use Rattle.places.specs.Places.{unused}
-use Rattle.holding.specs.Layout.{placeLength, recordLength, placeBytes, allBytes}
+use Rattle.holding.specs.Layout.{placeLength, recordLength, placeBytes, allBytes, recordBytes}
 
 pub length-place : (p : Place) → length (placeBytes p) ≡ placeLength
 unfolding placeBytes
@@ -19,6 +20,11 @@ length-place p = refl
 length-all : (ps : List Place) → length (allBytes ps) ≡ length ps * placeLength
 length-all [] = refl
 length-all (p ∷ ps) = omega (arith, length-append (placeBytes p) (allBytes ps), length-place p, length-all ps)
+
+-- put over as many bytes, they are all that is left
+pub put-over : (h : Record) (bytes : List ℕ) → length (h .places) ≡ 8 → length bytes ≡ recordLength → sets bytes 0 (recordBytes h) ≡ recordBytes h
+unfolding recordBytes
+put-over h bytes n e = sets-all bytes (allBytes (h .places)) (omega (arith, length-all (h .places)))
 
 pub record Putting (ps : List Place) (out : List ℕ) (i : ℕ) : Type 0 where
   pub within : i ≤ 8

@@ -2,6 +2,7 @@
 ghost use mathlib.Core.Path.{_≡_};
 ghost use Prim.Native.Nat.{_+_, _*_, _≤_};
 ghost use lib.ListN.{length};
+ghost use lib.Seq.{sets};
 ghost use Rattle.holding.specs.Layout.{placeLength, recordLength, two, four, placeIn, recordIn, placeBytes, recordBytes};
 use places::Place;
 use places::Record;
@@ -113,7 +114,7 @@ fn place_bytes(p: Place) -> [u8; PLACE]
 }
 
 // The record's bytes, place by place.
-pub fn record_bytes(held: Record) -> [u8; RECORD]
+fn record_bytes(held: Record) -> [u8; RECORD]
     ensures { λ r. ⌜ r ≡ recordBytes held ⌝ }
 {
     let mut out = [0u8; RECORD];
@@ -125,4 +126,11 @@ pub fn record_bytes(held: Record) -> [u8; RECORD]
         i += 1;
     }
     out
+}
+
+// Puts the record's bytes to the start of others, as far as these reach.
+pub fn put_record(held: Record, bytes: &mut [u8])
+    ensures { λ r. ⌜ now (bytes .exit) ≡ sets (now (bytes .entry)) 0 (recordBytes held) ⌝ }
+{
+    slices::copy_in(bytes, 0, &record_bytes(held));
 }

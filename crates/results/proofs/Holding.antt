@@ -3,10 +3,11 @@
 use mathlib.Core.Path.{refl}
 use Rattle.ground.proofs.OneResult.{equation}
 use Rattle.results.specs.OneResult.{OneResult}
+use Rattle.results.proofs.Lent.{after, lent}
 use Rattle.holding.proofs as holding
 
 pub record-in-one : OneResult holding.record_in.ended holding.record_in.Reads.Learnt
 record-in-one κs a r s d e p q = (equation p q, refl)
 
-pub record-bytes-one : OneResult holding.record_bytes.ended holding.record_bytes.Reads.Learnt
-record-bytes-one κs a r s d e p q = (equation p q, refl)
+pub put-record-one : OneResult holding.put_record.ended holding.put_record.Reads.Learnt
+put-record-one κs a r s d e p q = (refl, after 1 (lent (equation p q) refl))

@@ -1,18 +1,14 @@
 -- The record's bytes are as many as those that they replace.
 use mathlib.Core.Path.{_∙_}
 use native.Mathlib.Omega.{arith}
-use Rattle.ground.proofs.Writing.{sets-all}
+use borrow.Author.Needs.{needs}
+use Rattle.places.proofs.Steps.{mapped-length}
+use Rattle.holding.proofs.RecordLaws.{put-over}
 use Rattle.brithelva.proofs.put_kept.Statement.{statement}
 use Rattle.brithelva.proofs.put_kept.Tie as tie
 
-record-bytes-requires : tie.Need-record-bytes-requires
-record-bytes-requires c κs = tt
-
-slice-aggregate-copy-in : tie.Need-slice-aggregate-copy-in
-slice-aggregate-copy-in c = omega arith
-
-copy-in-requires : tie.Need-copy-in-requires
-copy-in-requires c κs = tt
+put-record-requires : tie.Need-put-record-requires
+put-record-requires c κs = tt
 
 verdict-of-requires : tie.Need-verdict-of-requires
 verdict-of-requires c κs = tt
@@ -23,17 +19,8 @@ same-length c = omega arith
 returns : tie.Need-returns
 returns c = (
   c .verdict-of .ensures,
-  c .before .before .before .copy-in .ensures
-      ∙ sets-all _ _ (omega arith) ∙ c .before .before .before .before .before .record-bytes .ensures,
+  c .before .before .before .put-record .ensures ∙ put-over _ _ (search (needs, mapped-length)) (omega arith),
 )
 
 pub put-kept-spec : {M : Type 1} → statement M
-put-kept-spec =
-    tie.close
-    (tie.spec
-    record-bytes-requires
-    slice-aggregate-copy-in
-    copy-in-requires
-    verdict-of-requires
-    same-length
-    returns)
+put-kept-spec = tie.close (tie.spec put-record-requires verdict-of-requires same-length returns)
