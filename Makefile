@@ -1,7 +1,7 @@
 # Targets of the repository; README.md names the two that a newcomer needs (demo, test).
 # The proved library is compiled for x86-64. On another processor the command is built by Debian's cross compiler and run
 # under the kit's emulator; build/run is the same word on both.
-VERSION = 5.0
+VERSION = 6.0
 PREFIX = /usr/local
 DESTDIR =
 

@@ -179,9 +179,17 @@ struct job {
     size_t sent; /* packets in all, bytes */
 };
 
+/* by default where that is meant, else by name */
+static int is_house(const struct job *j)
+{
+    return j->protection == 1 && j->size == BH_HOUSE_SIZE;
+}
+
 static uint64_t pack_one(struct job *j, uint32_t k, uint8_t *at, size_t room)
 {
-    return bh_pack(j->file, j->n, 7, 1, 0, j->protection, 32, j->size, k, at, room);
+    if (is_house(j))
+        return bh_pack_house(j->file, j->n, 7, 1, 0, k, at, room);
+    return bh_pack(j->file, j->n, 7, 1, 0, j->protection, BH_HOUSE_ROWS, j->size, k, at, room);
 }
 
 static void pack_all(void *w)
@@ -224,8 +232,11 @@ static void peer_pack_all(void *w)
 
 static void open_job(struct job *j)
 {
+    uint32_t count = (uint32_t)j->count;
     memset(j->record, 0, sizeof j->record);
-    must(bh_open(j->record, BH_RECORD, j->store, j->store_size, 7, 1, 0, (uint32_t)j->count, j->protection, 32, j->size) == 0, "open");
+    uint64_t answer = is_house(j) ? bh_open_house(j->record, BH_RECORD, j->store, j->store_size, 7, 1, 0, count)
+                                  : bh_open(j->record, BH_RECORD, j->store, j->store_size, 7, 1, 0, count, j->protection, BH_HOUSE_ROWS, j->size);
+    must(answer == 0, "open");
 }
 
 static void offer_all(void *w)
@@ -318,11 +329,11 @@ static void whole(struct job *j, const char *what)
 
 static void files(void)
 {
-    static const uint16_t sizes[] = {255, 3825};
+    static const uint16_t sizes[] = {BH_HOUSE_SIZE, BH_ROW};
     char name[80];
     for (int k = 0; k < 2; k++) {
         struct job j = job_of(1 << 20, 1, sizes[k]);
-        const char *kind = k == 0 ? "house setting" : "15 rows a packet";
+        const char *kind = k == 0 ? "house setting, 15 rows a packet" : "that of before, 1 row a packet";
         double mb = 1e-6 * (double)j.n;
         peer_pack_all(&j);
         must(memcmp(j.packets, j.fec_out, j.sent) == 0, "packets");
@@ -331,8 +342,8 @@ static void files(void)
         whole(&j, "the file");
         snprintf(name, sizeof name, "offer it undamaged, %s", kind);
         tell(name, mb / best(offer_all, &j), mb / best(peer_offer_all, &j), "MB/s", "libfec and a bytewise CRC");
-        if (k == 0)
-            tell("hand it out, M = 32", mb / best(hand_all, &j), mb / best(peer_hand_all, &j), "MB/s", "memcpy");
+        snprintf(name, sizeof name, "hand it out, %s", kind);
+        tell(name, mb / best(hand_all, &j), mb / best(peer_hand_all, &j), "MB/s", "memcpy");
         damage(&j);
         whole(&j, "the file from damaged rows");
         snprintf(name, sizeof name, "offer it with 8 wrong bytes a row, %s", kind);
@@ -349,7 +360,7 @@ static void files(void)
 static void growth(void)
 {
     for (size_t n = 64 << 10; n <= 16 << 20; n *= 2) {
-        struct job j = job_of(n, 1, 3825);
+        struct job j = job_of(n, 1, BH_HOUSE_SIZE);
         double packs = best(pack_all, &j) * 1e9 / (double)n, offers = 0, hands = 0;
         if (j.store_size <= BH_USABLE_STORE) {
             whole(&j, "the file");

@@ -21,9 +21,10 @@ static const struct command {
      "pack FILE -o PACKETS --resource N [--type 1|2] [--update U]\n"
      "                 [--protection 0|1] [--rows M] [--size P] [--edition 1|2] [--order rows|columns] [--force]",
      "writes all packets of FILE end to end. Where none of protection, rows and size is named, the\n"
-     "      house setting: protection 1, tables of 32 rows, payloads of 255 bytes. The edition is that of the\n"
-     "      spare bits: 1 all one (GY/T 268.2), 2 all zero, which is meant where none is named. The order is that in\n"
-     "      which the table of a protected file is sent: by rows, which is meant where none is named, or by columns"},
+     "      house setting: protection 1, tables of 32 rows, payloads of 3825 bytes, which are fifteen rows. The edition\n"
+     "      is that of the spare bits: 1 all one (GY/T 268.2), 2 all zero, which is meant where none is named. The order is\n"
+     "      that in which the table of a protected file is sent: by rows, which is meant where none is named, or by\n"
+     "      columns, and then payloads have 255 bytes where no size is named"},
     {"new", "size", make_archive, "new ARCHIVE --size BYTES",
      "makes an archive with a store of so many bytes (4M, 512K), at most 16M. C packets with payloads\n"
      "      of P bytes take C * (P + 2) of them"},

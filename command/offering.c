@@ -16,7 +16,8 @@ struct tally {
     uint64_t mended; /* bytes, in the packets stored and repeated */
     uint64_t lost; /* packets of open places that were sound and were refused */
     char cause[LAST + 1][128]; /* of the first refusal with this number */
-    char hint[2][256]; /* what to do for the first sound packet of the other edition than its place's, and for the first that was sent in the other order */
+    char hint[3][256]; /* what to do for the first sound packet of the other edition than its place's, for the first that was sent in the other order, and for the
+                          first that is one of more or fewer than its place is for, or is longer than its slots */
 };
 
 struct offering {
@@ -181,15 +182,33 @@ static void hint_edition(struct tally *t, struct bh_place p, uint32_t edition)
                  place_words(p.resource, p.type), p.edition, edition, edition);
 }
 
-/* The same of one that was opened in the wrong order. The size is told by any packet but the last. */
+/* the option that names the size in which a packet was sent: any packet but the last has it */
+static const char *size_option(const uint32_t *fields, size_t payload)
+{
+    static char words[32];
+    if (fields[NUMBER] + 1 == fields[COUNT])
+        return " and the size of its packets";
+    snprintf(words, sizeof words, " --size %zu", payload);
+    return words;
+}
+
+/* The same of one that was opened in the wrong order. */
 static void hint_order(struct tally *t, struct bh_place p, const uint32_t *fields, size_t payload)
 {
-    char size[32] = " and the size of its packets";
-    if (fields[NUMBER] + 1 < fields[COUNT])
-        snprintf(size, sizeof size, " --size %zu", payload);
     if (t->hint[1][0] == '\0')
         snprintf(t->hint[1], sizeof t->hint[1], "%s, is open %s, and sound packets came that were sent by columns: a place that is opened with --order columns%s takes them, once this one is closed",
-                 place_words(p.resource, p.type), p.protection ? "by rows" : "without protection", size);
+                 place_words(p.resource, p.type), p.protection ? "by rows" : "without protection", size_option(fields, payload));
+}
+
+/* The same of one that was opened for another size: then the count is another, or the payload is longer than the slots. */
+static void hint_size(struct tally *t, struct bh_place p, const uint32_t *fields, size_t payload)
+{
+    int alike = fields[UPDATE] == p.update && fields[PROTECTION] == p.protection && (p.protection == 0 || fields[ROWS] == p.rows);
+    if (t->hint[2][0] == '\0' && alike)
+        snprintf(t->hint[2], sizeof t->hint[2],
+                 "%s, is open for %" PRIu32 " packets of size %u, and a sound packet of %zu bytes came that is one of %" PRIu32 ": for its file a place is opened with --count %" PRIu32
+                 "%s, once this one is closed",
+                 place_words(p.resource, p.type), p.count, p.slot, payload, fields[COUNT], fields[COUNT], size_option(fields, payload));
 }
 
 /* Answers whether the search may go on behind the packet: whether it is one, by its CRC. */
@@ -217,6 +236,8 @@ static int take_packet(struct offering *o, const uint8_t *packet, size_t n)
         hint_edition(&o->tally, place_of(a->record, place), fields[EDITION]);
     if (by_columns && place >= 0)
         hint_order(&o->tally, place_of(a->record, place), fields, n - BH_HEADER - BH_CRC);
+    if ((number == BH_OTHER || number == BH_WIDE) && sound)
+        hint_size(&o->tally, place_of(a->record, place), fields, n - BH_HEADER - BH_CRC);
     if (*cause && o->tally.cause[number][0] == '\0')
         memcpy(o->tally.cause[number], cause, sizeof cause);
     if (o->each)
@@ -381,7 +402,7 @@ int offer(const struct arguments *a)
         tell_tally(&o.tally, a->json);
     if (o.tally.lost > 0)
         complain("%" PRIu64 " packets that name an open resource and its type were sound and were refused: something of what was sent may be missing", o.tally.lost);
-    for (int k = 0; k < 2; k++)
+    for (size_t k = 0; k < sizeof o.tally.hint / sizeof *o.tally.hint; k++)
         if (o.tally.hint[k][0] != '\0')
             complain("%s", o.tally.hint[k]);
     if (result == EXIT_ACCEPTED && (o.tally.lost > 0 || (a->strict && all_refused(&o.tally) > 0)))

@@ -31,9 +31,9 @@ static int not_opened(uint64_t answer, const struct archive *archive, const stru
     if (number == BH_FIELD)
         return refused_since(answer, what, "%s", field_cause(s, count));
     if (number == BH_HELD)
-        return refused_since(answer, what, "update %u, %" PRIu32 " packets, edition %u%s", p.update, p.count, p.edition, p.order == BH_COLUMN_ORDER ? ", by columns" : "");
+        return refused_since(answer, what, "update %u, %" PRIu32 " packets, size %u, edition %u%s", p.update, p.count, p.slot, p.edition, p.order == BH_COLUMN_ORDER ? ", by columns" : "");
     if (number == BH_ROOM)
-        return refused_since(answer, what, "%" PRIu64 " bytes are needed, the largest gap has %" PRIu64 " of the store's %zu", (uint64_t)count * (s->size + 2u),
+        return refused_since(answer, what, "%" PRIu64 " bytes are needed for slots of %u, the largest gap has %" PRIu64 " of the store's %zu", (uint64_t)count * (s->size + 2u), s->size,
                              largest_gap(archive->record, archive->store_size), archive->store_size);
     return refused(answer, what);
 }

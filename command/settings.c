@@ -12,6 +12,15 @@ static uint16_t order_named(const struct arguments *a)
     return BH_COLUMN_ORDER;
 }
 
+/* Where no size is named it is that of the house setting. By columns a packet of that size would have more bytes of each of 32 rows than can be restored, and no
+ * packet could be lost: there it is a row's. */
+static uint16_t size_named(const struct arguments *a, uint16_t order)
+{
+    if (a->size > UINT16_MAX)
+        usage("--size takes at most 4077, and 3825 with protection in row order");
+    return a->size >= 0 ? (uint16_t)a->size : order == BH_COLUMN_ORDER ? BH_ROW : BH_HOUSE_SIZE;
+}
+
 struct settings settings_of(const struct arguments *a)
 {
     struct settings s = {
@@ -23,10 +32,8 @@ struct settings settings_of(const struct arguments *a)
         .edition = a->edition < 0 ? 2 : (uint16_t)a->edition,
         .order = order_named(a),
     };
-    s.rows = a->rows >= 0 ? (uint8_t)a->rows : s.protection == 0 ? 0 : 32;
-    if (a->size > UINT16_MAX)
-        usage("--size takes at most 4077, and 3825 with protection in row order");
-    s.size = a->size < 0 ? 255 : (uint16_t)a->size;
+    s.rows = a->rows >= 0 ? (uint8_t)a->rows : s.protection == 0 ? 0 : BH_HOUSE_ROWS;
+    s.size = size_named(a, s.order);
     return s;
 }
 

@@ -87,6 +87,7 @@ static void say_place(struct archive *a, int i, uint64_t answer)
         printf("%3u rows  %s", p.rows, p.order == BH_COLUMN_ORDER ? "by columns  " : "");
     else
         printf("no rows   ");
+    printf("size %-4u  ", p.slot);
     if (bh_number(answer) != BH_ACCEPTED)
         printf("refused: %u %s\n", bh_number(answer), refusal_name(bh_number(answer)));
     else

@@ -4,10 +4,11 @@
  * Every lent part ends at a page that nobody may touch and has known bytes before it. After each call: the answer's number is one that the
  * call may give; a refusal has changed nothing; what an accepted call may not touch is as it was; what it says it has mended is what
  * differs from what came; a packet in the two editions differs in its spare bits and its CRC alone, and only in its own edition does a
- * place take one; Rows is passed over exactly where a place in column order has the packet's resource and type; what a column place hands
- * out is the file that was packed as long as no row lacks more than sixteen bytes, and what it refuses is what its slots show; and a call
- * about one type has left status and file of the other type under that resource. With a transcript open, each call is written in the
- * language of reference/README.md with what was answered, for the second program to check.
+ * place take one; Wide is told exactly where the payload is longer than its place's slots; Rows is passed over exactly where a place in
+ * column order has the packet's resource and type; what a column place hands out is the file that was packed as long as no row lacks more
+ * than sixteen bytes, and what it refuses is what its slots show; and a call about one type has left status and file of the other type
+ * under that resource. With a transcript open, each call is written in the language of reference/README.md with what was answered, for
+ * the second program to check.
  */
 #include "lent.h"
 
@@ -309,15 +310,14 @@ static void judge_unnamed_opening(uint64_t a, enum naming how, uint32_t count)
     int house = how == HOUSE;
     memcpy(again, record.copy, record.n);
     memcpy(slots, store.copy, store.n);
-    uint64_t b = bh_open_as(again, record.n, slots, store.n, now.resource, now.type, now.update, count, house ? 1 : now.protection, house ? 32 : now.rows,
-                            house ? 255 : now.size, 2, IN_ROWS);
+    uint64_t b = bh_open_as(again, record.n, slots, store.n, now.resource, now.type, now.update, count, house ? 1 : now.protection, house ? BH_HOUSE_ROWS : now.rows,
+                            house ? BH_HOUSE_SIZE : now.size, 2, IN_ROWS);
     if (a != b || memcmp(again, record.at, record.n) != 0 || memcmp(slots, store.at, store.n) != 0)
         fail("opening without edition and order is not opening in edition 2 by rows");
 }
 
-static void open_count(uint32_t count)
+static void open_by_name(enum naming how, uint32_t count)
 {
-    enum naming how = some_naming();
     ask_before(now.resource);
     keep_all();
     SAY("open%s %" PRIu32 "\n", behind[how], count);
@@ -333,6 +333,11 @@ static void open_count(uint32_t count)
         fail("what was opened is not empty");
     if (bh_number(a) == BH_HELD && stands(now.type) == BH_UNKNOWN)
         fail("held by another type");
+}
+
+static void open_count(uint32_t count)
+{
+    open_by_name(some_naming(), count);
 }
 
 static void open_place(void)
@@ -430,7 +435,7 @@ static void judge_packed(uint64_t a, enum naming how, uint32_t n)
     static uint8_t twins[2][OUT_ROOM];
     struct settings kept = now;
     if (how == HOUSE)
-        now.protection = 1, now.rows = 32, now.size = 255;
+        now.protection = 1, now.rows = BH_HOUSE_ROWS, now.size = BH_HOUSE_SIZE;
     unsigned edition = edition_of(how), order = order_of(how);
     uint64_t one = pack_by(NAMED, 1, order, n, twins[0]), two = pack_by(NAMED, 2, order, n, twins[1]);
     if (one != two || a != (is_edition(edition) ? one : BH_FIELD))
@@ -596,8 +601,9 @@ static void judge_rows(uint64_t a)
         fail("an offer does not stop where reading its fields stops");
 }
 
-/* an offer that was judged by a place: 33 exactly where the packet is not of the place's edition, but 11 before it */
-static void judge_offered_edition(uint64_t a)
+/* an offer that was judged by a place: 12 exactly where the payload is longer than its slots, 33 before it where the packet is not of its edition, and 11
+ * before both */
+static void judge_fit(uint64_t a)
 {
     struct fields f = read_packet(packet.at, packet.n);
     struct bh_place p = place_of(f.resource, f.type);
@@ -606,6 +612,8 @@ static void judge_offered_edition(uint64_t a)
         fail("11 where nothing is other, or another answer where something is");
     if (!other && (f.edition != p.edition) != (bh_number(a) == BH_EDITION))
         fail("a place took another edition than its own, or refused its own");
+    if (!other && f.edition == p.edition && (packet.n - 18 > p.slot) != (bh_number(a) == BH_WIDE))
+        fail("12 where the payload fits its slot, or another answer where it does not");
     if (p.order == IN_COLUMNS && (bh_number(a) == BH_REPAIR || bh_mended(a) != 0))
         fail("something was repaired in column order");
 }
@@ -673,7 +681,7 @@ static void offer_one(void)
     if (may(bh_number(a), BH_OTHER, BH_CONFLICT, "\x21")) {
         if (type != 1 && type != 2)
             fail("a packet of a type that no place has was judged by a place");
-        judge_offered_edition(a);
+        judge_fit(a);
         judge_column_offer(a);
     }
     ask_after(type);
@@ -1118,6 +1126,35 @@ static void column_round(void)
     }
 }
 
+/* the house setting, or one row a packet, as it was before; and how a call comes to it */
+static enum naming choose_size(void)
+{
+    enum naming how = pick() % 2 ? HOUSE : pick() % 2 ? UNNAMED : NAMED;
+    now.size = how == HOUSE ? BH_HOUSE_SIZE : BH_ROW;
+    say_settings();
+    return how;
+}
+
+/* a place in either of the two for as many packets as either has, and packets of both: what does not fit is 11 by its count, or 12 by its length */
+static void sizes_round(void)
+{
+    new_store(), new_file(), fill_out(0, BH_LARGEST_PACKET);
+    now = (struct settings){.resource = (uint16_t)(1 + pick() % 4), .type = (uint8_t)(1 + pick() % 2), .update = (uint8_t)(pick() % 16), .protection = 1,
+                            .rows = BH_HOUSE_ROWS, .edition = 2, .order = IN_ROWS};
+    choose_size();
+    uint32_t count = packets();
+    enum naming how = choose_size();
+    open_by_name(how, count);
+    for (unsigned k = 0; k < 4; k++) {
+        how = choose_size();
+        if (!pack_number(how, packets() ? wide() % packets() : 0))
+            return;
+        if (pick() % 2)
+            spoil_rows();
+        offer_one();
+    }
+}
+
 /* packets of a file in column order to whatever is open, with the other type's place in it now and then, and parts of the header altered */
 static void rows_round(void)
 {
@@ -1155,7 +1192,7 @@ int LLVMFuzzerTestOneInput(const uint8_t *data, size_t size)
         choose_settings, new_file, new_store, new_out, new_out, open_place, open_place, open_place, open_beside, open_beside, open_beside,
         open_beside, pack_one, pack_one, pack_one, spoil, spoil, offer_one, offer_one, offer_one, offer_one, read_one, read_one, status_one,
         status_one, hand_one, hand_one, hand_one, close_one, row_one, row_one, disturb, edition_round, edition_round, edition_round, several_offers,
-        several_offers, several_offers, mend_round, mend_round, column_round, column_round, rows_round, rows_round, rows_round, vary_settings, vary_settings, describe_round, describe_round, describe_round, describe_one,
+        several_offers, several_offers, mend_round, mend_round, column_round, column_round, rows_round, rows_round, rows_round, sizes_round, vary_settings, vary_settings, describe_round, describe_round, describe_round, describe_one,
         compose_round, compose_round, compose_round, compose_one};
     static const uint8_t nothing[1];
     lend_all();

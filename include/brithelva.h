@@ -56,6 +56,8 @@ enum bh_limit {
     BH_ROW = 255,             /* bytes of a row: 239 information bytes, then 16 checks */
     BH_ROW_INFO = 239,
     BH_ROW_CHECKS = 16,
+    BH_HOUSE_ROWS = 32,       /* the house setting's M */
+    BH_HOUSE_SIZE = 3825,     /* and its size: fifteen rows a packet, and slots for them */
     BH_ROW_ORDER = 0,
     BH_COLUMN_ORDER = 1,
     BH_PLACES = 8,
@@ -195,7 +197,9 @@ uint64_t bh_pack_as(const uint8_t *file, size_t n, uint16_t resource, uint8_t ty
 uint64_t bh_pack(const uint8_t *file, size_t n, uint16_t resource, uint8_t type, uint8_t update, uint8_t protection,
                  uint8_t rows, uint16_t size, uint32_t number, uint8_t *out, size_t room);
 
-/* The same at the house setting: protection 1, 32 rows, size 255, edition 2, row order. */
+/* The same at the house setting: protection 1, 32 rows, size 3825 (fifteen rows a packet), edition 2, row order. Before version 6 the size was
+ * 255, one row a packet: a program that packs by this call and opens its places with slots of 255 bytes gets 11, since a file has fewer packets
+ * now, or 12 where the count agrees and the payload is longer than 255. It has to name its size, here by bh_pack or there by bh_open. */
 uint64_t bh_pack_house(const uint8_t *file, size_t n, uint16_t resource, uint8_t type, uint8_t update, uint32_t number,
                        uint8_t *out, size_t room);
 
@@ -218,7 +222,9 @@ uint64_t bh_open_as(uint8_t *record, size_t rn, uint8_t *store, size_t sn, uint1
 uint64_t bh_open(uint8_t *record, size_t rn, uint8_t *store, size_t sn, uint16_t resource, uint8_t type, uint8_t update,
                  uint32_t count, uint8_t protection, uint8_t rows, uint16_t slot);
 
-/* The same at the house setting: protection 1, 32 rows, slots of 255, edition 2, row order. */
+/* The same at the house setting: protection 1, 32 rows, slots of 3825, edition 2, row order. Packets with shorter payloads, of files packed in
+ * another size, are taken too if `count` is theirs; each slot has room for 3825 bytes all the same. A place that was opened with slots of 255,
+ * as this call did before version 6, keeps them, and goes on as it was. */
 uint64_t bh_open_house(uint8_t *record, size_t rn, uint8_t *store, size_t sn, uint16_t resource, uint8_t type, uint8_t update,
                        uint32_t count);
 

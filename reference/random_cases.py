@@ -8,7 +8,7 @@ import random, sys
 
 from cases import Case, Run
 from random_descriptions import Choices, Descriptions
-from receiver import COLUMNS, GENERATOR, MARK, PLACE, PLACE_LENGTH, RECORD_LENGTH, ROWS, coded_length, header_of, place_at, read_description, up
+from receiver import COLUMNS, GENERATOR, MARK, PLACE, PLACE_LENGTH, RECORD_LENGTH, ROWS, coded_length, header_of, house, place_at, read_description, up
 
 FIELDS = ["resource", "type", "update", "protection", "rows", "size"]
 RESOURCES = list(range(1, 12)) + [256, 65535]
@@ -212,10 +212,48 @@ class Writer(Choices):
         self.call(f"{self.pick('open', 'open-as', 'open-as')} {self.pick(count_of(s), count_of(s), 0, 1, 1048575, 1048576, 4294967295)}")
 
     def open_house(self, s):
-        s = {**s, "protection": 1, "rows": 32, "size": 255, "edition": 2, "order": ROWS, "length": 1 + self.below(7648)}
-        self.say_settings({**s, "rows": self.below(256), "size": self.below(5000), "edition": self.pick(1, 2, *ODD_EDITIONS), "order": self.pick(0, 1, *ODD_ORDERS)})
+        s = {**s, **house(*named(s), s["update"]), "length": 1 + self.below(7648)}
+        self.say_other_settings(s)
         if self.call(f"open-house {count_of(s)}"):
             self.senders[named(s)] = s
+
+    def say_other_settings(self, s):
+        """For a call under the house setting, which takes nothing of them but resource, type and update."""
+        self.say_settings({**s, "rows": self.below(256), "size": self.below(5000), "edition": self.pick(1, 2, *ODD_EDITIONS), "order": self.pick(0, 1, *ODD_ORDERS)})
+
+    # ---- steps: callers that mix the house setting with that of before
+
+    def step_sizes(self):
+        """A place in the one or the other, for the count that either gives, mostly where it has room; and packets of both."""
+        new = self.any_file()
+        new |= house(*named(new), new["update"]) | {"length": 1 + self.below(15000)}
+        old = {**new, "size": 255}
+        if self.often(0.7):
+            self.senders = {}
+            self.say(f"store {self.below(256)} {self.pick(8224, 12000, 40000, 130000)}")
+            self.say(f"held {RECORD_LENGTH}")
+        place, count = self.pick(old, new), count_of(self.pick(old, new))
+        if not self.call_in_either("open", place, count):
+            return
+        if count == count_of(place):
+            self.senders[named(place)] = place
+        for _ in range(self.pick(2, 4, 6)):
+            s = self.pick(old, new)
+            self.say_file(s)
+            self.say("out 0 4095")
+            if self.call_in_either("pack", s, self.pick(0, self.below(count_of(s)), count_of(s) - 1)):
+                self.say(f"take {self.run.answer.value}")
+                if self.often(0.3):
+                    self.spoil_each_row()
+                self.call("offer")
+
+    def call_in_either(self, call, s, number):
+        """By default where that is the house setting, and by name where it is that of before."""
+        if s["size"] == 255:
+            self.say_settings(s)
+            return self.call(f"{self.named_or_not(call, s)} {number}")
+        self.say_other_settings(s)
+        return self.call(f"{call}-house {number}")
 
     def step_close(self):
         if self.call(f"close {self.resource_and_type()}"):
@@ -654,7 +692,7 @@ class Writer(Choices):
 
     # ---- all together
 
-    WEIGHTS = {"fresh": 3, "open": 16, "close": 5, "offer": 28, "offer_made": 7, "offer_noise": 3, "edition": 18, "rows": 12, "columns": 14, "mend": 7, "status": 5, "hand": 7,
+    WEIGHTS = {"fresh": 3, "open": 16, "close": 5, "offer": 28, "offer_made": 7, "offer_noise": 3, "edition": 18, "rows": 12, "columns": 14, "mend": 7, "sizes": 5, "status": 5, "hand": 7,
                "complete": 6, "poke": 8, "fill_slots": 3, "place": 6, "held_edition": 5, "held_order": 5, "pack": 12, "pack_many": 1, "read": 22, "encode": 2, "repair": 8, "crc": 2,
                "describe": 18, "edit_lines": 2, "compose": 14}
 

@@ -348,7 +348,8 @@ def settings_fit(s):
 
 
 def house(resource, kind, update):
-    return {"resource": resource, "type": kind, "update": update, "protection": 1, "rows": 32, "size": 255, "edition": 2, "order": ROWS}
+    """Fifteen rows a packet (document 02, R-6)."""
+    return {"resource": resource, "type": kind, "update": update, "protection": 1, "rows": 32, "size": 15 * 255, "edition": 2, "order": ROWS}
 
 
 def up(a, b):

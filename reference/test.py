@@ -741,9 +741,27 @@ def test_counts():
     same([count_sent(7648, 32, 255), count_sent(7649, 32, 255), count_sent(7648, 32, 3825)], [32, 64, 3])
 
 
+def test_house():
+    """Fifteen rows a packet and M still 32, in packing and in opening; what mixes it with one row a packet is Other, or Wide where the count agrees and the
+    payload is longer than 255 bytes."""
+    new, old = r.house(7, 1, 2), settings(7, 1, 2, 1, 32, 255)
+    same(new, {**old, "size": 3825})
+    file = some(7000)
+    first = {size: packets_of(s, file)[0] for size, s in ((255, old), (3825, new))}
+    last = packets_of(new, some(61184))[-1]
+    for size, count, packet, number in ((255, 32, first[255], 0), (3825, 3, first[3825], 0), (255, 32, first[3825], 11), (3825, 3, first[255], 11), (255, 3, first[3825], 12),
+                                        (3825, 32, first[255], 0), (255, 18, last, 0)):
+        record = r.Receiver(bytearray(r.RECORD_LENGTH), bytearray(count * (size + 2)))
+        record.open({**new, "size": size}, count)
+        if number:
+            refused(number, 0, record.offer, packet)
+        else:
+            same(record.offer(packet), ("Stored", 0))
+
+
 def test_packets_joined():
     """Packets carry the coded file in order, each but the last full, under a CRC of their own."""
-    for s in (settings(7, 1, 0, 0, 0, 100), settings(7, 1, 0, 0, 9, 4077), settings(7, 2, 1, 1, 3, 510), r.house(7, 1, 2)):
+    for s in (settings(7, 1, 0, 0, 0, 100), settings(7, 1, 0, 0, 9, 4077), settings(7, 2, 1, 1, 3, 510), settings(7, 1, 2, 1, 32, 255), r.house(7, 1, 2)):
         file = some(5000)
         packer = r.Packer(file)
         first = r.read_fields(packer.packet(s, 0, 4095))
@@ -1403,15 +1421,15 @@ def test_edition_commands():
     same([spare("pack 0"), spare("pack-as 0")], ["4000", "4000"])
     same([spare("edition 1", "pack 0"), spare("edition 1", "pack-as 0"), spare("edition 65537", "settings 5 1 3 0 0 8", "pack-as 0")], ["4000", "4fff", "4fff"])
     same([spare("edition 9", "pack 0"), spare("edition 9", "pack-as 0"), spare("edition", "pack-as 0"), spare("edition 257", "pack-as 0")], ["4000"] + ["0000"] * 3)
-    same(at_hand("out", *start, "out 0 273", "edition 1", "pack-house 0")[12:14].hex(), "5200")
+    same(at_hand("out", *start, "out 0 3843", "edition 1", "pack-house 0")[12:14].hex(), "5200")
     same([at_hand("held", *start, "edition 1", call)[16] for call in ("open 1", "open-as 1")], [2, 1])
-    same(at_hand("held", *start, "store 0 257", "edition 1", "open-house 1")[16], 2)
+    same(at_hand("held", *start, "store 0 3827", "edition 1", "open-house 1")[16], 2)
     same([at_hand("store", *start, *lines, "send 1 1 1 0 0 0")[0] for lines in (["open 1"], ["edition 1", "open 1"], ["edition 1", "open-as 1"])], [8, 0, 8])
 
 
 def test_order_commands():
     """What `order` sets is taken by the calls that name it and by `send`; it begins as 0, and settings leave it."""
-    start = ["file 1 470", "out 0 300", "held 160", "store 0 1000", "settings 5 1 3 1 2 255"]
+    start = ["file 1 470", "out 0 300", "held 160", "store 0 4000", "settings 5 1 3 1 2 255"]
     sent = {order: r.coded_file(cases.generated(1, 470), 2, order)[:255] for order in (0, 1)}
     payload = lambda *lines: at_hand("out", *start, *lines)[14:269]
     same([payload("pack-as 0"), payload("order 1", "pack 0"), payload("order 9", "pack 0")], [sent[0]] * 3)
@@ -1584,6 +1602,25 @@ def told_of_orders(run, words, places):
     return told
 
 
+def told_of_sizes(run, words):
+    """What an offer of a full payload shows where the house setting, with fifteen rows a packet, and that of before, with one, may be mixed."""
+    number = run.answer.number
+    if words[0] != "offer" or number not in (0, 11, 12) or len(run.bytes) not in (273, 3843):
+        return set()
+    f = r.read_header(run.bytes)
+    p = place_of(run, *r.named(f))
+    if p["slot"] not in (255, 3825) or p["order"] or f["update"] != p["update"] or any(x[k] != v for x in (f, p) for k, v in (("protection", 1), ("rows", 32), ("edition", 2))):
+        return set()
+    return {f"{len(run.bytes) - 18} bytes in slots of {p['slot']}, {'as many' if f['count'] == p['count'] else 'another count'}: {number}"}
+
+
+def every_size(told):
+    """Both settings by themselves and mixed: Other where the counts differ, Wide where the count agrees and the payload is longer than the slots."""
+    wanted = {f"{size} bytes in slots of {size}, as many: 0" for size in (255, 3825)} | {"255 bytes in slots of 3825, as many: 0", "3825 bytes in slots of 255, as many: 12"}
+    wanted |= {f"{size} bytes in slots of {slot}, another count: 11" for size in (255, 3825) for slot in (255, 3825)}
+    same({t for t in told if t and " in slots of " in t}, wanted)
+
+
 def every_order(told):
     """Column order in each way: Rows passed over and not, each refusal of hand out, what is restored and what is not, 17 and 9 by the order alone."""
     wanted = {f"offer in columns: {number}" for number in (0, 11, 12, 14, 15, 16, 33)} | {f"rows at 1: {number}" for number in (0, 11, 12, 14, 33)}
@@ -1599,7 +1636,7 @@ def every_order(told):
 
 
 class Watched(random_cases.Writer):
-    """Writes a random file, and keeps what its answers show of resource and type together, of what was mended, of editions and of orders."""
+    """Writes a random file, and keeps what its answers show of resource and type together, of what was mended, of editions, of orders and of sizes."""
 
     def __init__(self, seed):
         super().__init__(seed)
@@ -1610,7 +1647,7 @@ class Watched(random_cases.Writer):
         super().say(line)
         if words[0] in ("status", "hand", "close", "offer", "open", "open-as", "open-house"):
             self.told |= {told_of_types(self.run, words, places), told_of_shares(self.run, places)} | told_of_held_editions(self.run, words, places)
-        self.told |= {told_of_mended(self.run, words[0])} | told_of_editions(self.run, words) | told_of_orders(self.run, words, places)
+        self.told |= {told_of_mended(self.run, words[0])} | told_of_editions(self.run, words) | told_of_orders(self.run, words, places) | told_of_sizes(self.run, words)
 
 
 def every_way(told):
@@ -1655,12 +1692,13 @@ def watched(seed):
 def test_random_files():
     """What comes up in two files, written beside each other."""
     with concurrent.futures.ProcessPoolExecutor(2, multiprocessing.get_context("fork")) as pool:
-        (lines, told), (others, too) = pool.map(watched, (6, 7))
+        (lines, told), (others, too) = pool.map(watched, (6, 8))
     lines, told = lines + others, told | too
     every_way(told)
     every_number(told)
     every_edition(told)
     every_order(told)
+    every_size(told)
     same([n for n in r.REFUSALS if not any(f" refused {n} " in line + " " for line in lines)], [])
     for call in ("describe", "compose"):
         answers = {answer.split(" ", 2)[2] for line, answer in zip(lines, lines[1:]) if line.startswith(call + " ")}

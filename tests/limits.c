@@ -51,6 +51,26 @@ static void expect_header(const char *name, const uint8_t *packet, size_t n, uin
     expect(name, count, fields[4]);
 }
 
+/* the house setting as the header has it, in both calls; the largest file has 2194 tables of 32 rows in 4681 packets, of which the last has eight rows */
+static void house(const uint8_t *file, uint8_t *store)
+{
+    uint8_t record[BH_RECORD] = {0}, packet[BH_LARGEST_PACKET];
+    size_t n = BH_HOUSE_SIZE + BH_HEADER + BH_CRC, last = 8 * BH_ROW + BH_HEADER + BH_CRC;
+    expect("a house packet", 256 * n, bh_pack_house(file, BH_LARGEST_FILE, 1, 1, 0, 0, packet, sizeof packet));
+    expect_header("its header", packet, n, 0, 4681);
+    expect("its M", BH_HOUSE_ROWS, (packet[12] & 15) << 4 | packet[13] >> 4);
+    expect("the last house packet", 256 * last, bh_pack_house(file, BH_LARGEST_FILE, 1, 1, 0, 4680, packet, sizeof packet));
+    expect_header("the last one's header", packet, last, 4680, 4681);
+    expect("no more of them", BH_NUMBER, bh_pack_house(file, BH_LARGEST_FILE, 1, 1, 0, 4681, packet, sizeof packet));
+    /* 4383 slots of 3827 bytes leave 3475 of the usable store */
+    expect("a house slot too many", BH_ROOM, bh_open_house(record, BH_RECORD, store, BH_USABLE_STORE, 1, 1, 0, 4384));
+    expect("as many house slots as fit", 0, bh_open_house(record, BH_RECORD, store, BH_USABLE_STORE, 1, 1, 0, 4383));
+    struct bh_place p = bh_place_at(record, 0);
+    expect("the place's slots", BH_HOUSE_SIZE, p.slot);
+    expect("the place's M", BH_HOUSE_ROWS, p.rows);
+    expect("and nothing else", 1 + 1 + 4383 + 1 + 2, (uint64_t)p.resource + p.type + p.update + p.count + p.protection + p.start + p.edition + p.order);
+}
+
 /* the largest file in column order; the largest count, on each side; the largest table and the largest packet */
 static void column_packing(const uint8_t *file)
 {
@@ -416,6 +436,7 @@ int main(int count, char **words)
         return packets(file);
     memset(store, 0xEE, room);
     packing(file);
+    house(file, store);
     column_packing(file);
     stores(store);
     largest(file, store, out);

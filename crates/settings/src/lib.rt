@@ -64,7 +64,7 @@ pub fn rows_sent(settings: Settings) -> u8
     edition::spare_of(settings.edition).rows
 }
 
-// The house setting, for a packing or an opening call that names none.
+// The house setting, for a packing or an opening call that names none: fifteen rows a packet.
 pub fn house(resource: u16, kind: u8, update: u8) -> Settings
     ensures { λ r. ⌜ r ≡ houseOf resource kind update ⌝ }
 {
@@ -74,7 +74,7 @@ pub fn house(resource: u16, kind: u8, update: u8) -> Settings
         update,
         protection: 1,
         rows: 32,
-        size: 255,
+        size: 3825,
         edition: Settings::EDITION,
         order: Settings::ORDER,
     }
