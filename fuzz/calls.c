@@ -1104,7 +1104,8 @@ static void column_round(void)
                 poke(at + 2, (uint8_t)pick());
         }
         /* one byte of a filled slot, by its row */
-        uint64_t sent = wide() % ((uint64_t)(all - 1) * now.size + little(slot_of(p, all - 1), 2) + (all == 1)), row = sent / (BH_ROW * p.rows) * p.rows + sent % p.rows;
+        uint64_t there = (uint64_t)(all - 1) * now.size + little(slot_of(p, all - 1), 2), sent = wide() % (there ? there : 1);
+        uint64_t row = sent / (BH_ROW * p.rows) * p.rows + sent % p.rows;
         size_t at = (size_t)(slot_of(p, (size_t)(sent / p.slot)) - store.at) + 2 + (size_t)(sent % p.slot);
         int altered = pick() % 2 && little(slot_of(p, (size_t)(sent / p.slot)), 2) > sent % p.slot;
         uint8_t before = store.at[at];
