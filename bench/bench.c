@@ -333,7 +333,7 @@ static void files(void)
     char name[80];
     for (int k = 0; k < 2; k++) {
         struct job j = job_of(1 << 20, 1, sizes[k]);
-        const char *kind = k == 0 ? "house setting, 15 rows a packet" : "that of before, 1 row a packet";
+        const char *kind = k == 0 ? "15 rows a packet (house setting)" : "1 row a packet (house setting before R-6)";
         double mb = 1e-6 * (double)j.n;
         peer_pack_all(&j);
         must(memcmp(j.packets, j.fec_out, j.sent) == 0, "packets");
