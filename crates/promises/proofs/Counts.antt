@@ -1,29 +1,28 @@
 -- Files of different counts: the packets of each are refused at the other's place, so one list can carry both; and what a place holds is handed out at no length that needs
--- another number of packets or tables. Assumes nothing.
-use mathlib.Core.Path.{_≡_, refl, sym, ap, _∙_}
+-- another number of packets or tables. And packets of another size: a payload that is longer than a place's slots is refused there. Assumes nothing.
+use mathlib.Core.Path.{_≡_, refl, sym}
 use mathlib.Core.Bool.{Bool, true, false}
 use mathlib.Core.List.{List, _++_}
 use Prim.Native.Nat.{ℕ}
 use native.Mathlib.Omega.{arith}
 use lib.ListN.{length, replicate}
 use Rattle.code.proofs.Lists.{zeros-bytes}
-use Rattle.refusals.specs.declared.Refusal.the-variants.{Other}
+use Rattle.refusals.specs.declared.Refusal.the-variants.{Other, Wide}
 use Rattle.packet.specs.declared.Packet.{Packet}
 use Rattle.settings.specs.declared.Settings.{Settings}
 use Rattle.pack.specs.Pack.{countOf, packetOf}
 use Rattle.pack.proofs.Laws.{fieldsOf, packet-reads}
 use Rattle.places.specs.declared.Place.{Place}
 use Rattle.places.specs.Places.{placeOf}
-use Rattle.record.specs.Offer.{packetName, Offering, differs, offerJudged}
-use Rattle.record.specs.Told.{offeredTold}
-use Rattle.record.proofs.OfferCases.{judge-other, offer-placed}
+use Rattle.record.specs.Offer.{differs}
+use Rattle.record.proofs.OfferCases.{judge-other, judge-wide}
 use Rattle.record.proofs.OfferFacts.{same-file}
 use Rattle.promises.specs.Calls.{Call, step}
-use Rattle.promises.specs.Statements.{Protected, Fair, AllFair, Carries, placeAt, DifferentCounts, OneCount, OtherLengthRefused}
+use Rattle.promises.specs.Statements.{Protected, Fair, AllFair, Carries, placeAt, DifferentCounts, OneCount, OtherLengthRefused, NoWider}
 use Rattle.promises.proofs.Noise.{refused-is-noise}
 use Rattle.promises.proofs.Own.{fair-each, own, own-before, own-behind}
 use Rattle.promises.proofs.Demand.{collected, refuses}
-use Rattle.promises.proofs.Slots.{held-found}
+use Rattle.promises.proofs.Slots.{refused-there}
 use Rattle.promises.proofs.Example.{one, byte, protected}
 
 -- a packet with another count is not of the place's file
@@ -63,10 +62,10 @@ one-and-two-packets =
 -- ---- at one place
 
 pub one-count : OneCount step
-unfolding step
-one-count x q f i read h d =
-    ap (λ (o : Offering). offeredTold (o .answer)) (offer-placed (x .held) (x .store) q (h .sound) f read i (held-found x (packetName f) i h)
-    ∙ ap (offerJudged (placeAt x i) (x .store)) (judge-other (placeAt x i) f q (count-differs (placeAt x i) f d)))
+one-count x q f i read h d = refused-there x q f i Other read h (judge-other (placeAt x i) f q (count-differs (placeAt x i) f d))
+
+pub no-wider : NoWider step
+no-wider x q f i read h d o w = refused-there x q f i Wide read h (judge-wide (placeAt x i) f q d o w)
 
 pub other-length-refused : OtherLengthRefused step
 other-length-refused g file p x answer cs carried n d out =

@@ -1,6 +1,6 @@
 -- The two editions (document 02, R-9): what is packed shows its own, a place refuses the other, and so the packets of one are noise at a place of the other.
 -- Assumes nothing.
-use mathlib.Core.Path.{_≡_, refl, sym, ap, _∙_}
+use mathlib.Core.Path.{_≡_, refl, sym, _∙_}
 use mathlib.Core.Bool.{Bool, true, false}
 use mathlib.Core.List.{List, _++_}
 use Prim.Native.Nat.{ℕ, _<_}
@@ -11,23 +11,19 @@ use Rattle.settings.specs.declared.Settings.{Settings}
 use Rattle.pack.specs.Pack.{countOf, packetOf}
 use Rattle.pack.proofs.Laws.{fieldsOf, packet-reads, packet-edition}
 use Rattle.places.specs.Places.{placeOf}
-use Rattle.record.specs.Offer.{packetName, Offering, differs, offerJudged}
-use Rattle.record.specs.Told.{offeredTold}
-use Rattle.record.proofs.OfferCases.{judge-other, judge-edition, offer-placed}
+use Rattle.record.specs.Offer.{differs}
+use Rattle.record.proofs.OfferCases.{judge-other, judge-edition}
 use Rattle.promises.specs.Calls.{step}
 use Rattle.promises.specs.Statements.{BringsNoOther, Protected, Fair, AllFair, placeAt, ShowsEdition, OwnEdition, DifferentEditions}
 use Rattle.promises.proofs.Noise.{refused-is-noise}
 use Rattle.promises.proofs.Own.{fair-each, own, own-before, own-behind}
-use Rattle.promises.proofs.Slots.{held-found}
+use Rattle.promises.proofs.Slots.{refused-there}
 
 pub shows-edition : ShowsEdition
 shows-edition g file n fit few below = (fieldsOf g file n, packet-reads g file n fit few below, packet-edition g file n fit few below)
 
 pub own-edition : OwnEdition step
-unfolding step
-own-edition x q f i read h d z =
-    ap (λ (o : Offering). offeredTold (o .answer)) (offer-placed (x .held) (x .store) q (h .sound) f read i (held-found x (packetName f) i h)
-    ∙ ap (offerJudged (placeAt x i) (x .store)) (judge-edition (placeAt x i) f q d z))
+own-edition x q f i read h d z = refused-there x q f i Edition read h (judge-edition (placeAt x i) f q d z)
 
 -- ---- two files, carried by one list
 

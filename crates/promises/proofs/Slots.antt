@@ -8,6 +8,7 @@ use Prim.Native.Nat.{ℕ, _+_, _%_, _<_, _≤_}
 use native.Mathlib.Omega.{arith}
 use lib.Dec.{eqb}
 use lib.ListN.{length, getD, List·getD-eq-default}
+use Rattle.refusals.specs.declared.Refusal.{Refusal}
 use Rattle.refusals.specs.declared.Refusal.the-variants.{Slot, Conflict}
 use Rattle.refusals.specs.Told.{refusedAs}
 use Rattle.refusals.proofs.Told.{number-not-0}
@@ -37,7 +38,7 @@ use Rattle.record.specs.Mend.{payloadIn, mendedIn}
 use Rattle.settings.specs.Settings.{rowWise}
 use Rattle.record.specs.Offer.{packetName, readFor, differs, mendAs, Judged, refuse, put, judge, putInto, Offering, storing, offerJudged, offerOf}
 use Rattle.record.specs.Told.{offeredTold}
-use Rattle.record.proofs.OfferCases.{payload-length, mended-plain, mended-rows, puts-known}
+use Rattle.record.proofs.OfferCases.{offer-placed, payload-length, mended-plain, mended-rows, puts-known}
 use Rattle.record.proofs.OfferFacts.{Read, read-placed, same-file, mends-nothing, mends-rows, rows-judged, rows-protected}
 use Rattle.record.proofs.OfferLaws.{Placed, Sound, Case, refused, placed, offer-case, offer-sound}
 use Rattle.standing.specs.declared.Standing.{Standing}
@@ -45,7 +46,7 @@ use Rattle.standing.specs.declared.Standing.the-variants.{Filled}
 use Rattle.standing.specs.Status.{standingIn, statusOf}
 use Rattle.standing.specs.Told.{standingTold}
 use Rattle.standing.proofs.StatusLaws.{status-found}
-use Rattle.promises.specs.Calls.{State, step, telling}
+use Rattle.promises.specs.Calls.{State, offering, step, telling}
 use Rattle.promises.specs.Statements.{RowsNear, bytesAltered, placeAt, slotIn, Held, lowestValues, slotsTold, StatusBySlots, Carried, OthersStay, Accepts, OffersBySlots}
 use Rattle.promises.proofs.EachRow.{rows-near}
 
@@ -67,6 +68,14 @@ module _ (x : State) (r : Name) (i : ℕ) where
 
   pub found-held : good (length (x .store)) (x .held .places) ≡ true → placeNamed (x .held .places) r ≡ At i → Held x r i
   found-held g e = record { sound = g; named = found-names (x .held .places) r i e .1 }
+
+-- a packet that its place judges to be refused is refused so
+pub refused-there : (x : State) (q : List ℕ) (f : Packet) (i : ℕ) (r : Refusal) → readFor (x .held) q ≡ Sent f → Held x (packetName f) i
+    → judge (placeAt x i) f q ≡ refuse r → step (offering q) x .answer .told ≡ refusedAs r
+unfolding step
+refused-there x q f i r read h j =
+    ap (λ (o : Offering). offeredTold (o .answer)) (offer-placed (x .held) (x .store) q (h .sound) f read i (held-found x (packetName f) i h)
+    ∙ ap (offerJudged (placeAt x i) (x .store)) j)
 
 -- ---- status
 

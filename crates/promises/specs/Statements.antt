@@ -1,4 +1,4 @@
--- What an institute may rely on: document 01, section 5, section 7, the order's demands 2 and 3, and document 02, R-1, R-7, R-8 and R-9. Each statement is about any program; proofs/ shows them of `step`.
+-- What an institute may rely on: document 01, section 5, section 7, the order's demands 2 and 3, and document 02, R-1 and R-6 to R-9. Each statement is about any program; proofs/ shows them of `step`.
 -- docs/PROMISES.md says each in plain words. Assumes nothing.
 use mathlib.Core.Path.{_≡_}
 use mathlib.Core.Logic.{_⊎_}
@@ -8,7 +8,7 @@ use Prim.Native.Nat.{ℕ, _+_, _-_, _*_, _/_, _%_, _≤_, _<_}
 use lib.Dec.{eqb}
 use lib.ListN.{length, getD, take, drop, replicate}
 use Rattle.ground.specs.Lists.{listed}
-use Rattle.refusals.specs.declared.Refusal.the-variants.{Unknown, Other, Edition, Slot, Size}
+use Rattle.refusals.specs.declared.Refusal.the-variants.{Unknown, Other, Edition, Wide, Slot, Size}
 use Rattle.refusals.specs.Told.{Told, acceptedWith, refusedAs}
 use Rattle.code.specs.Code.{Bytes, distance}
 use Rattle.code.specs.Repair.{Near}
@@ -308,6 +308,13 @@ OtherLengthRefused f =
     → (n : ℕ) → (countOf g n ≡ countOf g (length file) → ⊥) ⊎ ((g .order ≡ 0) × (tablesOf (g .rows) n ≡ tablesOf (g .rows) (length file) → ⊥))
     → (out : List ℕ) → f (handing (settingsName g) n out) (run f cs (opened f g file x) .state) .answer
     ≡ record { told = refusedAs Size; output = out }
+
+-- a place has slots of one size: there a packet of its count and edition whose payload is longer, as one packed in a larger size may be, is refused (12), whatever it holds (document 02, R-6)
+abbrev pub NoWider : Program → Type 0
+NoWider f =
+    (x : State) (q : List ℕ) (fields : Packet) (i : ℕ) → readFor (x .held) q ≡ Sent fields → Held x (packetName fields) i
+    → differs (placeAt x i) fields ≡ false → editionOf fields ≡ placeAt x i .edition → placeAt x i .slot < length (payloadIn q)
+    → f (offering q) x .answer .told ≡ refusedAs Wide
 
 -- ---- a file and its description: document 02, R-1
 
