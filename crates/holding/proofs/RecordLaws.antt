@@ -21,10 +21,13 @@ length-all : (ps : List Place) → length (allBytes ps) ≡ length ps * placeLen
 length-all [] = refl
 length-all (p ∷ ps) = omega (arith, length-append (placeBytes p) (allBytes ps), length-place p, length-all ps)
 
--- put over as many bytes, they are all that is left
+-- put over as many bytes, those of eight places are all that is left; and so a record's
+all-over : (ps : List Place) (bytes : List ℕ) → length ps ≡ 8 → length bytes ≡ recordLength → sets bytes 0 (allBytes ps) ≡ allBytes ps
+all-over ps bytes n e = sets-all bytes (allBytes ps) (omega (arith, length-all ps))
+
 pub put-over : (h : Record) (bytes : List ℕ) → length (h .places) ≡ 8 → length bytes ≡ recordLength → sets bytes 0 (recordBytes h) ≡ recordBytes h
 unfolding recordBytes
-put-over h bytes n e = sets-all bytes (allBytes (h .places)) (omega (arith, length-all (h .places)))
+put-over h = all-over (h .places)
 
 pub record Putting (ps : List Place) (out : List ℕ) (i : ℕ) : Type 0 where
   pub within : i ≤ 8
@@ -33,7 +36,7 @@ pub record Putting (ps : List Place) (out : List ℕ) (i : ℕ) : Type 0 where
 
 module _ (ps : List Place) (n : length ps ≡ 8) (out : List ℕ) where
   pub put-begin : length out ≡ recordLength → Putting ps out 0
-  put-begin h = record { within = omega arith; long = h; rest = sets-all out (allBytes ps) (omega (arith, length-all ps)) }
+  put-begin h = record { within = omega arith; long = h; rest = all-over ps out n h }
 
   module _ (i : ℕ) (run : Putting ps out i) where
     pub put-step : (b next : List ℕ) → i < 8 → b ≡ placeBytes (getD ps i unused) → next ≡ sets out (i * placeLength) b → Putting ps next (i + 1)
