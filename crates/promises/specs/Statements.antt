@@ -309,7 +309,9 @@ OtherLengthRefused f =
     → (out : List ℕ) → f (handing (settingsName g) n out) (run f cs (opened f g file x) .state) .answer
     ≡ record { told = refusedAs Size; output = out }
 
--- a place has slots of one size: there a packet of its count and edition whose payload is longer, as one packed in a larger size may be, is refused (12), whatever it holds (document 02, R-6)
+-- ---- packets of another size than a place was opened for: document 02, R-6
+
+-- a place has slots of one size: there a packet of its file, in its edition, whose payload is longer is refused (12), whatever its rows, its CRC and the slots hold
 abbrev pub NoWider : Program → Type 0
 NoWider f =
     (x : State) (q : List ℕ) (fields : Packet) (i : ℕ) → readFor (x .held) q ≡ Sent fields → Held x (packetName fields) i

@@ -42,7 +42,7 @@ meantEdition = 2
 abbrev pub meantOrder : ℕ
 meantOrder = 0
 
--- the house setting: protection 1, M = 32, that edition and that order (section 4); fifteen rows a packet, P and S = 3825 (document 02, R-6)
+-- the house setting: protection 1 and M = 32 (section 4), fifteen rows a packet, P and S = 3825 (document 02, R-6), that edition and that order
 abbrev pub house : ℕ → ℕ → ℕ → Settings
 house resource kind update =
     record { resource = resource; kind = kind; update = update; protection = 1; rows = 32; size = 3825; edition = meantEdition; order = meantOrder }
