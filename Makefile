@@ -19,7 +19,7 @@ CFLAGS = -std=gnu11 -O2 -Wall -Wextra -Wconversion -Iinclude
 sources = crates.txt $(shell find crates -path '*/must-fail' -prune -o -type f -print)
 command = $(wildcard command/*.c command/*.h) include/brithelva.h
 
-.PHONY: all test quick left-out style reference reference-itself reference-cases cases demo library command safety checked checked-command checked-safety kill steps limits largest example bench fuzz install uninstall clean
+.PHONY: all test quick left-out style reference reference-itself reference-cases cases demo library command safety checked checked-command checked-safety kill steps limits transcript largest example bench fuzz install uninstall clean
 
 all: build/run
 
@@ -44,7 +44,7 @@ demo: build/run
 # ---- tests. `test` is the gate: what shows a fault in seconds, then every proof and every wrong edit from nothing (`rt ci`), then what runs on the
 # proved library. tests/gate runs these parts one by one, and beside each other what a + joins; its last line counts what passed.
 before = style reference
-in_c = library command safety+kill limits example fuzz+largest+steps
+in_c = library command safety+kill limits+transcript example fuzz+largest+steps
 ifeq ($(machine),x86_64)
 in_c += checked
 endif
@@ -114,6 +114,12 @@ kill: build/run
 limits: build/limits
 	@$(tools) here build/limits
 
+# random calls of every function: each has to be answered as it was, and to leave the bytes that it left
+transcript: build/transcript
+	@$(tools) here build/transcript >build/transcript.txt
+	@diff tests/transcript.txt build/transcript.txt || { echo 'transcript: not what version 6.0 answered'; exit 1; }
+	@echo "transcript: $$(sed -n 's/^all: \([0-9]*\)\([0-9]\{3\}\) calls.*/\1,\2/p' build/transcript.txt) calls answered as version 6.0 answered them"
+
 # every packet of the largest protected file, beside the second program's
 largest: build/limits
 	@$(tools) here build/limits packets | reference/largest.py
@@ -127,7 +133,7 @@ steps:
 	@echo 'steps: skipped, it needs an x86-64 processor'
 endif
 
-build/limits build/steps: build/%: tests/%.c include/brithelva.h build/libbrithelva.a
+build/limits build/transcript build/steps: build/%: tests/%.c include/brithelva.h build/libbrithelva.a
 	@$(tools) $(CC_FOR)
 	@$(CC_FOR) $(CFLAGS) $(LINK) $< build/libbrithelva.a -o $@
 
