@@ -11,3 +11,4 @@ pub mod Lost
 pub mod Restored
 pub mod Mend
 pub mod Cases
+pub mod Totals

@@ -14,6 +14,7 @@ use borrow.Author.Tests.{eqb-true}
 use Rattle.ground.specs.Bits.{sum}
 use Rattle.ground.proofs.Sums.{sum-self, sum-zero, zero-sum, sum-cancel}
 use Rattle.field.specs.Field.{product, power, expo}
+pub use Rattle.field.proofs.Raising.{expo-zero, expo-suc, expo-add, one-product}
 use Rattle.field.proofs.Laws.{ring, sum-byte, product-byte, product-comm, product-assoc, product-one, zero-product, product-zero, zero-divisor, power-byte, power-injective, expo-byte, expo-power}
 use Rattle.code.specs.Code.{Bytes}
 use Rattle.code.specs.Value.{value}
@@ -21,26 +22,8 @@ use Rattle.code.proofs.Lists.{zeros}
 
 -- ---- powers of any element
 
-pub expo-zero : (x : ℕ) → expo x 0 ≡ 1
-unfolding expo
-expo-zero x = refl
-
-pub expo-suc : (x j : ℕ) → expo x (suc j) ≡ product x (expo x j)
-unfolding expo
-expo-suc x j = refl
-
-pub expo-add : (x m n : ℕ) → expo x (m + n) ≡ product (expo x m) (expo x n)
-expo-add x zero n =
-    ap (expo x) (zero-add n) ∙ sym (product-one (expo x n) (expo-byte x n)) ∙ ap (λ (z : ℕ). product z (expo x n)) (sym (expo-zero x))
-expo-add x (suc m) n =
-    ap (expo x) (suc-add m n) ∙ expo-suc x (m + n) ∙ ap (product x) (expo-add x m n) ∙ sym (product-assoc x (expo x m) (expo x n))
-    ∙ ap (λ (z : ℕ). product z (expo x n)) (sym (expo-suc x m))
-
 swap-power : (i j : ℕ) → expo (power i) j ≡ expo (power j) i
 swap-power i j = expo-power i j ∙ ap power (mul-comm i j) ∙ sym (expo-power j i)
-
-pub one-product : (a : ℕ) → a < 256 → product a 1 ≡ a
-one-product a h = product-comm a 1 ∙ product-one a h
 
 -- ---- terms
 

@@ -6,3 +6,4 @@ pub mod Register
 pub mod Value
 pub mod Cases
 pub mod Mend
+pub mod Total

@@ -21,9 +21,8 @@ use Rattle.code.proofs.Restored.{restore-found, restore-none}
 use Rattle.errata.specs.declared.Errata.{Errata}
 use Rattle.errata.specs.Errata.{atPlace, padded, leaving}
 use Rattle.errata.specs.Restoring.{fallingTo, among, fillingFor, fillingOf}
-use Rattle.errata.specs.InnerErrata.{nothingTo, entries, shareOf, mendedBy}
+use Rattle.errata.specs.InnerErrata.{nothingTo, entries, shareOf, mendedBy, Agreeing}
 use Rattle.errata.specs.InnerRestoring.{Filled}
-use Rattle.errata.proofs.Shares.{Agreeing}
 use Rattle.errata.proofs.Mending.{mended-off, Weighed, mended-coded, agreed, all-zeros}
 use Rattle.errata.proofs.Listing.{mended-on, getD-map, all-padded}
 use Rattle.errata.proofs.Leaving.{leaving-length, leaving-bytes, leaving-rest}

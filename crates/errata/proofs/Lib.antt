@@ -1,13 +1,13 @@
-pub mod ByExponents
-pub mod Totals
 pub mod Null
-pub mod Shares
+pub mod Blending
 pub mod Locators
 pub mod Solving
 pub mod Mending
 pub mod Keeping
 pub mod Rising
 pub mod Listing
+pub mod Entries
+pub mod Vectors
 pub mod Leaving
 pub mod Counting
 pub mod Between
@@ -15,5 +15,7 @@ pub mod Moved
 pub mod Places
 pub mod Fronts
 pub mod Solvable
+pub mod Tails
+pub mod Gathered
 pub mod Fitting
 pub mod Filled

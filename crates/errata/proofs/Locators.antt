@@ -1,6 +1,7 @@
 -- The roots of a locator that is not zero are at most eight different places (crate roots), and they are all of them.
 -- Assumes nothing.
-use mathlib.Core.Path.{_≡_, sym, _∙_}
+use mathlib.Core.Path.{_≡_}
+use mathlib.Core.Logic.{_≢_}
 use mathlib.Core.List.{List}
 use Prim.Native.Nat.{ℕ, _<_}
 use native.Mathlib.Omega.{arith}
@@ -25,7 +26,7 @@ of-all {v} {n} {at} long r =
       all = r .all;
     }
 
-pub rooted : (v : List ℕ) (top : ℕ) → length v ≡ 9 → ((i : ℕ) → getD v i 0 < 256) → getD v top 0 ≡ 1 → (r : Roots) → r ≡ rootsOf v → Rooted v (r .n) (r .at)
-rooted v top long fit one r e =
+pub rooted : (v : List ℕ) (top : ℕ) → length v ≡ 9 → ((i : ℕ) → getD v i 0 < 256) → getD v top 0 ≢ 0 → (r : Roots) → r ≡ rootsOf v → Rooted v (r .n) (r .at)
+rooted v top long fit some r e =
     rw e
-    (of-all long (all-roots v top (bytes-of v fit) (λ z. let q : _≡_ {A = ℕ} 1 0 = sym one ∙ z in omega arith) (omega arith)))
+    (of-all long (all-roots v top (bytes-of v fit) some (omega arith)))

@@ -7,7 +7,7 @@ use mathlib.Core.Logic.{_≢_, ⊎-elim}
 use mathlib.Core.Bool.{Bool, true, false}
 use mathlib.Core.List.{List, [], _∷_}
 use Prim.Native.Nat.{ℕ, zero, suc, _+_, _-_, _≤_, _<_}
-use native.Mathlib.Nat.{le-refl, not-suc-le-zero}
+use native.Mathlib.Nat.{le-refl, not-suc-le-zero, mul-comm}
 use native.Mathlib.Numerals.{add-one}
 use native.Mathlib.Omega.{arith}
 use lib.ListN.{length, getD, set, length-set}
@@ -15,7 +15,7 @@ use lib.Seq.{getD-set-same, getD-set-other, ext-getD}
 use Rattle.ground.specs.Bits.{sum}
 use Rattle.ground.proofs.Sums.{sum-assoc, sum-self, sum-zero, sum-cancel}
 use Rattle.field.specs.Field.{product, expo, power}
-use Rattle.field.proofs.Laws.{sum-byte}
+use Rattle.field.proofs.Laws.{sum-byte, expo-power}
 use Rattle.code.specs.Code.{Bytes, Coded, add, distance}
 use Rattle.code.specs.Search.{remainder}
 use Rattle.code.specs.Repair.{Near}
@@ -26,12 +26,16 @@ use Rattle.code.proofs.Values.{value-add, value-set, value-remainder, coded-val
 use Rattle.code.proofs.Distance.{distance-self, distance-set, weight-nonzeros, nonzeros-add}
 use Rattle.code.proofs.Division.{remainder-coded}
 use Rattle.code.proofs.Locate.{located}
-use Rattle.errata.specs.InnerSums.{total, runOf}
+use Rattle.code.specs.Total.{total}
+use Rattle.errata.specs.InnerSums.{runOf}
 use Rattle.errata.specs.InnerNull.{Annihilated}
-use Rattle.errata.specs.InnerErrata.{entries, shareOf, Syndromes, Placed, Rooted, Solved, mendedBy, Searched}
+use Rattle.errata.specs.InnerErrata.{entries, shareOf, Syndromes, Placed, Rooted, Solved, mendedBy, Searched, Agreeing}
 use Rattle.ground.proofs.Numbers.{same-or-not, below-suc}
-use Rattle.errata.proofs.Totals.{total-ext, total-first}
-use Rattle.errata.proofs.Shares.{expo-swap, Agreeing}
+use Rattle.code.proofs.Totals.{total-ext, total-first}
+
+-- α^(a · j) either way round
+expo-swap : (a j : ℕ) → expo (power a) j ≡ expo (power j) a
+expo-swap a j = expo-power a j ∙ ap power (mul-comm a j) ∙ sym (expo-power j a)
 
 -- ---- the row with the values added
 

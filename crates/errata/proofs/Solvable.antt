@@ -1,4 +1,4 @@
--- As many syndromes as there are different places determine values at them: there are such values, made as `values::solve` makes them, of functions instead of arrays.
+-- As many syndromes as there are different places determine values at them: there are such values, made by shifting the places out and bringing them back from the last one on.
 -- Assumes nothing.
 use mathlib.Core.Path.{_≡_, refl, sym, ap, ap₂, _∙_}
 use mathlib.Core.Logic.{⊎-elim}
@@ -14,9 +14,9 @@ use Rattle.ground.proofs.Numbers.{lt-or-ge, same-or-not}
 use Rattle.field.specs.Field.{product, expo, power}
 use Rattle.field.proofs.Laws.{sum-byte, product-byte, product-assoc, product-comm, power-byte, has-inverse}
 use Rattle.code.proofs.Weights.{one-product}
-use Rattle.errata.specs.InnerSums.{total}
+use Rattle.code.specs.Total.{total}
 use Rattle.errata.specs.InnerErrata.{entries, shareOf, Placed, shiftsOf, Solved}
-use Rattle.errata.proofs.Totals.{total-ext, total-byte}
+use Rattle.code.proofs.Totals.{total-ext, total-byte}
 use Rattle.errata.proofs.Listing.{beyond}
 use Rattle.errata.proofs.Solving.{tailOf, tail-share, tail-solved, locators-apart}
 

@@ -3,9 +3,10 @@
 -- Assumes nothing.
 use mathlib.Core.Path.{_≡_}
 use mathlib.Core.Logic.{_≢_}
-use mathlib.Core.Bool.{Bool, true, false}
+use mathlib.Core.Bool.{Bool, true, false, cond}
 use mathlib.Core.List.{List}
 use Prim.Native.Nat.{ℕ, zero, suc, _+_, _-_, _≤_, _<_}
+use lib.Dec.{eqb}
 use lib.ListN.{length, getD, set, replicate}
 use Rattle.ground.specs.Bits.{sum}
 use Rattle.field.specs.Field.{product, expo, power}
@@ -14,7 +15,7 @@ use Rattle.code.specs.Search.{remainder}
 use Rattle.code.specs.Repair.{Near}
 use Rattle.code.specs.Value.{value, eval}
 use Rattle.errata.specs.declared.Errata.{Errata}
-use Rattle.errata.specs.InnerSums.{total}
+use Rattle.code.specs.Total.{total}
 
 abbrev pub entries : List ℕ → ℕ → ℕ
 entries l k = getD l k 0
@@ -22,15 +23,6 @@ entries l k = getD l k 0
 -- what c_k at the places a_k, k below n, add to syndrome j: the sum of c_k · α^(a_k · j)
 unfoldable pub shareOf : (ℕ → ℕ) → (ℕ → ℕ) → ℕ → ℕ → ℕ
 shareOf a c n j = total n (λ k. product (c k) (expo (power (a k)) j))
-
--- r is the sixteen sums s, with what c at the place a adds
-pub record Termed (c a : ℕ) (s r : List ℕ) : Type 0 where
-  pub sized : length r ≡ 16
-  pub entry : (j : ℕ) → j < 16 → getD r j 0 ≡ sum (getD s j 0) (product c (expo (power a) j))
-
--- r is the sixteen sums s, with what c at the first n places add
-pub record Shared (s at c : List ℕ) (n : ℕ) (r : List ℕ) : Type 0 where
-  pub entry : (j : ℕ) → j < 16 → getD r j 0 ≡ sum (getD s j 0) (shareOf (entries at) (entries c) n j)
 
 -- s has the values at the powers of α, j from 0 to 15, of what a row leaves, which are those of the row
 pub record Syndromes (rest s : List ℕ) : Type 0 where
@@ -63,28 +55,25 @@ unfoldable pub shiftsOf : (ℕ → ℕ) → (ℕ → ℕ) → ℕ → ℕ → �
 shiftsOf a s zero j = s j
 shiftsOf a s (suc k) j = sum (shiftsOf a s k (suc j)) (product (power (a k)) (shiftsOf a s k j))
 
--- the place with the locator x was shifted out of the entries of c behind entry k
-pub record ShiftedOut (x n k : ℕ) (c r : List ℕ) : Type 0 where
-  pub sized : length r ≡ 16
-  pub kept : (i : ℕ) → i ≤ k → getD r i 0 ≡ getD c i 0
-  pub moved : (i : ℕ) → k ≤ i → suc i < n → getD r (suc i) 0 ≡ sum (getD c (suc i) 0) (product x (getD c i 0))
+-- what the first j places leave gathered at place k: from nothing on, each turn the first entry that is left is added to (α^a_k + α^a_j) times what was gathered
+unfoldable pub gatheredOf : (ℕ → ℕ) → (ℕ → ℕ) → ℕ → ℕ → ℕ
+gatheredOf a s zero k = zero
+gatheredOf a s (suc j) k = sum (product (sum (power (a k)) (power (a j))) (gatheredOf a s j k)) (shiftsOf a s j 0)
 
--- entry k is the first one left after k places were shifted out
-pub record Sifted (at : List ℕ) (n : ℕ) (s c : List ℕ) : Type 0 where
-  pub sized : length c ≡ 16
-  pub entry : (k : ℕ) → k < n → getD c k 0 ≡ shiftsOf (entries at) (entries s) k 0
-
--- place k is brought back: the entries behind entry k divided by the difference of the locators, and entry k less all of them
-pub record Restored (at : List ℕ) (n k : ℕ) (c r : List ℕ) : Type 0 where
-  pub sized : length r ≡ 16
-  pub kept : (i : ℕ) → i < k → getD r i 0 ≡ getD c i 0
-  pub divided : (i : ℕ) → k < i → i < n → product (getD r i 0) (sum (power (getD at i 0)) (power (getD at k 0))) ≡ getD c i 0
-  pub head : getD r k 0 ≡ sum (getD c k 0) (total (n - (k + 1)) (λ i. getD r (k + 1 + i) 0))
+-- the product of the differences between the locator of place k and those of the other places before place j
+unfoldable pub gapsOf : (ℕ → ℕ) → ℕ → ℕ → ℕ
+gapsOf a zero k = 1
+gapsOf a (suc j) k = product (cond (eqb j k) 1 (sum (power (a k)) (power (a j)))) (gapsOf a j k)
 
 -- c has the values at n places that give the first n of the syndromes s
 pub record Solved (at : List ℕ) (n : ℕ) (s c : List ℕ) : Type 0 where
   pub sized : length c ≡ 16
   pub solves : (j : ℕ) → j < n → shareOf (entries at) (entries c) n j ≡ getD s j 0
+
+-- r says whether c at the first n places gives all sixteen syndromes s
+pub record Agreeing (s at c : List ℕ) (n : ℕ) (r : Bool) : Type 0 where
+  pub yes : r ≡ true → (j : ℕ) → j < 16 → shareOf (entries at) (entries c) n j ≡ getD s j 0
+  pub no : r ≡ false → ((j : ℕ) → j < 16 → shareOf (entries at) (entries c) n j ≡ getD s j 0) → ⊥
 
 -- r says whether all sixteen are 0
 pub record Nought (s : List ℕ) (r : Bool) : Type 0 where

@@ -4,3 +4,4 @@ pub mod InnerSums
 pub mod InnerNull
 pub mod InnerErrata
 pub mod InnerRestoring
+pub mod InnerValues

@@ -12,6 +12,7 @@ use lib.ListN.{length, getD}
 use Rattle.ground.specs.Bits.{sum}
 use Rattle.ground.proofs.Sweep.{below, and-left, and-right, or-left, or-right, or-cases}
 use Rattle.field.specs.Field.{power}
+use Rattle.field.specs.Tables.{Powers}
 use Rattle.field.proofs.Horner.{double}
 use Rattle.field.proofs.Exponents.{power-zero, power-suc}
 
@@ -34,6 +35,10 @@ getD-from (suc n) k (suc i) h =
 
 pub getD-chain : (n i : ℕ) → i < n → getD (chain n 1) i 0 ≡ power i
 getD-chain n i h = ap (λ (x : ℕ). getD (chain n x) i 0) (sym power-zero) ∙ getD-from n zero i h ∙ ap power (zero-add i)
+
+-- the rule of the table
+pub powers-rule : Powers (chain 256 1)
+powers-rule = record { room = length-chain 256 1; entry = getD-chain 256 }
 
 -- ---- which numbers stand in a list
 

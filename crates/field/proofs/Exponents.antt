@@ -7,7 +7,7 @@ use lib.Dec.{lit<}
 use Rattle.ground.specs.Bits.{sum}
 use Rattle.field.specs.Field.{carryless, reduce, product, expo, power}
 use Rattle.field.proofs.Horner.{double}
-use Rattle.field.proofs.Products.{product-byte, product-one, product-double, product-two}
+use Rattle.field.proofs.Product.{product-byte, product-one, product-double, product-two}
 
 pub expo-byte : (x j : ℕ) → expo x j < 256
 unfolding expo

@@ -10,8 +10,8 @@ use lib.Dec.{eqb}
 use borrow.Author.Tests.{eqb-true, eqb-false}
 use Rattle.ground.proofs.Sums.{sum-assoc, sum-comm, sum-left-comm}
 use Rattle.field.specs.Field.{product, power}
-pub use Rattle.field.proofs.Products.{byte-mod, sum-byte, product-byte, product-low, product-sum-left, product-sum-right}
-pub use Rattle.field.proofs.Products.{zero-product, product-zero, product-one}
+pub use Rattle.field.proofs.Product.{byte-mod, sum-byte, product-byte, product-low, product-sum-left, product-sum-right}
+pub use Rattle.field.proofs.Product.{zero-product, product-zero, product-one}
 pub use Rattle.field.proofs.Exponents.{expo-byte, power-byte, power-zero, product-power, expo-power, power-round, power-period}
 pub use Rattle.field.proofs.Chain.{power-injective, is-power}
 

@@ -1,8 +1,11 @@
 pub mod Horner
 pub mod Bridge
-pub mod Products
+pub mod Product
 pub mod Exponents
 pub mod Chain
 pub mod Laws
-pub mod ByTables
+pub mod InWords
+pub mod Doubling
+pub mod Walking
+pub mod Raising
 pub mod Cases

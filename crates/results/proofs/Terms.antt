@@ -2,8 +2,9 @@
 -- Assumes nothing.
 use mathlib.Core.Path.{refl}
 use Rattle.ground.proofs.OneResult.{equation}
+use Rattle.field.proofs.InWords.{same-entries}
 use Rattle.results.specs.OneResult.{OneResult}
 use Rattle.terms.proofs as terms
 
-pub add-terms-one : OneResult terms.add_terms.ended terms.add_terms.Reads.Learnt
-add-terms-one κs a r s d e p q = (equation p q, refl)
+pub syndromes-one : OneResult terms.syndromes.ended terms.syndromes.Reads.Learnt
+syndromes-one κs a r s d e p q = (same-entries r s (p .words) (q .words) (λ k h. equation (p .entry k h) (q .entry k h)), refl)

@@ -1,67 +1,34 @@
--- The bytes of a word: sums, and the products of a byte from those of its half bytes.
+-- The bytes of a word: the products of a byte from those of its half bytes, and a test that sees a byte of 0.
 -- Assumes nothing.
 use mathlib.Core.Path.{_≡_, refl, sym, ap, ap₂, _∙_}
 use mathlib.Core.List.{List}
 use Prim.Native.Nat.{ℕ, zero, suc, _+_, _*_, _/_, _%_, _^_, _<_, _≤_}
-use native.Mathlib.Nat.{zero-div, mul-assoc, mul-add, mul-one, not-suc-le-zero, le-of-suc-le-suc}
 use native.Mathlib.Omega.{arith}
 use lib.ListN.{getD}
-use lib.Bits.{bitXor, bitAnd, bitOr, and-shr, and-mod, or-shr, or-mod, and-le-r, xor-shr, xor-mod, xor-shifted}
+use lib.Bits.{bitXor, bitAnd, bitOr, and-mod, or-shr, or-mod, and-le-r, xor-shifted}
 use Rattle.ground.specs.Bits.{sum}
-use Rattle.ground.proofs.Numbers.{push-digit}
 use Rattle.ground.proofs.Sums.{sum-comm, sum-self}
 use Rattle.field.specs.Field.{product, power}
 use Rattle.field.proofs.Laws.{product-sum-left}
+use Rattle.field.proofs.InWords.{byte-sum, byte-and, each-byte}
 use Rattle.words.specs.Words.{byteAt}
 use Rattle.roots.specs.InnerWords.{Words}
-
-pub byte-zero : (k : ℕ) → byteAt 0 k ≡ 0
-unfolding byteAt
-byte-zero k = ap (λ (z : ℕ). z % 256) (zero-div (2 ^ (k * 8)))
-
-pub byte-sum : (a b k : ℕ) → byteAt (bitXor a b) k ≡ sum (byteAt a k) (byteAt b k)
-unfolding byteAt sum
-byte-sum a b k = ap (λ (z : ℕ). z % 256) (xor-shr a b (k * 8)) ∙ xor-mod (a / 2 ^ (k * 8)) (b / 2 ^ (k * 8)) 8
 
 halves : (x : ℕ) → sum (x % 16) (x / 16 * 16) ≡ x
 unfolding sum
 halves x = let e : x / 16 * 16 + x % 16 ≡ x = omega arith in sum-comm (x % 16) (x / 16 * 16) ∙ xor-shifted (x / 16) 4 (x % 16) (omega arith) ∙ e
 
-pub looked : (t : List ℕ) → Words t → (i x k : ℕ) → i < 8 → x < 256 → k < 8
+pub looked : (t : List ℕ) (i x k : ℕ) → Words (i + 1) t → x < 256 → k < 8
     → byteAt (bitXor (getD t (32 * i + x % 16) 0) (getD t (32 * i + 16 + x / 16) 0)) k ≡ product x (power ((i + 1) * (k + 1)))
-looked t words i x k hi hx hk =
+looked t i x k words hx hk =
     let p : ℕ = power ((i + 1) * (k + 1)) in
+    let hi : i < i + 1 = omega arith in
     byte-sum (getD t (32 * i + x % 16) 0) (getD t (32 * i + 16 + x / 16) 0) k
     ∙ ap₂ sum (words .low i (x % 16) k hi (omega arith) hk) (words .high i (x / 16) k hi (omega arith) hk)
     ∙ sym (product-sum-left (x % 16) (x / 16 * 16) p)
     ∙ ap (λ (y : ℕ). product y p) (halves x)
 
 -- ---- a byte that is 0
-
--- n bytes, each 1
-unfoldable ones : ℕ → ℕ
-ones zero = zero
-ones (suc n) = ones n * 256 + 1
-
-ones-byte : (n y k : ℕ) → y < 256 → k < n → byteAt (y * ones n) k ≡ y
-unfolding ones byteAt
-ones-byte zero y k h l = absurd (not-suc-le-zero l)
-ones-byte (suc n) y k h l = ap (λ (z : ℕ). z / 2 ^ (k * 8) % 256) (spread y n) ∙ at (λ j b. ones-byte n y j h b) k l
-  where
-    spread : (a m : ℕ) → a * (ones m * 256 + 1) ≡ a * ones m * 256 + a
-    spread a m = mul-add a (ones m * 256) 1 ∙ ap₂ _+_ (sym (mul-assoc a (ones m) 256)) (mul-one a)
-
-    at : ((j : ℕ) → j < n → byteAt (y * ones n) j ≡ y) → (j : ℕ) → j < suc n → (y * ones n * 256 + y) / 2 ^ (j * 8) % 256 ≡ y
-    at less zero b = omega arith
-    at less (suc j) b = ap (λ (z : ℕ). z % 256) (push-digit j (y * ones n) y h) ∙ less j (le-of-suc-le-suc b)
-
-pub each-byte : (y k : ℕ) → y < 256 → k < 8 → byteAt (y * 0x0101010101010101) k ≡ y
-unfolding ones
-each-byte y k h l = ones-byte 8 y k h l
-
-byte-and : (a b k : ℕ) → byteAt (bitAnd a b) k ≡ bitAnd (byteAt a k) (byteAt b k)
-unfolding byteAt
-byte-and a b k = ap (λ (z : ℕ). z % 256) (and-shr a b (k * 8)) ∙ and-mod (a / 2 ^ (k * 8)) (b / 2 ^ (k * 8)) 8
 
 byte-or : (a b k : ℕ) → byteAt (bitOr a b) k ≡ bitOr (byteAt a k) (byteAt b k)
 unfolding byteAt

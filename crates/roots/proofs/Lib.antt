@@ -1,5 +1,6 @@
 pub mod Bytes
 pub mod Constant
+pub mod Making
 pub mod Values
 pub mod Moving
 pub mod Passing

@@ -14,12 +14,12 @@ use Rattle.ground.specs.Bits.{sum}
 use Rattle.ground.proofs.Sums.{sum-zero}
 use Rattle.field.specs.Field.{product, expo, power}
 use Rattle.field.proofs.Laws.{ring, product-zero, zero-product, power-byte, expo-power}
+use Rattle.field.proofs.InWords.{byte-zero, byte-sum}
 use Rattle.code.specs.Value.{eval}
 use Rattle.code.proofs.Weights.{expo-zero, expo-suc, one-product}
 use Rattle.words.specs.Words.{byteAt}
 use Rattle.roots.specs.InnerWords.{Short, Moved}
 use Rattle.ground.proofs.Numbers.{lt-or-ge, below-suc}
-use Rattle.roots.proofs.Bytes.{byte-zero, byte-sum}
 use Rattle.roots.proofs.Values.{eval-drop, eval-above}
 
 -- the first i coefficients behind the constant have moved on, and s has what they add

@@ -12,11 +12,17 @@ use Rattle.field.specs.Field.{product, power}
 use Rattle.code.specs.Value.{eval}
 use Rattle.roots.specs.Roots.{passing}
 
--- the table: a word for each coefficient i + 1 and each half byte h, at the low and at the high place
-pub record Words (t : List ℕ) : Type 0 where
+-- t has n words from `at` on, word h with the product of h and byte k of w at byte k; in front of them it is s
+pub record Multiples (n at w : ℕ) (s t : List ℕ) : Type 0 where
   pub room : length t ≡ 256
-  pub low : (i h k : ℕ) → i < 8 → h < 16 → k < 8 → byteAt (getD t (32 * i + h) 0) k ≡ product h (power ((i + 1) * (k + 1)))
-  pub high : (i h k : ℕ) → i < 8 → h < 16 → k < 8 → byteAt (getD t (32 * i + 16 + h) 0) k ≡ product (h * 16) (power ((i + 1) * (k + 1)))
+  pub entry : (h k : ℕ) → h < n → k < 8 → byteAt (getD t (at + h) 0) k ≡ product h (byteAt w k)
+  pub front : (j : ℕ) → j < at → getD t j 0 ≡ getD s j 0
+
+-- the table of the first `top` coefficients behind the constant: a word for each coefficient i + 1 and each half byte h, at the low and at the high place
+pub record Words (top : ℕ) (t : List ℕ) : Type 0 where
+  pub room : length t ≡ 256
+  pub low : (i h k : ℕ) → i < top → h < 16 → k < 8 → byteAt (getD t (32 * i + h) 0) k ≡ product h (power ((i + 1) * (k + 1)))
+  pub high : (i h k : ℕ) → i < top → h < 16 → k < 8 → byteAt (getD t (32 * i + 16 + h) 0) k ≡ product (h * 16) (power ((i + 1) * (k + 1)))
 
 -- nine coefficients of which those behind `top` are 0
 pub record Short (top : ℕ) (t : List ℕ) : Type 0 where

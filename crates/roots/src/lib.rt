@@ -21,8 +21,8 @@ pub struct Roots {
 pub fn find(v: [u8; 9]) -> Roots
     ensures { λ r. ⌜ r ≡ rootsOf v ⌝ }
 {
-    let table = products::table();
     let top = last(v);
+    let table = products::table(top);
     let mut at = [0u8; 16];
     let mut n = search::note(&mut at, 0, at_one(v), 0, 0);
     let first = v[0];

@@ -1,1 +1,4 @@
 pub mod Rests
+pub mod Places
+pub mod Turns
+pub mod Turning

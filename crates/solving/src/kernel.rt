@@ -1,77 +1,115 @@
 // A vector of nine bytes, not zero, that the eight runs of the sixteen syndromes annihilate: the coefficients, the constant first, of a polynomial that is zero at the
-// locator of each wrong byte where at most eight are wrong (document 01, section 3).
+// locator of each wrong byte where at most eight are wrong (document 01, section 3). Nothing is divided, and no run is formed anew: the runs of a vector go along with it.
 ghost use mathlib.Core.Path.{_≡_};
-ghost use Prim.Native.Nat.{_<_, _≤_};
-ghost use Rattle.field.specs.Tables.{Powers, Logs};
-ghost use Rattle.errata.specs.InnerSums.{runOf};
-ghost use Rattle.errata.specs.InnerNull.{Short, Mixed, Shifted, Annihilated};
+ghost use Prim.Native.Nat.{_<_, _*_, _/_, _%_, _^_};
+ghost use lib.Bits.{bitXor};
+ghost use Rattle.errata.specs.InnerNull.{Blended, AddedUp, Annihilated, nine};
+ghost use Rattle.errata.specs.InnerValues.{listOf};
+use field::Sixteen;
 
-// The sum of v[m] · s[j + m] over the first n entries.
-fn run(v: [u8; 9], n: usize, s: [u8; 16], j: usize, powers: &[u8; 512], logs: &[u8; 256]) -> u8
-    requires { ⌜ (n ≤ 9) × (j < 8) × Powers (now powers) × Logs (now logs) ⌝ }
-    ensures { λ r. ⌜ r ≡ runOf v s j n ⌝ }
-{
-    let mut acc: u8 = 0;
-    let mut m: usize = 0;
-    while m < n {
-        acc = acc ^ field::mul_by(powers, logs, v[m], s[j + m]);
-        m += 1;
-    }
-    acc
+// Nine entries, eight of them in `low`, and the sixteen runs of them.
+struct Vector {
+    low: u64,
+    high: u64,
+    first: u64,
+    last: u64,
 }
 
-// v + c · q, where q has n entries.
-fn mix(v: [u8; 9], q: [u8; 9], n: usize, c: u8, powers: &[u8; 512], logs: &[u8; 256]) -> [u8; 9]
-    requires { ⌜ (n ≤ 9) × Short n q × Powers (now powers) × Logs (now logs) ⌝ }
-    ensures { λ r. ⌜ Mixed c v q r ⌝ }
+// One turn of Horner's rule in each of eight bytes: w doubled, and a and b each by a bit.
+fn add_up(w: u64, a: u64, b: u64, c: u64, d: u64) -> u64
+    requires { ⌜ (c < 2) × (d < 2) ⌝ }
+    ensures { λ r. ⌜ AddedUp w a b c d r ⌝ }
 {
-    let mut out = v;
-    let mut m: usize = 0;
-    while m < n {
-        out[m] = out[m] ^ field::mul_by(powers, logs, c, q[m]);
-        m += 1;
-    }
-    out
+    field::doubles(w) ^ ((c * 0xFFFFFFFFFFFFFFFF) & a) ^ ((d * 0xFFFFFFFFFFFFFFFF) & b)
 }
 
-// x · v, less the ninth power.
-fn shift(v: [u8; 9]) -> [u8; 9]
-    ensures { λ r. ⌜ Shifted v r ⌝ }
+// p · v + d · q, and its runs. The four words go in step, which the compiler turns into vector code.
+fn mix(v: Vector, q: Vector, p: u8, d: u8) -> Vector
+    ensures { λ r. ⌜ Blended p d (v .low) (q .low) (r .low) × Blended p d (v .high) (q .high) (r .high) × Blended p d (v .first) (q .first) (r .first) × Blended p d (v .last) (q .last) (r .last) ⌝ }
+{
+    let x = words::wide(p);
+    let y = words::wide(d);
+    let mut low: u64 = 0;
+    let mut high: u64 = 0;
+    let mut first: u64 = 0;
+    let mut last: u64 = 0;
+    let mut i: u64 = 8;
+    while 0 < i {
+        i -= 1;
+        let c = (x >> i) % 2;
+        let e = (y >> i) % 2;
+        low = add_up(low, v.low, q.low, c, e);
+        high = add_up(high, v.high, q.high, c, e);
+        first = add_up(first, v.first, q.first, c, e);
+        last = add_up(last, v.last, q.last, c, e);
+    }
+    Vector {
+        low: low,
+        high: high,
+        first: first,
+        last: last,
+    }
+}
+
+// x · v, less the ninth power: its entries one up, its runs one down.
+fn shift(v: Vector) -> Vector
+    ensures { λ r. ⌜ (r .low ≡ v .low * 2 ^ 8 % 2 ^ 64) × (r .high ≡ v .low / 2 ^ 56) × (r .first ≡ bitXor (v .first / 2 ^ 8) (v .last * 2 ^ 56 % 2 ^ 64)) × (r .last ≡ v .last / 2 ^ 8) ⌝ }
+{
+    Vector {
+        low: v.low << 8,
+        high: v.low >> 56,
+        first: (v.first >> 8) ^ (v.last << 56),
+        last: v.last >> 8,
+    }
+}
+
+// The nine entries.
+fn entries(v: Vector) -> [u8; 9]
+    ensures { λ r. ⌜ r ≡ nine (v .low) (v .high) ⌝ }
 {
     let mut out = [0u8; 9];
-    slices::copy_in(&mut out, 1, &v[0..8]);
+    let mut k: usize = 0;
+    while k < 8 {
+        out[k] = words::byte(v.low, k as u64);
+        k += 1;
+    }
+    out[8] = words::byte(v.high, 0);
     out
 }
 
 // The vector. Each is reduced, run by run, by the one that is kept for the run; where none is kept and the run does not annihilate it, it is kept there itself, and the next
-// begins as x times it.
-pub(crate) fn null_vector(s: [u8; 16], powers: &[u8; 512], logs: &[u8; 256]) -> [u8; 9]
-    requires { ⌜ Powers (now powers) × Logs (now logs) ⌝ }
-    ensures { λ r. ⌜ Annihilated s r ⌝ }
+// begins as x times it. Where the pivot is 0 none is kept.
+pub(crate) fn null_vector(s: Sixteen) -> [u8; 9]
+    ensures { λ r. ⌜ Annihilated (listOf s) r ⌝ }
 {
-    let mut vectors = [[0u8; 9]; 8];
-    let mut scales = [0u8; 8];
-    let mut v = [1u8, 0, 0, 0, 0, 0, 0, 0, 0];
+    let mut v = Vector {
+        low: 1,
+        high: 0,
+        first: s.low,
+        last: s.high,
+    };
+    let mut kept = [v; 8];
+    let mut pivots = [0u8; 8];
     let mut i: usize = 0;
     let mut l: usize = 0;
     while i < 8 {
-        let d = run(v, l + 1, s, i, powers, logs);
-        let c = scales[i];
+        let d = words::byte(v.first, i as u64);
+        let p = pivots[i];
         if d == 0 {
             i += 1;
-        } else if c == 0 {
-            vectors[i] = v;
-            scales[i] = field::inverse_by(powers, logs, d);
+        } else if p == 0 {
+            kept[i] = v;
+            pivots[i] = d;
             let next = shift(v);
             v = next;
             i = if i == 0 { 0 } else { i - 1 };
             l += 1;
         } else {
-            let q = vectors[i];
-            let w = mix(v, q, l, field::mul_by(powers, logs, d, c), powers, logs);
-            v = w;
+            let q = kept[i];
+            let next = mix(v, q, p, d);
+            v = next;
             i += 1;
         }
     }
-    v
+    entries(v)
 }

@@ -3,13 +3,12 @@
 ghost use mathlib.Core.Path.{_≡_};
 ghost use Prim.Native.Nat.{_<_};
 ghost use Rattle.errata.specs.Errata.{errataOf};
-ghost use Rattle.errata.specs.InnerErrata.{nothingTo, Ordered, Put, Kept};
+ghost use Rattle.errata.specs.InnerErrata.{nothingTo, Ordered, Put, Kept, Nought};
 use errata::Errata;
 
-mod factors;
 mod kernel;
+mod lanes;
 mod losses;
-mod sums;
 mod values;
 
 pub use losses::fill;
@@ -18,20 +17,17 @@ pub use losses::fill;
 pub fn find(rest: [u8; 16]) -> Errata
     ensures { λ r. ⌜ r ≡ errataOf rest ⌝ }
 {
-    if sums::is_nought(rest) {
+    if is_nought(rest) {
         return nothing(true);
     }
-    let powers = field::powers();
-    let logs = field::logs();
-    let p = &powers;
-    let l = &logs;
-    let s = sums::syndromes(rest, p, l);
-    let places = roots::find(kernel::null_vector(s, p, l));
+    let s = terms::syndromes(rest);
+    let places = roots::find(kernel::null_vector(s));
     let at = places.at;
-    let values = values::solve(s, at, places.n, p, l);
-    if !sums::is_nought(terms::add_terms(s, at, values, places.n, p, l)) {
+    let solution = values::solve(s, at, places.n);
+    if !solution.fits {
         return nothing(false);
     }
+    let values = solution.values;
     keep(at, values, places.n)
 }
 
@@ -76,4 +72,18 @@ fn put(e: Errata, a: u8, c: u8) -> Errata
     out.values[i] = c;
     out.n = i + 1;
     out
+}
+
+// Whether all sixteen are 0.
+pub(crate) fn is_nought(s: [u8; 16]) -> bool
+    ensures { λ r. ⌜ Nought s r ⌝ }
+{
+    let mut j: usize = 0;
+    while j < 16 {
+        if s[j] != 0 {
+            return false;
+        }
+        j += 1;
+    }
+    true
 }

@@ -4,7 +4,6 @@ ghost use Prim.Native.Nat.{_≤_};
 ghost use Rattle.code.specs.Search.{remainder};
 ghost use Rattle.errata.specs.Restoring.{fallingTo, fillingOf};
 ghost use Rattle.errata.specs.InnerRestoring.{Front, Filled};
-use crate::sums;
 use crate::values;
 use errata::Errata;
 
@@ -33,19 +32,12 @@ fn fill_rest(rest: [u8; 16], at: [u8; 16], n: usize) -> Errata
     if !falling(at, n) {
         return crate::nothing(false);
     }
-    if sums::is_nought(rest) {
+    if crate::is_nought(rest) {
         return filled(at, rest, n);
     }
-    let powers = field::powers();
-    let logs = field::logs();
-    let p = &powers;
-    let l = &logs;
-    let s = sums::syndromes(rest, p, l);
-    let values = values::solve(s, at, n, p, l);
-    if n == 16 {
-        return filled(at, values, n);
-    }
-    if sums::is_nought(terms::add_terms(s, at, values, n, p, l)) {
+    let solution = values::solve(terms::syndromes(rest), at, n);
+    if solution.fits {
+        let values = solution.values;
         return filled(at, values, n);
     }
     crate::nothing(false)

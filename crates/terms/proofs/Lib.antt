@@ -1,2 +1,3 @@
 pub mod Stores
-pub mod Adding
+pub mod Summing
+pub mod Powering

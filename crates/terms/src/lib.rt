@@ -1,56 +1,49 @@
-// Sixteen sums of terms c · α^(a · j), j from 0 to 15: what the byte c at the place with the locator α^a adds to the syndromes of a row (document 01, section 3). They are
-// read off tables that the caller lends; tables of other contents are read just the same.
+// The sixteen syndromes of a row, from the sixteen bytes that it leaves when the generator divides it (document 01, section 3). Each byte counts in syndrome j by a power of
+// α; the products are formed bit by bit, highest first, of all bytes and for all syndromes at once.
 ghost use mathlib.Core.Path.{_≡_};
-ghost use Prim.Native.Nat.{min};
-ghost use Rattle.terms.specs.Terms.{withTerm, addTerms};
+ghost use Prim.Native.Nat.{ℕ, _<_};
+ghost use Rattle.field.specs.Words.{entry, InWords};
+ghost use Rattle.terms.specs.Terms.{Syndromes};
+ghost use Rattle.terms.specs.InnerPoints.{Points, turned};
+use field::Sixteen;
 
-// The sums s, with what c at the place a adds. The terms are told by their exponents, each a more than the one before.
-fn add_term(s: [u8; 16], c: u8, a: u8, powers: &[u8; 512], logs: &[u8; 256]) -> [u8; 16]
-    ensures { λ r. ⌜ r ≡ withTerm (now (powers .entry)) (now (logs .entry)) s c a ⌝ }
+mod points;
+
+// The values at the powers α^0 to α^15 of the polynomial with these coefficients, the highest power first.
+pub fn syndromes(rest: [u8; 16]) -> Sixteen
+    ensures { λ r. ⌜ Syndromes rest r ⌝ }
 {
-    let mut out = s;
-    if c == 0 {
-        return out;
+    let points = table();
+    let mut s = Sixteen { low: 0, high: 0 };
+    let mut i: u64 = 8;
+    while 0 < i {
+        i -= 1;
+        let next = turn(s, rest, i, &points);
+        s = next;
     }
-    let step = words::index(a);
-    let mut e = words::index(logs[c as usize]);
-    let mut j: usize = 0;
-    while j < 16 {
-        out[j] = out[j] ^ powers[e];
-        e = e + step;
-        if 255 <= e {
-            e = e - 255;
-        }
-        j += 1;
-    }
-    out
+    s
 }
 
-// The sums s, with what the values at the first n places add; there are sixteen at most.
-pub fn add_terms(
-    s: [u8; 16],
-    at: [u8; 16],
-    values: [u8; 16],
-    n: usize,
-    powers: &[u8; 512],
-    logs: &[u8; 256],
-) -> [u8; 16]
-    ensures { λ r. ⌜ r ≡ addTerms (now (powers .entry)) (now (logs .entry)) s at values n ⌝ }
+// The table.
+fn table() -> [u64; 32]
+    ensures { λ t. ⌜ Points t ⌝ }
 {
-    let count = least(n);
-    let mut out = s;
-    let mut k: usize = 0;
-    while k < count {
-        let next = add_term(out, values[k], at[k], powers, logs);
-        out = next;
-        k += 1;
-    }
-    out
+    points::POINTS
 }
 
-// Of sixteen and n the smaller.
-fn least(n: usize) -> usize
-    ensures { λ r. ⌜ r ≡ min 16 n ⌝ }
+// One turn of Horner's rule: all are doubled, and the powers added of each byte in which bit i is 1.
+fn turn(s: Sixteen, rest: [u8; 16], i: u64, points: &[u64; 32]) -> Sixteen
+    requires { ⌜ (i < 8) × Points (now points) ⌝ }
+    ensures { λ r. ⌜ InWords r × ((j : ℕ) → j < 16 → entry r j ≡ turned rest i (entry s j) j) ⌝ }
 {
-    if 16 < n { 16 } else { n }
+    let mut low = field::doubles(s.low);
+    let mut high = field::doubles(s.high);
+    let mut m: usize = 0;
+    while m < 16 {
+        let all = ((words::wide(rest[m]) >> i) % 2) * 0xFFFFFFFFFFFFFFFF;
+        low = low ^ (all & points[2 * m]);
+        high = high ^ (all & points[2 * m + 1]);
+        m += 1;
+    }
+    Sixteen { low, high }
 }

@@ -1,23 +1,23 @@
--- `field::inverse` lends the two tables to `inverse_by`: read off tables that keep their rules, the inverse is the field's.
+-- `field::inverse` is the first of sixteen inverses.
 -- Assumes nothing.
-use borrow.Author.Needs.{needs}
-use Rattle.field.proofs.ByTables.{inverse-by-tables}
+use mathlib.Core.Path.{sym}
+use Rattle.field.proofs.Walking.{first-inverse}
 use Rattle.field.proofs.inverse.Statement.{statement}
 use Rattle.field.proofs.inverse.Tie as tie
 
-powers-requires : tie.Need-powers-requires
-powers-requires c κs = tt
+wide-requires : tie.Need-wide-requires
+wide-requires c κs = tt
 
-logs-requires : tie.Need-logs-requires
-logs-requires c κs = tt
+inverses-requires : tie.Need-inverses-requires
+inverses-requires c κs = tt
 
-inverse-by-requires : tie.Need-inverse-by-requires
-inverse-by-requires c κs = tt
+byte-requires : tie.Need-byte-requires
+byte-requires c κs = tt
 
 returns : tie.Need-returns
 returns c =
-    rw (c .inverse-by .ensures)
-    (inverse-by-tables _ (c .before .before .before .before .powers .ensures) (c .before .before .before .logs .ensures) (search needs))
+    let a = c .before .before .wide .ensures in
+    first-inverse _ _ _ _ (c .before .inverses .ensures) (a .0) (rw (sym (a .0)) (a .1)) (c .byte .ensures)
 
 pub inverse-spec : {M : Type 1} → statement M
-inverse-spec = tie.close (tie.spec powers-requires logs-requires inverse-by-requires returns)
+inverse-spec = tie.close (tie.spec wide-requires inverses-requires byte-requires returns)

@@ -2,7 +2,7 @@
 -- Assumes nothing.
 use Rattle.ground.specs.Bits.{sum}
 use Rattle.field.proofs.Horner.{double}
-use Rattle.field.proofs.ByTables.{powers-rule}
+use Rattle.field.proofs.Chain.{powers-rule}
 use Rattle.field.proofs.powers.Statement.{statement}
 use Rattle.field.proofs.powers.Tie as tie
 

@@ -11,16 +11,16 @@ use Rattle.roots.proofs.find.Statement.{statement}
 use Rattle.roots.proofs.find.Tie as tie
 
 abbrev Inv-loop : tie.InvT-loop
-Inv-loop table top at₀ n₀ first t₀ b₀ at n t b = Finding t₀ first top n at t b
+Inv-loop top table at₀ n₀ first t₀ b₀ at n t b = Finding t₀ first top n at t b
 
 abbrev μ-loop : tie.MeasureT-loop
-μ-loop table top at₀ n₀ first t₀ b₀ at n t b = 32 - b
-
-table-requires : tie.Need-table-requires Inv-loop μ-loop
-table-requires c κs = tt
+μ-loop top table at₀ n₀ first t₀ b₀ at n t b = 32 - b
 
 last-requires : tie.Need-last-requires Inv-loop μ-loop
 last-requires c κs = tt
+
+table-requires : tie.Need-table-requires Inv-loop μ-loop
+table-requires c κs = c .last .ensures .0
 
 at-one-requires : tie.Need-at-one-requires Inv-loop μ-loop
 at-one-requires c κs = tt
@@ -33,15 +33,15 @@ array-read-first c = omega arith
 
 loop-holds : tie.Need-loop-holds Inv-loop μ-loop
 loop-holds c =
-    let last = c .before .before .before in
-    let v : List ℕ = last .before .before .args .t1 in
+    let last = c .before .before .before .before in
+    let v : List ℕ = last .before .args .t1 in
     let fit : (i : ℕ) → mir.Val.Fits mir.Syntax.w8 (getD v i 0) = λ i. search needs in
     finding-start v _ _ _ _ (λ i. fit i .fits) (last .last .ensures .1) (c .before .at-one .ensures) (c .note .ensures .held)
 
 move-on-requires : tie.Need-move-on-requires Inv-loop μ-loop
 move-on-requires c κs =
-    let last = c .before .before .before .before .before .before .before in
-    (last .last .ensures .0, c .before .before .before .loop .inv .short, last .before .table .ensures)
+    let table = c .before .before .before .before .before .before .before in
+    (table .before .last .ensures .0, c .before .before .before .loop .inv .short, table .table .ensures)
 
 mul-look : tie.Need-mul-look Inv-loop μ-loop
 mul-look c = omega arith
@@ -69,8 +69,8 @@ find-spec =
     (tie.spec
     Inv-loop
     μ-loop
-    table-requires
     last-requires
+    table-requires
     at-one-requires
     note-requires
     array-read-first

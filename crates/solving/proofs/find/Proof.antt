@@ -1,4 +1,4 @@
--- `errata::find`: a row that leaves nothing is coded as it is. Of another the locator's roots are the places, the values are solved for there, and where they give all
+-- `find`: a row that leaves nothing is coded as it is. Of another the locator's roots are the places, the values are solved for there, and where they give all
 -- sixteen syndromes the mended row is coded.
 -- Assumes nothing.
 use native.Mathlib.Omega.{arith}
@@ -11,13 +11,14 @@ use lib.ListN.{length, getD}
 use borrow.Author.Tests.{not-true, not-false}
 use Rattle.code.specs.Code.{Bytes}
 use Rattle.code.proofs.Lists.{bytes-of}
-use Rattle.errata.specs.InnerErrata.{Rooted, Nought, Searched}
-use Rattle.errata.proofs.Shares.{terms-shared, shared-agrees}
+use Rattle.errata.specs.InnerErrata.{Rooted, Searched, Agreeing}
 use Rattle.errata.proofs.Locators.{rooted}
 use Rattle.errata.proofs.Mending.{nothing-left, searched}
 use Rattle.errata.proofs.Keeping.{keeping-start, keeping-end}
 use Rattle.errata.proofs.Leaving.{found-told, none-told}
 use borrow.Author.Needs.{needs}
+use Rattle.errata.specs.InnerValues.{listOf}
+use Rattle.solving.proofs.Rests.{listed-syndromes}
 use Rattle.solving.proofs.find.Statement.{statement}
 use Rattle.solving.proofs.find.Tie as tie
 
@@ -40,17 +41,11 @@ returns c =
     ∙ found-told (start .args .rest) (sixteen start) (rest-bytes start)
     (nothing-left _ [] [] (sixteen start) (c .before .before .is-nought .ensures .yes (c .before .if1 .taken))) _ (keeping-end (keeping-start [] [] 0) (le-refl 0))
 
-powers-requires : tie.Need-powers-requires
-powers-requires c κs = tt
-
-logs-requires : tie.Need-logs-requires
-logs-requires c κs = tt
-
 syndromes-requires : tie.Need-syndromes-requires
-syndromes-requires c κs = (c .before .before .before .powers .ensures, c .before .before .logs .ensures)
+syndromes-requires c κs = tt
 
 null-vector-requires : tie.Need-null-vector-requires
-null-vector-requires c κs = (c .before .before .before .before .powers .ensures, c .before .before .before .logs .ensures)
+null-vector-requires c κs = tt
 
 find-requires : tie.Need-find-requires
 find-requires c κs = tt
@@ -66,54 +61,47 @@ module _ (c : tie.After-find) where
       rooted (null .result) (null .ensures .top) (null .ensures .short .sized) bytes (null .ensures .leading) (c .find .result) (c .find .ensures)
 
 solve-requires : tie.Need-solve-requires
-solve-requires c κs =
-    let logs = c .before .before .before .before .before .before in
-    (places (c .before) .placed, logs .before .powers .ensures, logs .logs .ensures)
-
-add-terms-requires : tie.Need-add-terms-requires
-add-terms-requires c κs = tt
-
-is-nought-requires-2 : tie.Need-is-nought-requires-2
-is-nought-requires-2 c κs = tt
+solve-requires c κs = places (c .before) .placed
 
 -- what was tried, and whether it fits
-module _ (c : tie.After-is-nought2) where
-  found : (fits : Bool) → c .is-nought2 .result ≡ fits → Searched (c .before .before .before .before .before .before .before .before .before .before .before .before .before .args .rest) (c .before .before .before .before .find .result .n)
-      (c .before .before .before .before .find .result .at) (c .before .before .solve .result) fits
-  found fits e =
-      let solve = c .before .before in
-      let found = solve .before .before in
-      let syndromes = found .before .before in
-      let logs = syndromes .before .before .before in
-      let values : List ℕ = solve .solve .result in
-      let value-fit : (i : ℕ) → mir.Val.Fits mir.Syntax.w8 (getD values i 0) = λ i. search needs in
-      let places : Rooted (found .before .null-vector .result) (found .find .result .n) (found .find .result .at) = places found in
+module _ (c : tie.After-solve) where
+  abbrev roots : tie.After-find
+  roots = c .before .before
+
+  abbrev start : tie.Start
+  start = roots .before .before .before .before .before
+
+  value-bytes : (i : ℕ) → getD (c .solve .result .values) i 0 < 256
+  value-bytes i = let fit : mir.Val.Fits mir.Syntax.w8 (getD (c .solve .result .values) i 0) = search needs in fit .fits
+
+  tried : (fits : Bool) → c .solve .result .fits ≡ fits → Searched (start .args .rest) (roots .find .result .n) (roots .find .result .at) (c .solve .result .values) fits
+  tried fits e =
+      let syndromes = roots .before .before in
       searched
       (record {
-        syndromes = syndromes .syndromes .ensures;
-        bytes = bytes found;
-        null = found .before .null-vector .ensures;
-        rooted = places;
-        value-bytes = λ i. value-fit i .fits;
-        solved = solve .solve .ensures;
-      }) fits (shared-agrees (terms-shared (logs .before .powers .ensures) (logs .logs .ensures) _ _ values _ (places .placed) (λ i. value-fit i .fits) (c .before .add-terms .ensures)) fits (subst (Nought (c .before .add-terms .result)) e (c .is-nought2 .ensures)))
+        syndromes = listed-syndromes (syndromes .syndromes .ensures);
+        bytes = bytes roots;
+        null = roots .before .null-vector .ensures;
+        rooted = places roots;
+        value-bytes = value-bytes;
+        solved = c .solve .ensures .0;
+      }) fits (subst (Agreeing (listOf (syndromes .syndromes .result)) (roots .find .result .at) (c .solve .result .values) (roots .find .result .n)) e (c .solve .ensures .1))
 
 nothing-requires-2 : tie.Need-nothing-requires-2
 nothing-requires-2 c κs = tt
 
 returns-2 : tie.Need-returns-2
 returns-2 c =
-    let start = c .before .before .before .before .before .before .before .before .before .before .before .before .before .before .before in
-    c .nothing2 .ensures ∙ none-told (start .args .rest) (sixteen start) (rest-bytes start) (found (c .before .before) false (not-true _ (c .before .if2 .taken)))
+    let done = c .before .before .before in
+    c .nothing2 .ensures ∙ none-told (start done .args .rest) (sixteen (start done)) (rest-bytes (start done)) (tried done false (not-true _ (c .before .if2 .taken)))
 
 keep-requires : tie.Need-keep-requires
-keep-requires c κs = places (c .before .before .before .before .before) .ordered
+keep-requires c κs = places (roots (c .before .before .before)) .ordered
 
 returns-3 : tie.Need-returns-3
 returns-3 c =
-    let nought = c .before .before in
-    let start = nought .before .before .before .before .before .before .before .before .before .before .before .before .before in
-    found-told (start .args .rest) (sixteen start) (rest-bytes start) (found nought true (not-false _ (c .before .if2 .left))) (c .keep .result) (c .keep .ensures)
+    let done = c .before .before .before .before in
+    found-told (start done .args .rest) (sixteen (start done)) (rest-bytes (start done)) (tried done true (not-false _ (c .before .before .if2 .left))) (c .keep .result) (c .keep .ensures)
 
 pub find-spec : {M : Type 1} → statement M
 find-spec =
@@ -122,14 +110,10 @@ find-spec =
     is-nought-requires
     nothing-requires
     returns
-    powers-requires
-    logs-requires
     syndromes-requires
     null-vector-requires
     find-requires
     solve-requires
-    add-terms-requires
-    is-nought-requires-2
     nothing-requires-2
     returns-2
     keep-requires

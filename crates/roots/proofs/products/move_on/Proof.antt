@@ -2,6 +2,7 @@
 -- Assumes nothing.
 use Prim.Native.Nat.{_-_, _≤_}
 use native.Mathlib.Omega.{arith}
+use Rattle.roots.proofs.Making.{words-fewer}
 use Rattle.roots.proofs.Moving.{Moving, moving-start, moving-more, moving-end}
 use Rattle.roots.proofs.products.move_on.Statement.{statement}
 use Rattle.roots.proofs.products.move_on.Tie as tie
@@ -22,7 +23,9 @@ element-copy-out-word : tie.Need-element-copy-out-word Inv-loop μ-loop
 element-copy-out-word c = omega (arith, c .before .before .pre .0)
 
 word-requires : tie.Need-word-requires Inv-loop μ-loop
-word-requires c κs = (omega (arith, c .before .before .before .pre .0), c .before .before .before .pre .2)
+word-requires c κs =
+    let start = c .before .before .before in
+    (omega (arith, start .pre .0), words-fewer (start .pre .2) (omega arith))
 
 byte-requires : tie.Need-byte-requires Inv-loop μ-loop
 byte-requires c κs = tt

@@ -40,7 +40,7 @@ element-copy-out-result-2 : tie.Need-element-copy-out-result-2
 element-copy-out-result-2 c = omega arith
 
 returns : tie.Need-returns
-returns c = λ k h. looked _ (c .before .before .pre .1) _ _ k (c .before .before .pre .0) (search needs) h
+returns c = λ k h. looked _ _ _ k (c .before .before .pre .1) (search needs) h
 
 pub word-spec : {M : Type 1} → statement M
 word-spec =

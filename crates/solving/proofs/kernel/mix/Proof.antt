@@ -1,62 +1,82 @@
--- `kernel::mix` adds the products one by one in place: the first m entries are the new ones, the others the old ones, and beyond n there is nothing to add.
+-- `kernel::mix`: in each of the four words the factors are, after each turn, those of the bits that have been taken (`blended-more`).
 -- Assumes nothing.
-use mathlib.Core.Path.{ap₂}
-use Prim.Native.Nat.{ℕ, _-_, _≤_, _<_}
-use native.Mathlib.Nat.{le-refl, lt-of-lt-of-le}
+use Prim.Native.Nat.{ℕ, _/_, _^_, _≤_, _<_}
 use native.Mathlib.Omega.{arith}
-use Rattle.ground.specs.Bits.{sum}
-use lib.ListN.{getD}
-use Rattle.errata.proofs.ByExponents.{times-law}
-use Rattle.terms.proofs.Stores.{next-within, next-nearer, Front, front-start, front-more}
-use Rattle.errata.proofs.Null.{Added, mixed-from}
-use borrow.Author.Needs.{needs}
+use Rattle.errata.specs.InnerNull.{Blended}
+use Rattle.errata.proofs.Blending.{blended-start, blended-more, blended-end}
 use Rattle.solving.proofs.kernel.mix.Statement.{statement}
 use Rattle.solving.proofs.kernel.mix.Tie as tie
 
 abbrev Inv-loop : tie.InvT-loop
-Inv-loop n c powers logs q out₀ m₀ out m = (m ≤ n) × Front (Added c out₀ q) 9 m out₀ out
+Inv-loop v q p d x y low₀ high₀ first₀ last₀ i₀ low high first last i =
+    (i ≤ 8)
+    × Blended (x / 2 ^ i) (y / 2 ^ i) (v .low) (q .low) low
+    × Blended (x / 2 ^ i) (y / 2 ^ i) (v .high) (q .high) high
+    × Blended (x / 2 ^ i) (y / 2 ^ i) (v .first) (q .first) first
+    × Blended (x / 2 ^ i) (y / 2 ^ i) (v .last) (q .last) last
 
 abbrev μ-loop : tie.MeasureT-loop
-μ-loop n c powers logs q out₀ m₀ out m = n - m
+μ-loop v q p d x y low₀ high₀ first₀ last₀ i₀ low high first last i = i
 
-module _ (c : tie.Start Inv-loop μ-loop) where
-  factor : c .args .c < 256
-  factor = search needs
+wide-requires : tie.Need-wide-requires Inv-loop μ-loop
+wide-requires c κs = tt
 
-  entry : (i : ℕ) → getD (c .args .t2) i 0 < 256
-  entry i = let fit : mir.Val.Fits mir.Syntax.w8 (getD (c .args .t2) i 0) = search needs in fit .fits
+wide-requires-2 : tie.Need-wide-requires-2 Inv-loop μ-loop
+wide-requires-2 c κs = tt
 
 loop-holds : tie.Need-loop-holds Inv-loop μ-loop
-loop-holds c = (omega arith, front-start _ 9 _ (search needs))
+loop-holds c =
+    let x = c .before .wide .ensures .1 in
+    let y = c .wide2 .ensures .1 in
+    (omega arith, blended-start _ _ _ _ x y, blended-start _ _ _ _ x y, blended-start _ _ _ _ x y, blended-start _ _ _ _ x y)
 
-array-read-out : tie.Need-array-read-out Inv-loop μ-loop
-array-read-out c = lt-of-lt-of-le (c .loop-test .taken) (c .before .before .pre .0)
+sub-i : tie.Need-sub-i Inv-loop μ-loop
+sub-i c = omega arith
 
-array-read-mul-by : tie.Need-array-read-mul-by Inv-loop μ-loop
-array-read-mul-by c = lt-of-lt-of-le (c .loop-test .taken) (c .before .before .pre .0)
+shr-c : tie.Need-shr-c Inv-loop μ-loop
+shr-c c = omega (arith, c .before .loop .inv .0)
 
-mul-by-requires : tie.Need-mul-by-requires Inv-loop μ-loop
-mul-by-requires c κs = tt
+shr-e : tie.Need-shr-e Inv-loop μ-loop
+shr-e c = omega (arith, c .before .loop .inv .0)
 
-array-write-out : tie.Need-array-write-out Inv-loop μ-loop
-array-write-out c = lt-of-lt-of-le (c .before .loop-test .taken) (c .before .before .before .pre .0)
+add-up-requires : tie.Need-add-up-requires Inv-loop μ-loop
+add-up-requires c κs = (omega arith, omega arith)
 
-add-m : tie.Need-add-m Inv-loop μ-loop
-add-m c = omega arith
+add-up-requires-2 : tie.Need-add-up-requires-2 Inv-loop μ-loop
+add-up-requires-2 c κs = (omega arith, omega arith)
+
+add-up-requires-3 : tie.Need-add-up-requires-3 Inv-loop μ-loop
+add-up-requires-3 c κs = (omega arith, omega arith)
+
+add-up-requires-4 : tie.Need-add-up-requires-4 Inv-loop μ-loop
+add-up-requires-4 c κs = (omega arith, omega arith)
 
 loop-less : tie.Need-loop-less Inv-loop μ-loop
-loop-less c = next-nearer (c .before .loop-test .taken)
+loop-less c = omega arith
 
 loop-again : tie.Need-loop-again Inv-loop μ-loop
-unfolding sum
 loop-again c =
-    let inv = c .before .before .loop .inv in
-    let start = c .before .before .before in
-    let turn = c .before .loop-test .taken in
-    (next-within turn, front-more (inv .1) _ (lt-of-lt-of-le turn (start .pre .0)) (ap₂ sum (inv .1 .kept _ (le-refl _)) (times-law (start .pre .2) (start .pre .3) (c .mul-by .ensures) (factor start) (entry start _))))
+    let loop = c .before .before .before .before .before in
+    let x = loop .before .before .wide .ensures .1 in
+    let y = loop .before .wide2 .ensures .1 in
+    let i : ℕ = loop .loop .i in
+    let turn : 0 < i = omega arith in
+    let inv = loop .loop .inv in (
+      omega (arith, inv .0),
+      blended-more _ _ _ _ x y i turn (inv .1) (c .before .before .before .add-up .ensures),
+      blended-more _ _ _ _ x y i turn (inv .2) (c .before .before .add-up2 .ensures),
+      blended-more _ _ _ _ x y i turn (inv .3) (c .before .add-up3 .ensures),
+      blended-more _ _ _ _ x y i turn (inv .4) (c .add-up4 .ensures),
+    )
 
 returns : tie.Need-returns Inv-loop μ-loop
-returns c = mixed-from (c .before .before .pre .1) (c .loop-test .left) (c .before .loop .inv .1)
+returns c =
+    let loop = c .before in
+    let x = loop .before .before .wide .ensures .0 in
+    let y = loop .before .wide2 .ensures .0 in
+    let end = c .loop-test .left in
+    let inv = loop .loop .inv in
+    (blended-end _ _ _ x y end (inv .1), blended-end _ _ _ x y end (inv .2), blended-end _ _ _ x y end (inv .3), blended-end _ _ _ x y end (inv .4))
 
 pub mix-spec : {M : Type 1} → statement M
 mix-spec =
@@ -64,12 +84,16 @@ mix-spec =
     (tie.spec
     Inv-loop
     μ-loop
+    wide-requires
+    wide-requires-2
     loop-holds
-    array-read-out
-    array-read-mul-by
-    mul-by-requires
-    array-write-out
-    add-m
+    sub-i
+    shr-c
+    shr-e
+    add-up-requires
+    add-up-requires-2
+    add-up-requires-3
+    add-up-requires-4
     loop-less
     loop-again
     returns)

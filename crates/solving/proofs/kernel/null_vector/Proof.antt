@@ -1,34 +1,33 @@
 -- `kernel::null_vector` keeps each vector at a run of its own, which does not annihilate it; there are eight runs, so that one of nine passes them all. Each turn a vector
 -- goes one run on, or one vector more is kept and the next begins one run before.
 -- Assumes nothing.
-use mathlib.Core.Path.{_≡_, _∙_}
+use mathlib.Core.Path.{_≡_, refl, _∙_}
 use mathlib.Core.Logic.{⊎-elim}
 use Prim.Native.Nat.{ℕ, _+_, _-_, _*_, _<_}
 use native.Mathlib.Omega.{arith}
-use Rattle.errata.proofs.ByExponents.{times-law, inverse-law}
-use Rattle.errata.proofs.Null.{Keeping, keeping-start, keeping-skip, keeping-more, keeping-mixed, keeping-end, few, run-fits}
+use Rattle.ground.specs.Lists.{listed}
+use Rattle.field.specs.Words.{entry}
+use Rattle.errata.specs.InnerNull.{inTwo}
+use Rattle.solving.proofs.Turns.{Keeping, keeping-start, keeping-skip, keeping-more, keeping-mixed, keeping-end, few}
+use Rattle.errata.specs.InnerValues.{listOf}
 use Rattle.solving.proofs.kernel.null_vector.Statement.{statement}
 use Rattle.solving.proofs.kernel.null_vector.Tie as tie
 
 abbrev Inv-loop : tie.InvT-loop
-Inv-loop s powers logs vectors₀ scales₀ v₀ i₀ l₀ vectors scales v i l = Keeping s vectors scales v i l
+Inv-loop v₀ kept₀ pivots₀ i₀ l₀ v kept pivots i l = Keeping (listed (entry (inTwo (v₀ .first) (v₀ .last))) 16 0) kept pivots v i l
 
 abbrev μ-loop : tie.MeasureT-loop
-μ-loop s powers logs vectors₀ scales₀ v₀ i₀ l₀ vectors scales v i l = (9 - l) * 10 + (8 - i)
+μ-loop v₀ kept₀ pivots₀ i₀ l₀ v kept pivots i l = (9 - l) * 10 + (8 - i)
 
 loop-holds : tie.Need-loop-holds Inv-loop μ-loop
-loop-holds c = keeping-start _
+unfolding listOf
+loop-holds c = keeping-start _ (omega arith) (omega arith)
 
-add-run : tie.Need-add-run Inv-loop μ-loop
-add-run c = omega (arith, few (c .before .loop .inv))
+byte-requires : tie.Need-byte-requires Inv-loop μ-loop
+byte-requires c κs = tt
 
-run-requires : tie.Need-run-requires Inv-loop μ-loop
-run-requires c κs =
-    let start = c .before .before in
-    (omega (arith, few (c .before .loop .inv)), omega arith, start .pre .0, start .pre .1)
-
-array-read-c : tie.Need-array-read-c Inv-loop μ-loop
-array-read-c c = omega arith
+array-read-p : tie.Need-array-read-p Inv-loop μ-loop
+array-read-p c = omega arith
 
 add-i : tie.Need-add-i Inv-loop μ-loop
 add-i c = omega arith
@@ -37,19 +36,16 @@ loop-less : tie.Need-loop-less Inv-loop μ-loop
 loop-less c = omega arith
 
 loop-again : tie.Need-loop-again Inv-loop μ-loop
-loop-again c = keeping-skip (c .before .before .before .loop .inv) (omega arith) (c .before .run .ensures) (c .if1 .taken)
+loop-again c = keeping-skip (c .before .before .before .loop .inv) (omega arith) (c .before .byte .ensures) (c .if1 .taken)
 
-mul-vectors : tie.Need-mul-vectors Inv-loop μ-loop
-mul-vectors c = omega arith
+mul-kept : tie.Need-mul-kept Inv-loop μ-loop
+mul-kept c = omega arith
 
-array-set-from-vectors : tie.Need-array-set-from-vectors Inv-loop μ-loop
-array-set-from-vectors c = omega arith
+array-set-from-kept : tie.Need-array-set-from-kept Inv-loop μ-loop
+array-set-from-kept c = omega arith
 
-inverse-by-requires : tie.Need-inverse-by-requires Inv-loop μ-loop
-inverse-by-requires c κs = tt
-
-array-write-scales : tie.Need-array-write-scales Inv-loop μ-loop
-array-write-scales c = omega arith
+array-write-pivots : tie.Need-array-write-pivots Inv-loop μ-loop
+array-write-pivots c = omega arith
 
 shift-requires : tie.Need-shift-requires Inv-loop μ-loop
 shift-requires c κs = tt
@@ -58,12 +54,12 @@ sub-i : tie.Need-sub-i Inv-loop μ-loop
 sub-i c = omega arith
 
 add-l : tie.Need-add-l Inv-loop μ-loop
-add-l c = omega (arith, few (c .before .before .before .before .before .before .before .loop .inv))
+add-l c = omega (arith, few (c .before .before .before .before .before .before .loop .inv))
 
 -- the next vector begins one run before, if there is one
-back : (c : tie.Joined3 Inv-loop μ-loop) → c .if3 .i ≡ c .before .before .before .before .before .before .before .loop .i - 1
+back : (c : tie.Joined3 Inv-loop μ-loop) → c .if3 .i ≡ c .before .before .before .before .before .before .loop .i - 1
 back c =
-    let i : ℕ = c .before .before .before .before .before .before .before .loop .i in
+    let i : ℕ = c .before .before .before .before .before .before .loop .i in
     ⊎-elim
     (λ w.
     let z : i ≡ 0 = w .0 .taken in
@@ -72,19 +68,13 @@ back c =
     (λ w. w .1) (c .if3 .came)
 
 loop-less-2 : tie.Need-loop-less-2 Inv-loop μ-loop
-loop-less-2 c =
-    let at = c .before .before .before .before .before .before .before in
-    omega (arith, few (at .loop .inv), back c)
+loop-less-2 c = omega (arith, few (c .before .before .before .before .before .before .loop .inv), back c)
 
 loop-again-2 : tie.Need-loop-again-2 Inv-loop μ-loop
 loop-again-2 c =
-    let at = c .before .before .before .before .before .before .before in
-    let start = at .before in
+    let at = c .before .before .before .before .before .before in
     let turn : at .loop .i < 8 = omega arith in
-    let run = c .before .before .before .before .before .run .ensures in
-    keeping-more (at .loop .inv) turn run (c .before .before .inverse-by .result) (c .before .before .before .before .if1 .left) (c .before .before .before .if2 .taken)
-    (inverse-law (start .pre .0) (start .pre .1) (c .before .before .inverse-by .ensures) (run-fits (at .loop .inv) turn run))
-    (c .before .shift .ensures) (back c)
+    keeping-more (at .loop .inv) turn (c .before .before .before .before .byte .ensures) refl (c .before .before .before .if1 .left) (c .before .before .if2 .taken) (c .before .shift .ensures) (back c)
 
 mul-q : tie.Need-mul-q Inv-loop μ-loop
 mul-q c = omega arith
@@ -92,14 +82,8 @@ mul-q c = omega arith
 array-copy-out-q : tie.Need-array-copy-out-q Inv-loop μ-loop
 array-copy-out-q c = omega arith
 
-mul-by-requires : tie.Need-mul-by-requires Inv-loop μ-loop
-mul-by-requires c κs = tt
-
 mix-requires : tie.Need-mix-requires Inv-loop μ-loop
-mix-requires c κs =
-    let start = c .before .before .before .before .before .before .before in
-    let inv = c .before .before .before .before .before .before .loop .inv in
-    (omega (arith, few inv), inv .basis .kept _ (omega arith) (c .before .before .if2 .left) .short, start .pre .0, start .pre .1)
+mix-requires c κs = tt
 
 add-i-2 : tie.Need-add-i-2 Inv-loop μ-loop
 add-i-2 c = omega arith
@@ -109,17 +93,16 @@ loop-less-3 c = omega arith
 
 loop-again-3 : tie.Need-loop-again-3 Inv-loop μ-loop
 loop-again-3 c =
-    let start = c .before .before .before .before .before .before .before .before in
-    let inv = c .before .before .before .before .before .before .before .loop .inv in
-    let run = c .before .before .before .before .before .run .ensures in
-    let turn : c .before .before .before .before .before .before .before .loop .i < 8 = omega arith in
-    let some = c .before .before .before .if2 .left in
-    keeping-mixed inv turn run some
-    (times-law (start .pre .0) (start .pre .1) (c .before .mul-by .ensures) (run-fits inv turn run) (inv .basis .kept _ turn some .small))
-    (c .mix .ensures)
+    let at = c .before .before .before .before .before .before in
+    let turn : at .loop .i < 8 = omega arith in
+    keeping-mixed (at .loop .inv) turn (c .before .before .before .before .byte .ensures) (c .before .before .if2 .left) (c .mix .ensures)
+
+entries-requires : tie.Need-entries-requires Inv-loop μ-loop
+entries-requires c κs = tt
 
 returns : tie.Need-returns Inv-loop μ-loop
-returns c = keeping-end (c .before .loop .inv) (omega arith)
+unfolding listOf
+returns c = keeping-end (c .before .before .loop .inv) (omega arith) (c .entries .ensures)
 
 pub null-vector-spec : {M : Type 1} → statement M
 null-vector-spec =
@@ -128,16 +111,14 @@ null-vector-spec =
     Inv-loop
     μ-loop
     loop-holds
-    add-run
-    run-requires
-    array-read-c
+    byte-requires
+    array-read-p
     add-i
     loop-less
     loop-again
-    mul-vectors
-    array-set-from-vectors
-    inverse-by-requires
-    array-write-scales
+    mul-kept
+    array-set-from-kept
+    array-write-pivots
     shift-requires
     sub-i
     add-l
@@ -145,9 +126,9 @@ null-vector-spec =
     loop-again-2
     mul-q
     array-copy-out-q
-    mul-by-requires
     mix-requires
     add-i-2
     loop-less-3
     loop-again-3
+    entries-requires
     returns)

@@ -1,23 +1,25 @@
 -- `losses::fill_rest`: places that do not fall fit nothing. A row that leaves nothing is coded as it is. Of another the values at the places are solved for, and where they give all
--- sixteen syndromes the row with them is coded; at sixteen places they do.
+-- sixteen syndromes the row with them is coded.
 -- Assumes nothing.
 use native.Mathlib.Omega.{arith}
 use mathlib.Core.Path.{_≡_, refl, sym, subst, _∙_}
 use mathlib.Core.Bool.{Bool, true, false}
+use mathlib.Core.List.{List}
 use Prim.Native.Nat.{ℕ, _<_}
 use lib.ListN.{length, getD}
 use borrow.Author.Tests.{not-true, not-false}
 use Rattle.code.specs.Code.{Bytes}
 use Rattle.code.proofs.Lists.{bytes-of}
 use Rattle.errata.specs.Restoring.{fallingTo, fillingOf}
-use Rattle.errata.specs.InnerErrata.{entries, shareOf, Nought}
+use Rattle.errata.specs.InnerErrata.{entries, shareOf, Agreeing}
 use Rattle.errata.specs.InnerRestoring.{Filled}
 use Rattle.errata.specs.declared.Errata.{Errata}
-use Rattle.errata.proofs.Shares.{Agreeing, terms-shared, shared-agrees}
 use Rattle.errata.proofs.Mending.{Weighed}
 use Rattle.errata.proofs.Places.{falling-few, falling-placed}
 use Rattle.errata.proofs.Fitting.{not-falling, nothing-fits, filled-told, weighed-fits, agreeing-none}
 use borrow.Author.Needs.{needs}
+use Rattle.errata.specs.InnerValues.{listOf}
+use Rattle.solving.proofs.Rests.{listed-syndromes}
 use Rattle.solving.proofs.losses.fill_rest.Statement.{statement}
 use Rattle.solving.proofs.losses.fill_rest.Tie as tie
 
@@ -59,91 +61,60 @@ returns-2 c =
     (nothing-fits (start .args .rest) (start .args .at) (start .args .n) (falls some) (rest-long start) (rest-bytes start) (at-long start) nought)
     (c .filled .result) (c .filled .ensures)
 
-powers-requires : tie.Need-powers-requires
-powers-requires c κs = tt
-
-logs-requires : tie.Need-logs-requires
-logs-requires c κs = tt
-
 syndromes-requires : tie.Need-syndromes-requires
-syndromes-requires c κs = (c .before .before .before .powers .ensures, c .before .before .logs .ensures)
+syndromes-requires c κs = tt
 
 solve-requires : tie.Need-solve-requires
-solve-requires c κs =
-    let logs = c .before .before .before in
-    (falling-placed _ _ (falls (logs .before .before .before .before)), logs .before .powers .ensures, logs .logs .ensures)
+solve-requires c κs = falling-placed _ _ (falls (c .before .before .before))
 
 -- what was solved for
 module _ (c : tie.After-solve) where
   abbrev some : tie.Else1
-  some = c .before .before .before .before .before .before .before .before
+  some = c .before .before .before .before
 
   abbrev start : tie.Start
   start = some .before .before
 
-  value-bytes : (i : ℕ) → getD (c .solve .result) i 0 < 256
-  value-bytes i = let fit : mir.Val.Fits mir.Syntax.w8 (getD (c .solve .result) i 0) = search needs in fit .fits
+  abbrev syndromes : List ℕ
+  syndromes = listOf (c .before .syndromes .result)
 
-  weighed : Weighed (start .args .rest) (c .before .syndromes .result) (start .args .n) (start .args .at) (c .solve .result)
+  value-bytes : (i : ℕ) → getD (c .solve .result .values) i 0 < 256
+  value-bytes i = let fit : mir.Val.Fits mir.Syntax.w8 (getD (c .solve .result .values) i 0) = search needs in fit .fits
+
+  weighed : Weighed (start .args .rest) syndromes (start .args .n) (start .args .at) (c .solve .result .values)
   weighed =
       record {
-        syndromes = c .before .syndromes .ensures;
+        syndromes = listed-syndromes (c .before .syndromes .ensures);
         placed = falling-placed _ _ (falls some);
         value-bytes = value-bytes;
-        solved = c .solve .ensures;
+        solved = c .solve .ensures .0;
       }
 
   -- where the values give all sixteen syndromes they are what is to be added
-  told : ((j : ℕ) → j < 16 → shareOf (entries (start .args .at)) (entries (c .solve .result)) (start .args .n) j ≡ getD (c .before .syndromes .result) j 0) → (e : Errata)
-      → Filled (start .args .at) (c .solve .result) (start .args .n) e → e ≡ fillingOf (start .args .rest) (start .args .at) (start .args .n)
+  told : ((j : ℕ) → j < 16 → shareOf (entries (start .args .at)) (entries (c .solve .result .values)) (start .args .n) j ≡ getD syndromes j 0) → (e : Errata)
+      → Filled (start .args .at) (c .solve .result .values) (start .args .n) e → e ≡ fillingOf (start .args .rest) (start .args .at) (start .args .n)
   told agree =
-      filled-told (start .args .rest) (start .args .at) (start .args .n) (falls some) (rest-long start) (rest-bytes start) (at-long start) (c .solve .result)
+      filled-told (start .args .rest) (start .args .at) (start .args .n) (falls some) (rest-long start) (rest-bytes start) (at-long start) (c .solve .result .values)
       (weighed-fits (start .args .rest) (start .args .at) (start .args .n) (falls some) (rest-long start) (rest-bytes start) (at-long start) weighed agree)
 
 filled-requires-2 : tie.Need-filled-requires-2
-filled-requires-2 c κs = falling-few _ _ (falls (some (c .before)))
+filled-requires-2 c κs = falling-few _ _ (falls (some (c .before .before)))
 
 returns-3 : tie.Need-returns-3
 returns-3 c =
-    let done = c .before .before in
-    told done (λ j h. done .solve .ensures .solves j (omega arith)) (c .filled2 .result) (c .filled2 .ensures)
-
-add-terms-requires : tie.Need-add-terms-requires
-add-terms-requires c κs = tt
-
-is-nought-requires-2 : tie.Need-is-nought-requires-2
-is-nought-requires-2 c κs = tt
-
--- whether it fits
-module _ (c : tie.After-is-nought2) where
-  abbrev done : tie.After-solve
-  done = c .before .before .before
-
-  agreeing : (fits : Bool) → c .is-nought2 .result ≡ fits
-      → Agreeing (done .before .syndromes .result) (start done .args .at) (done .solve .result) (start done .args .n) fits
-  agreeing fits e =
-      let logs = done .before .before .before .before in
-      shared-agrees (terms-shared (logs .before .powers .ensures) (logs .logs .ensures) _ _ _ _ (weighed done .placed) (value-bytes done) (c .before .add-terms .ensures)) fits
-      (subst (Nought (c .before .add-terms .result)) e (c .is-nought2 .ensures))
-
-filled-requires-3 : tie.Need-filled-requires-3
-filled-requires-3 c κs = falling-few _ _ (falls (some (done (c .before))))
-
-returns-4 : tie.Need-returns-4
-returns-4 c =
-    let nought = c .before .before in
-    told (done nought) (agreeing nought true (c .before .if4 .taken) .yes refl) (c .filled3 .result) (c .filled3 .ensures)
+    let done = c .before .before .before in
+    told done (done .solve .ensures .1 .yes (c .before .before .if3 .taken)) (c .filled2 .result) (c .filled2 .ensures)
 
 nothing-requires-2 : tie.Need-nothing-requires-2
 nothing-requires-2 c κs = tt
 
-returns-5 : tie.Need-returns-5
-returns-5 c =
-    let nought = c .before .before in
-    let start = start (done nought) in
+returns-4 : tie.Need-returns-4
+returns-4 c =
+    let done = c .before .before in
+    let start = start done in
     c .nothing2 .ensures
-    ∙ agreeing-none (start .args .rest) (start .args .at) (start .args .n) (falls (some (done nought))) (rest-long start) (rest-bytes start) (at-long start) (weighed (done nought))
-    (agreeing nought false (c .before .if4 .left))
+    ∙ agreeing-none (start .args .rest) (start .args .at) (start .args .n) (falls (some done)) (rest-long start) (rest-bytes start) (at-long start) (weighed done)
+    (subst (Agreeing (syndromes done) (start .args .at) (done .solve .result .values) (start .args .n)) (c .before .if3 .left) (done .solve .ensures .1))
 
 pub fill-rest-spec : {M : Type 1} → statement M
 fill-rest-spec =
@@ -155,15 +126,9 @@ fill-rest-spec =
     is-nought-requires
     filled-requires
     returns-2
-    powers-requires
-    logs-requires
     syndromes-requires
     solve-requires
     filled-requires-2
     returns-3
-    add-terms-requires
-    is-nought-requires-2
-    filled-requires-3
-    returns-4
     nothing-requires-2
-    returns-5)
+    returns-4)
