@@ -1,26 +1,46 @@
 -- The polynomial moves on by eight exponents, one coefficient after the other: what is added, and what the coefficients that are left still add, make its values.
+-- In front of it, the coefficients copied into words; each stays a byte.
 -- Assumes nothing.
 use mathlib.Core.Path.{_≡_, refl, sym, ap, ap₂, _∙_}
 use mathlib.Core.Logic.{⊎-elim}
 use mathlib.Core.List.{List}
-use Prim.Native.Nat.{ℕ, suc, _+_, _*_, _≤_, _<_}
+use Prim.Native.Nat.{ℕ, suc, _+_, _*_, _/_, _%_, _^_, _≤_, _<_}
 use native.Mathlib.Nat.{mul-comm, not-suc-le-zero, le-refl}
 use native.Mathlib.Numerals.{add-one}
 use native.Mathlib.Omega.{arith}
 use lib.ListN.{length, getD, drop, set, length-set}
-use lib.Seq.{getD-set-same, getD-set-other}
+use lib.Seq.{ext-getD, getD-set-same, getD-set-other}
 use lib.Bits.{bitXor}
 use Rattle.ground.specs.Bits.{sum}
 use Rattle.ground.proofs.Sums.{sum-zero}
 use Rattle.field.specs.Field.{product, expo, power}
-use Rattle.field.proofs.Laws.{ring, product-zero, zero-product, power-byte, expo-power}
+use Rattle.field.proofs.Laws.{ring, product-byte, product-zero, zero-product, power-byte, expo-power}
 use Rattle.field.proofs.InWords.{byte-zero, byte-sum}
 use Rattle.code.specs.Value.{eval}
 use Rattle.code.proofs.Weights.{expo-zero, expo-suc, one-product}
 use Rattle.words.specs.Words.{byteAt}
 use Rattle.roots.specs.InnerWords.{Short, Moved}
 use Rattle.ground.proofs.Numbers.{lt-or-ge, below-suc}
-use Rattle.roots.proofs.Values.{eval-drop, eval-above}
+use Rattle.roots.proofs.Values.{Stretched, eval-drop, eval-above}
+
+-- the first i entries of t are those of v
+pub record Copied (v t : List ℕ) (i : ℕ) : Type 0 where
+  pub sized : length t ≡ 9
+  pub entry : (m : ℕ) → m < i → getD t m 0 ≡ getD v m 0
+
+pub copied-more : {v t : List ℕ} {i : ℕ} → Copied v t i → i < 9 → (x : ℕ) → x ≡ getD v i 0 → Copied v (set t i x) (i + 1)
+copied-more {v} {t} {i} was h x e =
+    let size : length t ≡ 9 = was .sized in
+    record {
+      sized = length-set t i x ∙ size;
+      entry = λ m l. ⊎-elim (λ (q : m ≡ i). rw q (getD-set-same t i x 0 (omega arith) ∙ e))
+          (λ (q : m < i). getD-set-other t i m x 0 (λ z. omega arith) ∙ was .entry m q)
+          (below-suc (omega arith));
+    }
+
+pub copied-end : {v t : List ℕ} {i : ℕ} → Copied v t i → 9 ≤ i → length v ≡ 9 → t ≡ v
+copied-end {v} {t} was h long =
+    let size : length t ≡ 9 = was .sized in ext-getD 0 t v (size ∙ sym long) (λ m l. was .entry m (omega arith))
 
 -- the first i coefficients behind the constant have moved on, and s has what they add
 pub record Moving (u t : List ℕ) (s i : ℕ) : Type 0 where
@@ -44,6 +64,19 @@ moving-start u long =
           (expo-suc x 0 ∙ ap (product x) (expo-zero x) ∙ one-product x (power-byte (k + 1)))
           ∙ sym (eval-drop u 0 x (omega arith));
     }
+
+-- the next coefficient is a byte
+pub moving-byte : {u t : List ℕ} {s i : ℕ} → Moving u t s i → ((m : ℕ) → getD u m 0 < 256) → getD t (i + 1) 0 < 256
+moving-byte {u} {t} {s} {i} was fit = rw (add-one i) (rw (was .kept i (le-refl i)) (fit (suc i)))
+
+-- byte 7 of a word, as it is taken out
+pub seventh : (w : ℕ) → w / 2 ^ 56 % 256 ≡ byteAt w 7
+unfolding byteAt
+seventh w = refl
+
+-- coefficients times powers are bytes
+pub stretched-byte : {a : ℕ} {v t : List ℕ} → Stretched a v t → (m : ℕ) → getD t m 0 < 256
+stretched-byte {a} {v} s m = rw (s .entry m) (product-byte (getD v m 0) (power (a * m)))
 
 step : (a s c x y f : ℕ) → sum (sum a (sum s (product c x))) (product (product y x) f) ≡ sum (sum a s) (product x (sum c (product y f)))
 step a s c x y f = simp ring

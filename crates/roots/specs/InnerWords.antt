@@ -4,6 +4,7 @@ use mathlib.Core.Path.{_≡_}
 use mathlib.Core.Bool.{Bool, cond, _&&_}
 use mathlib.Core.List.{List, [], _∷_, _++_}
 use Prim.Native.Nat.{ℕ, suc, _+_, _*_, _<_}
+use lib.Bits.{bitXor}
 use lib.Dec.{eqb, ltb}
 use lib.ListN.{length, getD, take}
 use Rattle.ground.specs.Bits.{sum}
@@ -11,6 +12,12 @@ use Rattle.words.specs.Words.{byteAt}
 use Rattle.field.specs.Field.{product, power}
 use Rattle.code.specs.Value.{eval}
 use Rattle.roots.specs.Roots.{passing}
+
+-- t has behind the n words from `at` on the first j of them again, with w added; in front of these it is s
+pub record Added (j n at w : ℕ) (s t : List ℕ) : Type 0 where
+  pub room : length t ≡ 256
+  pub entry : (i : ℕ) → i < j → getD t (at + n + i) 0 ≡ bitXor (getD s (at + i) 0) w
+  pub front : (i : ℕ) → i < at + n → getD t i 0 ≡ getD s i 0
 
 -- t has n words from `at` on, word h with the product of h and byte k of w at byte k; in front of them it is s
 pub record Multiples (n at w : ℕ) (s t : List ℕ) : Type 0 where

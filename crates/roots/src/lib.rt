@@ -26,7 +26,7 @@ pub fn find(v: [u8; 9]) -> Roots
     let mut at = [0u8; 16];
     let mut n = search::note(&mut at, 0, at_one(v), 0, 0);
     let first = v[0];
-    let mut t = v;
+    let mut t = products::wide(v);
     let mut b: usize = 0;
     while b < 32 {
         let w = products::move_on(&mut t, top, &table);

@@ -3,7 +3,7 @@
 use Prim.Native.Nat.{_-_, _≤_}
 use native.Mathlib.Omega.{arith}
 use Rattle.roots.proofs.Making.{words-fewer}
-use Rattle.roots.proofs.Moving.{Moving, moving-start, moving-more, moving-end}
+use Rattle.roots.proofs.Moving.{Moving, moving-start, moving-more, moving-end, moving-byte, seventh}
 use Rattle.roots.proofs.products.move_on.Statement.{statement}
 use Rattle.roots.proofs.products.move_on.Tie as tie
 
@@ -19,34 +19,37 @@ loop-holds c = (omega arith, moving-start _ (c .pre .1 .sized))
 add-word : tie.Need-add-word Inv-loop μ-loop
 add-word c = omega (arith, c .before .before .pre .0)
 
+mul-word : tie.Need-mul-word Inv-loop μ-loop
+mul-word c = omega (arith, c .before .before .pre .0)
+
 element-copy-out-word : tie.Need-element-copy-out-word Inv-loop μ-loop
 element-copy-out-word c = omega (arith, c .before .before .pre .0)
 
 word-requires : tie.Need-word-requires Inv-loop μ-loop
 word-requires c κs =
     let start = c .before .before .before in
-    (omega (arith, start .pre .0), words-fewer (start .pre .2) (omega arith))
-
-byte-requires : tie.Need-byte-requires Inv-loop μ-loop
-byte-requires c κs = tt
+    (omega (arith, start .pre .0), moving-byte (c .before .before .loop .inv .1) (start .pre .3), words-fewer (start .pre .2) (omega arith))
 
 add-t : tie.Need-add-t Inv-loop μ-loop
-add-t c = omega (arith, c .before .before .before .before .before .pre .0)
+add-t c = omega (arith, c .before .before .before .before .pre .0)
+
+mul-t : tie.Need-mul-t Inv-loop μ-loop
+mul-t c = omega (arith, c .before .before .before .before .pre .0)
 
 element-write-t : tie.Need-element-write-t Inv-loop μ-loop
-element-write-t c = omega (arith, c .before .before .before .before .before .pre .0)
+element-write-t c = omega (arith, c .before .before .before .before .pre .0)
 
 add-i : tie.Need-add-i Inv-loop μ-loop
-add-i c = omega (arith, c .before .before .before .before .before .pre .0)
+add-i c = omega (arith, c .before .before .before .before .pre .0)
 
 loop-less : tie.Need-loop-less Inv-loop μ-loop
 loop-less c = omega arith
 
 loop-again : tie.Need-loop-again Inv-loop μ-loop
 loop-again c =
-    let start = c .before .before .before .before .before in
-    let inv = c .before .before .before .before .loop .inv in
-    (omega arith, moving-more (inv .1) (start .pre .1 .sized) (omega (arith, start .pre .0)) _ (c .before .word .ensures) _ (c .byte .ensures))
+    let start = c .before .before .before .before in
+    let inv = c .before .before .before .loop .inv in
+    (omega arith, moving-more (inv .1) (start .pre .1 .sized) (omega (arith, start .pre .0)) _ (c .word .ensures) _ (seventh _))
 
 returns : tie.Need-returns Inv-loop μ-loop
 returns c =
@@ -61,10 +64,11 @@ move-on-spec =
     μ-loop
     loop-holds
     add-word
+    mul-word
     element-copy-out-word
     word-requires
-    byte-requires
     add-t
+    mul-t
     element-write-t
     add-i
     loop-less

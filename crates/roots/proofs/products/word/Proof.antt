@@ -2,15 +2,8 @@
 -- Assumes nothing.
 use native.Mathlib.Omega.{arith}
 use Rattle.roots.proofs.Bytes.{looked}
-use borrow.Author.Needs.{needs}
 use Rattle.roots.proofs.products.word.Statement.{statement}
 use Rattle.roots.proofs.products.word.Tie as tie
-
-cast-low : tie.Need-cast-low
-cast-low c = omega arith
-
-cast-high : tie.Need-cast-high
-cast-high c = omega arith
 
 mul-result : tie.Need-mul-result
 mul-result c = omega arith
@@ -40,14 +33,12 @@ element-copy-out-result-2 : tie.Need-element-copy-out-result-2
 element-copy-out-result-2 c = omega arith
 
 returns : tie.Need-returns
-returns c = λ k h. looked _ _ _ k (c .before .before .pre .1) (search needs) h
+returns c = λ k h. let start = c .before .before in looked _ _ _ k (start .pre .2) (start .pre .1) h
 
 pub word-spec : {M : Type 1} → statement M
 word-spec =
     tie.close
     (tie.spec
-    cast-low
-    cast-high
     mul-result
     add-result
     mul-result-2
