@@ -6,7 +6,7 @@ use mathlib.Core.Logic.{_≢_, ⊎-elim}
 use mathlib.Core.Bool.{Bool, true, false, cond}
 use mathlib.Core.List.{List, [], _∷_}
 use Prim.Native.Nat.{ℕ, zero, suc, _+_, _≤_, _<_, zero-le, suc-le-suc}
-use native.Mathlib.Nat.{le-of-suc-le-suc, not-suc-le-zero, zero-lt-suc, zero-add, suc-add, mul-comm, le-trans, le-suc}
+use native.Mathlib.Nat.{le-of-suc-le-suc, not-suc-le-zero, zero-lt-suc, mul-comm, le-trans, le-suc}
 use native.Mathlib.Omega.{arith}
 use lib.Dec.{eqb}
 use lib.ListN.{length, getD}
@@ -15,7 +15,7 @@ use Rattle.ground.specs.Bits.{sum}
 use Rattle.ground.proofs.Sums.{sum-self, sum-zero, zero-sum, sum-cancel}
 use Rattle.field.specs.Field.{product, power, expo}
 pub use Rattle.field.proofs.Raising.{expo-zero, expo-suc, expo-add, one-product}
-use Rattle.field.proofs.Laws.{ring, sum-byte, product-byte, product-comm, product-assoc, product-one, zero-product, product-zero, zero-divisor, power-byte, power-injective, expo-byte, expo-power}
+use Rattle.field.proofs.Laws.{ring, sum-byte, product-byte, product-assoc, product-one, zero-product, product-zero, zero-divisor, power-byte, power-injective, expo-byte, expo-power}
 use Rattle.code.specs.Code.{Bytes}
 use Rattle.code.specs.Value.{value}
 use Rattle.code.proofs.Lists.{zeros}

@@ -1,13 +1,13 @@
 -- p · a + d · b in the eight bytes of a word at once, by Horner's rule over the bits of p and d, the highest first: after each turn the factors are those down to that bit.
 -- Assumes nothing.
-use mathlib.Core.Path.{_≡_, refl, sym, ap, ap₂, subst, _∙_}
+use mathlib.Core.Path.{_≡_, sym, ap, ap₂, subst, _∙_}
 use Prim.Native.Nat.{ℕ, zero, suc, _+_, _-_, _*_, _/_, _%_, _^_, _≤_, _<_}
-use native.Mathlib.Nat.{div-one, mod-eq-of-lt}
+use native.Mathlib.Nat.{div-one}
 use native.Mathlib.Omega.{arith}
 use mir.Syntax.{w64}
 use mir.Val.{Fits}
 use lib.Dec.{eqb, eqb→eq}
-use lib.Bits.{bitXor, bitAnd, and-comm, and-mask, xor-shifted}
+use lib.Bits.{bitXor, bitAnd, xor-shifted}
 use lib.Pow.{shr-shr, shr-le}
 use Rattle.ground.specs.Bits.{sum, keep}
 use Rattle.ground.proofs.Sums.{zero-sum, sum-assoc, sum-lt, keep-lt, swap4}
@@ -16,7 +16,7 @@ use Rattle.words.specs.Words.{byteAt}
 use Rattle.field.specs.Field.{product, carryless, reduce}
 use Rattle.field.specs.Words.{Doubled}
 use Rattle.field.proofs.Laws.{product-assoc, product-one, zero-product, product-sum-left, product-sum-right}
-use Rattle.field.proofs.InWords.{byte-small, byte-zero, byte-sum}
+use Rattle.field.proofs.InWords.{byte-small, byte-zero, byte-sum, masked, byte-keep}
 use Rattle.errata.specs.InnerNull.{Blended, AddedUp}
 
 -- ---- a word, by a bit
@@ -26,21 +26,11 @@ mask-fits {c = zero} h = record { fits = omega arith }
 mask-fits {c = suc zero} h = record { fits = omega arith }
 mask-fits {c = suc (suc c)} h = absurd (omega arith)
 
--- the bit in each place of a word
-masked : (c a : ℕ) → c < 2 → a < 2 ^ 64 → bitAnd (c * 0xFFFFFFFFFFFFFFFF) a ≡ keep c a
-masked zero a h w = refl
-masked (suc zero) a h w = and-comm 0xFFFFFFFFFFFFFFFF a ∙ and-mask a 64 ∙ mod-eq-of-lt w
-masked (suc (suc c)) a h w = absurd (omega arith)
-
-byte-keep : (c a k : ℕ) → byteAt (keep c a) k ≡ keep c (byteAt a k)
-byte-keep zero a k = byte-zero k
-byte-keep (suc c) a k = refl
-
 pub added-up : (w a b c d twice : ℕ) → c < 2 → d < 2 → a < 2 ^ 64 → b < 2 ^ 64 → Doubled w twice
     → AddedUp w a b c d (bitXor (bitXor twice (bitAnd (c * 0xFFFFFFFFFFFFFFFF) a)) (bitAnd (d * 0xFFFFFFFFFFFFFFFF) b))
 unfolding sum
 added-up w a b c d twice hc hd ha hb doubled =
-    rw (masked c a hc ha, masked d b hd hb)
+    rw (masked 64 c a hc ha, masked 64 d b hd hb)
     (record {
       word = sum-lt 64 (sum twice (keep c a)) (keep d b) (sum-lt 64 twice (keep c a) (doubled .word) (keep-lt 64 c a ha)) (keep-lt 64 d b hb);
       entry =

@@ -9,7 +9,7 @@ use native.Mathlib.Nat.{div-div-eq-div-mul}
 use native.Mathlib.Omega.{arith}
 use borrow.Author.Tests.{eq-eqb, ne-eqb}
 use lib.Bits.{bitXor, xor-lt}
-use lib.Dec.{T, eqb, eqb→eq, ltb}
+use lib.Dec.{eqb, eqb→eq, ltb}
 use lib.ListN.{length, getD}
 use lib.Pow.{pow-add}
 use lib.Seq.{ext-getD}

@@ -2,7 +2,6 @@
 -- Assumes nothing.
 use mathlib.Core.Path.{_≡_, refl, sym, ap, ap₂, subst, _∙_}
 use mathlib.Core.Logic.{_≢_, ⊎-elim}
-use mathlib.Core.Bool.{Bool, cond}
 use mathlib.Core.List.{List, _∷_}
 use Prim.Native.Nat.{ℕ, zero, suc, _+_, _-_, _*_, _/_, _%_, _^_, _≤_, _<_}
 use native.Mathlib.Nat.{not-suc-le-zero}
@@ -12,16 +11,15 @@ use lib.Bits.{bitXor}
 use lib.ListN.{length, getD, set, replicate, length-set, List·getD-eq-default}
 use lib.Seq.{ext-getD, getD-set-same, getD-set-other}
 use Rattle.ground.specs.Bits.{sum}
-use Rattle.ground.specs.Lists.{listed}
 use Rattle.ground.proofs.Sums.{zero-sum}
 use Rattle.ground.proofs.Numbers.{lt-or-ge, below-suc}
-use Rattle.ground.proofs.Listed.{length-listed, getD-listed-0, le-or-lt, zeros-at}
+use Rattle.ground.proofs.Listed.{length-listed, getD-listed-0, zeros-at}
 use Rattle.words.specs.Words.{byteAt}
 use Rattle.field.specs.declared.Sixteen.{Sixteen}
 use Rattle.field.specs.Field.{product}
 use Rattle.field.specs.Words.{entry}
 use Rattle.field.proofs.Laws.{product-zero}
-use Rattle.field.proofs.InWords.{byte-zero, entry-low, entry-high, entry-small}
+use Rattle.field.proofs.InWords.{entry-low, entry-high, entry-small}
 use Rattle.errata.specs.InnerValues.{listOf}
 use Rattle.errata.proofs.Entries.{list-at, list-byte, up-zero, up-next, up-top, entry-down, entry-gone}
 use Rattle.errata.specs.InnerNull.{Short, Blended, inTwo, nine}

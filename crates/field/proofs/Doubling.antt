@@ -2,13 +2,13 @@
 -- A square is linear over the bits of the byte, so bit i gives α^(2 · i). Each byte's fact is computed over the 256 bytes.
 -- Assumes nothing.
 use mathlib.Core.Path.{_≡_, sym, ap, ap₂, _∙_}
-use Prim.Native.Nat.{ℕ, zero, suc, _-_, _*_, _/_, _%_, _^_, _<_, _≤_}
+use Prim.Native.Nat.{ℕ, _-_, _*_, _/_, _%_, _^_, _<_, _≤_}
 use native.Mathlib.Nat.{div-one, mod-lt, mod-eq-of-lt, zero-lt-suc, lt-of-le-of-lt, le-of-suc-le-suc, mul-le-mul}
 use native.Mathlib.Omega.{arith}
-use lib.Bits.{bitXor, bitAnd, and-shr, and-mod, and-mask, and-comm, and-zero-r, and-le-r, xor-lt}
+use lib.Bits.{bitXor, bitAnd, and-shr, and-mod, and-zero-r, and-le-r, xor-lt}
 use lib.Dec.{ltb, ltb→lt, eqb, eqb→eq, lit<}
 use lib.Pow.{pow-pos}
-use Rattle.ground.specs.Bits.{sum, keep}
+use Rattle.ground.specs.Bits.{sum}
 use Rattle.ground.proofs.Sweep.{below}
 use Rattle.words.specs.Words.{byteAt}
 use Rattle.field.specs.Field.{product}
@@ -17,7 +17,7 @@ use Rattle.field.specs.InnerWords.{Taken, Squared}
 use Rattle.field.proofs.Horner.{double, horner}
 use Rattle.field.proofs.Bridge.{product-horner}
 use Rattle.field.proofs.Product.{product-two}
-use Rattle.field.proofs.InWords.{byte-small, byte-sum, byte-and, each-byte, byte-in-word, scaled, bit-at, bits-times}
+use Rattle.field.proofs.InWords.{byte-small, byte-sum, byte-and, each-byte, byte-in-word, scaled, bit-at, bits-times, masked}
 
 -- ---- doubling
 
@@ -71,11 +71,6 @@ module _ (w : ℕ) where
 
 -- ---- taking a byte where a bit is 1
 
-mask-keep : (e y : ℕ) → e < 2 → y < 256 → bitAnd (e * 255) y ≡ keep e y
-mask-keep zero y h l = and-comm 0 y ∙ and-zero-r y
-mask-keep (suc zero) y h l = and-comm 255 y ∙ and-mask y 8 ∙ mod-eq-of-lt l
-mask-keep (suc (suc e)) y h l = absurd (omega arith)
-
 pub taken : (s a b i : ℕ) → s < 2 ^ 64 → a < 2 ^ 64 → i < 8 → Taken s a b i (bitXor s (bitAnd (bitAnd (b / 2 ^ i) 0x0101010101010101 * 255) a))
 taken s a b i hs ha hi =
     let m : ℕ = bitAnd (b / 2 ^ i) 0x0101010101010101 * 255 in
@@ -87,7 +82,7 @@ taken s a b i hs ha hi =
           ∙ ap (sum (byteAt s k))
           (byte-and m a k
           ∙ ap (λ (z : ℕ). bitAnd z (byteAt a k)) (bits-times 255 b i k (lit< tt) hi h)
-          ∙ mask-keep (byteAt b k / 2 ^ i % 2) (byteAt a k) (mod-lt (byteAt b k / 2 ^ i) (zero-lt-suc 1)) (byte-small a k));
+          ∙ masked 8 (byteAt b k / 2 ^ i % 2) (byteAt a k) (mod-lt (byteAt b k / 2 ^ i) (zero-lt-suc 1)) (byte-small a k));
     }
 
 -- ---- squares

@@ -1,16 +1,16 @@
 -- The bytes of a word: of sums, of what two words have in common, and of products with a small factor, where no byte carries into the next; and the sixteen bytes of two.
 -- Assumes nothing.
-use mathlib.Core.Path.{_≡_, sym, ap, ap₂, subst, _∙_}
+use mathlib.Core.Path.{_≡_, refl, sym, ap, ap₂, subst, _∙_}
 use mathlib.Core.Bool.{Bool, true, false, cond}
 use Prim.Native.Nat.{ℕ, zero, suc, _+_, _-_, _*_, _/_, _%_, _^_, _<_, _≤_, suc-le-suc}
 use native.Mathlib.Nat.{add-comm, zero-mul, one-mul, suc-mul, mul-assoc, mul-comm, add-mul, zero-div, div-one, mod-lt, zero-lt-suc, not-suc-le-zero, le-of-suc-le-suc, mul-add-mod-self-right, mod-eq-of-lt, div-add-mod'}
 use native.Mathlib.Omega.{arith}
-use lib.Bits.{bitXor, bitAnd, and-shr, and-mod, and-mask, xor-shr, xor-mod}
+use lib.Bits.{bitXor, bitAnd, and-shr, and-mod, and-mask, and-comm, and-zero-l, xor-shr, xor-mod}
 use lib.Dec.{ltb, eqb, eqb→eq}
 use lib.Arith.{lt-one}
 use lib.Pow.{shr-lt, shr-shr, field, mod-mod-pow}
 use borrow.Author.Tests.{lt-ltb, le-ltb}
-use Rattle.ground.specs.Bits.{sum}
+use Rattle.ground.specs.Bits.{sum, keep}
 use Rattle.ground.proofs.Numbers.{push-digit}
 use Rattle.ground.proofs.Sweep.{below}
 use Rattle.words.specs.Words.{byteAt}
@@ -148,6 +148,17 @@ bits-times c b i k hc hi hk =
     scaled c 8 (bitAnd (b / 2 ^ i) 0x0101010101010101)
     (λ j m. rw (bit-at b i j hi m) (bit-times (byteAt b j / 2 ^ i % 2) c (mod-lt (byteAt b j / 2 ^ i) (zero-lt-suc 1)) hc)) k hk
     ∙ ap (λ (z : ℕ). z * c) (bit-at b i k hi hk)
+
+-- ---- a number of n bits, or nothing of it, by a bit
+
+pub masked : (n c a : ℕ) → c < 2 → a < 2 ^ n → bitAnd (c * (2 ^ n - 1)) a ≡ keep c a
+masked n zero a h l = ap (λ (z : ℕ). bitAnd z a) (zero-mul (2 ^ n - 1)) ∙ and-zero-l a
+masked n (suc zero) a h l = ap (λ (z : ℕ). bitAnd z a) (one-mul (2 ^ n - 1)) ∙ and-comm (2 ^ n - 1) a ∙ and-mask a n ∙ mod-eq-of-lt l
+masked n (suc (suc c)) a h l = absurd (omega arith)
+
+pub byte-keep : (c a k : ℕ) → byteAt (keep c a) k ≡ keep c (byteAt a k)
+byte-keep zero a k = byte-zero k
+byte-keep (suc c) a k = refl
 
 -- ---- sixteen in two words
 

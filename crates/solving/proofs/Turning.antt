@@ -3,10 +3,9 @@
 -- Assumes nothing.
 use mathlib.Core.Path.{_≡_, sym, ap, ap₂, subst, _∙_}
 use mathlib.Core.Logic.{⊎-elim}
-use mathlib.Core.Bool.{Bool, true, false, cond}
+use mathlib.Core.Bool.{Bool, cond}
 use mathlib.Core.List.{List}
-use Prim.Native.Nat.{ℕ, zero, suc, _+_, _≤_, _<_}
-use native.Mathlib.Nat.{le-refl}
+use Prim.Native.Nat.{ℕ, suc, _+_, _≤_, _<_}
 use native.Mathlib.Numerals.{add-one}
 use native.Mathlib.Omega.{arith}
 use borrow.Author.Tests.{eq-eqb, ne-eqb}
@@ -21,7 +20,7 @@ use Rattle.field.specs.Words.{entry, Products}
 use Rattle.field.proofs.Laws.{product-one}
 use Rattle.field.proofs.InWords.{entry-small}
 use Rattle.field.proofs.Raising.{one-product}
-use Rattle.errata.specs.InnerErrata.{entries, shareOf, Placed, shiftsOf, gatheredOf, gapsOf, Solved, Agreeing}
+use Rattle.errata.specs.InnerErrata.{entries, Placed, shiftsOf, gatheredOf, gapsOf, Solved, Agreeing}
 use Rattle.errata.proofs.Gathered.{gathered-solves}
 use Rattle.errata.proofs.Tails.{tail-agrees, agrees-tail}
 use Rattle.errata.proofs.Entries.{list-length, list-at, list-byte}

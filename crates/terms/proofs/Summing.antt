@@ -1,26 +1,25 @@
 -- The syndromes bit by bit: the value of a polynomial is a sum of products over its coefficients, and a product is Horner's rule over the bits of one factor; so each turn doubles all
 -- that has come, and adds the powers of the coefficients in which the next bit is 1.
 -- Assumes nothing.
-use mathlib.Core.Path.{_≡_, refl, sym, ap, ap₂, subst, _∙_}
+use mathlib.Core.Path.{_≡_, refl, sym, ap, ap₂, _∙_}
 use mathlib.Core.Logic.{⊎-elim}
-use mathlib.Core.Bool.{Bool, true, false}
 use mathlib.Core.List.{List, [], _∷_}
 use Prim.Native.Nat.{ℕ, zero, suc, _+_, _-_, _*_, _/_, _%_, _^_, _≤_, _<_}
 use native.Mathlib.Nat.{mul-comm, div-one, div-div-eq-div-mul, mod-eq-of-lt, mod-lt, pow-suc, zero-lt-suc}
 use native.Mathlib.Numerals.{add-one}
 use native.Mathlib.Omega.{arith}
-use lib.Bits.{bitXor, bitAnd, and-zero-l, and-comm, and-le-r, and-mask, xor-lt}
+use lib.Bits.{bitXor, bitAnd, and-le-r, xor-lt}
 use lib.ListN.{length, getD}
 use Rattle.ground.specs.Bits.{sum, keep}
 use Rattle.ground.proofs.Numbers.{lt-or-ge}
 use Rattle.ground.proofs.Sums.{sum-assoc, sum-comm, sum-zero}
 use Rattle.words.specs.Words.{byteAt}
-use Rattle.field.specs.Field.{product, expo, power}
+use Rattle.field.specs.Field.{product, power}
 use Rattle.field.specs.declared.Sixteen.{Sixteen}
 use Rattle.field.specs.Words.{entry, InWords, Doubled}
 use Rattle.field.proofs.Horner.{double, double-sum, double-zero, horner}
 use Rattle.field.proofs.Bridge.{product-horner}
-use Rattle.field.proofs.InWords.{byte-zero, byte-sum, entry-low, entry-high, entry-small}
+use Rattle.field.proofs.InWords.{byte-zero, byte-sum, masked, byte-keep, entry-low, entry-high, entry-small}
 use Rattle.field.proofs.Laws.{power-byte, expo-power}
 use Rattle.field.proofs.Product.{product-two}
 use Rattle.code.specs.Value.{value}
@@ -133,11 +132,8 @@ coming-end {rest} {s} {i} was none long bytes =
 
 -- ---- the turns over the bytes, of which m are added
 
--- a word, or nothing of it
-pub word-kept : (e w k : ℕ) → e < 2 → w < 2 ^ 64 → byteAt (bitAnd (e * 0xFFFFFFFFFFFFFFFF) w) k ≡ keep e (byteAt w k)
-word-kept zero w k h fit = ap (λ (z : ℕ). byteAt z k) (and-zero-l w) ∙ byte-zero k
-word-kept (suc zero) w k h fit = ap (λ (z : ℕ). byteAt z k) (and-comm 0xFFFFFFFFFFFFFFFF w ∙ and-mask w 64 ∙ mod-eq-of-lt fit)
-word-kept (suc (suc e)) w k h fit = absurd (omega arith)
+word-kept : (e w k : ℕ) → e < 2 → w < 2 ^ 64 → byteAt (bitAnd (e * 0xFFFFFFFFFFFFFFFF) w) k ≡ keep e (byteAt w k)
+word-kept e w k h fit = ap (λ (z : ℕ). byteAt z k) (masked 64 e w h fit) ∙ byte-keep e w k
 
 pub record Adding (rest : List ℕ) (s : Sixteen) (i : ℕ) (low high m : ℕ) : Type 0 where
   pub within : m ≤ 16

@@ -6,7 +6,6 @@ use Prim.Native.Nat.{ℕ, _+_, _-_, _*_, _/_, _%_, _^_, _<_}
 use lib.ListN.{length, getD}
 use Rattle.ground.specs.Bits.{sum, keep}
 use Rattle.field.specs.Field.{product, power}
-use Rattle.field.specs.declared.Sixteen.{Sixteen}
 use Rattle.field.specs.Words.{entry}
 use Rattle.code.specs.Total.{total}
 

@@ -1,6 +1,6 @@
 -- `terms::turn` adds the powers of one byte after the other, or nothing (`Adding`).
 -- Assumes nothing.
-use Prim.Native.Nat.{ℕ, _-_}
+use Prim.Native.Nat.{_-_}
 use native.Mathlib.Omega.{arith}
 use Rattle.field.specs.declared.Sixteen.{Sixteen}
 use Rattle.field.specs.Words.{Doubled}

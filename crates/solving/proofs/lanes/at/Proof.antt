@@ -1,7 +1,6 @@
 -- `lanes::at` takes the byte out of the word that the entry stands in.
 -- Assumes nothing.
 use mathlib.Core.Path.{sym, _∙_}
-use native.Mathlib.Omega.{arith}
 use Rattle.field.proofs.InWords.{entry-low, entry-high}
 use Rattle.solving.proofs.lanes.at.Statement.{statement}
 use Rattle.solving.proofs.lanes.at.Tie as tie

@@ -1,9 +1,8 @@
 -- `values::locate` puts one locator after the other below those before it, the last one first.
 -- Assumes nothing.
-use mathlib.Core.Path.{_≡_, ap, _∙_}
-use Prim.Native.Nat.{ℕ, _+_, _-_, _≤_, _<_}
+use mathlib.Core.Path.{ap, _∙_}
+use Prim.Native.Nat.{_-_}
 use native.Mathlib.Omega.{arith}
-use lib.ListN.{getD}
 use Rattle.field.specs.Field.{power}
 use Rattle.solving.proofs.Places.{Locating, locating-start, locating-more, locating-end}
 use Rattle.solving.proofs.values.locate.Statement.{statement}
