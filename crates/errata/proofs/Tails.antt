@@ -15,7 +15,7 @@ use Rattle.field.specs.Field.{product, expo, power}
 use Rattle.field.proofs.Laws.{ring, zero-product, product-zero}
 use Rattle.code.proofs.Weights.{expo-suc}
 use Rattle.code.specs.Total.{total}
-use Rattle.errata.specs.InnerErrata.{entries, shareOf, Placed, shiftsOf, Solved}
+use Rattle.errata.specs.InnerErrata.{entries, shareOf, shiftsOf, Solved}
 use Rattle.code.proofs.Totals.{total-ext, total-sum, total-product, total-zero}
 use Rattle.errata.proofs.Solving.{same-sum}
 
@@ -134,6 +134,6 @@ module _ (at : List ℕ) (n : ℕ) (s c : List ℕ) (solved : Solved at n s c)
       (λ (q : j < m). below m j (omega arith) q)
       (below-suc h)
 
-pub tail-agrees : (at : List ℕ) (n : ℕ) → Placed n at → (s c : List ℕ) → Solved at n s c
+pub tail-agrees : (at : List ℕ) (n : ℕ) (s c : List ℕ) → Solved at n s c
     → ((j : ℕ) → n + j < 16 → shiftsOf (entries at) (entries s) n j ≡ 0) → (j : ℕ) → j < 16 → shareOf (entries at) (entries c) n j ≡ getD s j 0
-tail-agrees at n placed s c solved tail j h = below at n s c solved tail 16 j (le-refl 16) h
+tail-agrees at n s c solved tail j h = below at n s c solved tail 16 j (le-refl 16) h

@@ -120,6 +120,6 @@ module _ {at : List ℕ} {s left gathered gaps : Sixteen} {n : ℕ} (was : Turni
   pub turned-agrees : (r : Bool) → Emptied left n r → Agreeing given at found n r
   turned-agrees r emptied =
       record {
-        yes = λ e. tail-agrees at n placed given found turned-solved (λ j h. sym (was .shifted j h) ∙ emptied .yes e j h);
+        yes = λ e. tail-agrees at n given found turned-solved (λ j h. sym (was .shifted j h) ∙ emptied .yes e j h);
         no = λ e all. emptied .no e (λ j h. was .shifted j h ∙ agrees-tail at n given found all j h);
       }

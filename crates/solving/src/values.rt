@@ -36,7 +36,7 @@ fn locators(at: [u8; 16]) -> Sixteen
     }
 }
 
-// Whether nothing is left at those of sixteen entries that n places behind them determine.
+// Whether nothing is left at the entries that have n others behind them: what is left there, after n places, is made of syndromes alone.
 fn is_empty(left: Sixteen, n: usize) -> bool
     requires { ⌜ n ≤ 16 ⌝ }
     ensures { λ r. ⌜ Emptied left n r ⌝ }
@@ -61,7 +61,7 @@ fn divide(gathered: Sixteen, gaps: Sixteen, n: usize) -> Sixteen
     field::products(gathered, field::inverses(gaps))
 }
 
-// What is known of the values at the first n places: they give the first n syndromes, and the verdict says whether they give all sixteen.
+// Values at given places that give as many syndromes, and whether they fit all sixteen.
 pub(crate) struct Solution {
     pub fits: bool,
     pub values: [u8; 16],
