@@ -1,5 +1,5 @@
--- Polynomials over GF(256) at a point (document 01, section 3): vocabulary for the contracts of private functions, and for the laws.
--- Nobody needs to believe it: what is coded is said by division (Code.antt), and `coded-values`, `values-coded` (proofs/Values.antt) tie the two. Assumes nothing.
+-- Polynomials over GF(256) at a point (document 01, section 3): vocabulary for syndromes (`value`, crate terms), for roots (`eval`, crate roots), and for the laws.
+-- For repair nobody needs to believe it: what is coded is said by division (Code.antt), and `coded-values`, `values-coded` (proofs/Values.antt) tie the two. Assumes nothing.
 use mathlib.Core.List.{List, [], _∷_}
 use Prim.Native.Nat.{ℕ, zero, suc}
 use lib.ListN.{length}
