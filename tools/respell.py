@@ -68,11 +68,13 @@ def declared(texts):
 
 # a function into Type is a type
 TYPES = {"lies": "Lies"}
+# the library's, and spelled so by it
+KEPT = {"and-true", "mul-one", "zero-add"}
 
 
 def respelled(name, words):
-    if name in TYPES:
-        return TYPES[name]
+    if name in TYPES or name in KEPT:
+        return TYPES.get(name, name)
     if "_" in name and not re.fullmatch("[A-Za-z]+", name[0]) or not re.search(r"[A-Za-z]", name):
         return name
     if name[0].isupper() and "-" not in name:

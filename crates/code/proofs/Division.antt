@@ -4,7 +4,7 @@
 use mathlib.Core.Path.{◌≡◌, refl, sym, ap, ap₂, ◌∙◌}
 use mathlib.Core.List.{List, [], ◌∷◌, ◌++◌}
 use Prim.Native.Nat.{ℕ, zero, suc, ◌+◌, ◌≤◌, ◌<◌}
-use native.Mathlib.Nat.{zero_add, suc-add}
+use native.Mathlib.Nat.{zero-add, suc-add}
 use native.Mathlib.Omega.{arith}
 use lib.ListN.{length, length-append, replicate-append-replicate}
 use Rattle.ground.specs.Bits.{sum}
@@ -117,7 +117,7 @@ remainder-add (suc m) (a ∷ w) s e =
 -- zeros in front do not count
 pub remainder_zeros : (k m : ℕ) (w : List ℕ) → 16 ≤ length w → remainder (k + m) (zeros k ++ w) ≡ remainder m w
 unfolding remainder
-remainder_zeros zero m w h = ap (λ (n : ℕ). remainder n w) (zero_add m)
+remainder_zeros zero m w h = ap (λ (n : ℕ). remainder n w) (zero-add m)
 remainder_zeros (suc k) m w h =
     let e : length (zeros k ++ w) ≡ length (zeros k) + length w = length-append (zeros k) w in
     let f : length lower ≡ 16 = length-lower in

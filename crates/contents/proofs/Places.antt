@@ -5,7 +5,7 @@ use mathlib.Core.Bool.{Bool, true, false, not, ◌||◌}
 use mathlib.Core.List.{List, [], ◌∷◌, ◌++◌}
 use mathlib.Core.Logic.{◌⊎◌, inl, inr}
 use Prim.Native.Nat.{ℕ, zero, suc, ◌+◌, ◌*◌, ◌<◌, ◌≤◌}
-use native.Mathlib.Nat.{add-zero, zero_add}
+use native.Mathlib.Nat.{add-zero, zero-add}
 use native.Mathlib.Omega.{arith}
 use borrow.Author.Tests.{le-leb, leb-true}
 use lib.Dec.{leb}
@@ -97,7 +97,7 @@ unfolding contents
 storing-sets p s k b fits h l =
     let w = slot-within p k h in
     let r : length b ≤ p.slot = fits-room p (length b) l in
-    let z : 0 + k ≡ k = zero_add k in
+    let z : 0 + k ≡ k = zero-add k in
     listed-set (slot_of p s) (slot_of p (stored s (slot_at p k) b)) p.count 0 k (holding b)
     (λ j d. slot-agree p (stored s (slot_at p k) b) s j
     (λ i x y. stored_off s (slot_at p k) b i (slots_off p j k i (length b + 2) (λ e. d (e ∙ sym z)) x y (omega arith))))

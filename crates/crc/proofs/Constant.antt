@@ -3,7 +3,7 @@
 use mathlib.Core.Path.{◌≡◌, refl, sym, ap, ◌∙◌}
 use mathlib.Core.List.{List, [], ◌∷◌, ◌++◌, map}
 use Prim.Native.Nat.{ℕ, zero, suc, ◌+◌, ◌*◌, ◌<◌}
-use native.Mathlib.Nat.{zero_add, add-zero}
+use native.Mathlib.Nat.{zero-add, add-zero}
 use native.Mathlib.Omega.{arith}
 use lib.ListN.{length, get_or, length-append, length-map, get_or-append}
 use lib.Seq.{get_or-append-add}
@@ -65,7 +65,7 @@ module _ (w g : ℕ) where
 
   first-row : (x : ℕ) → x < 16 → get_or (map single (from 16 0)) x 0 ≡ effect w g 0 x
   first-row x h =
-      get_d_map single (from 16 0) x (omega arith) ∙ ap single (get_or_from 16 0 x h ∙ zero_add x) ∙ effect-none x
+      get_d_map single (from 16 0) x (omega arith) ∙ ap single (get_or_from 16 0 x h ∙ zero-add x) ∙ effect-none x
 
   rows_at : (n j : ℕ) (row : List ℕ) (k x : ℕ) → length row ≡ 16 → ((y : ℕ) → y < 16 → get_or row y 0 ≡ effect w g j y) → k < n → x < 16
       → get_or (rows_from next n row) (k * 16 + x) 0 ≡ effect w g (j + k) x
@@ -90,5 +90,5 @@ module _ (w g : ℕ) where
       let e : length (map single (from 16 0)) ≡ 16 = length-map (from 16 0) single ∙ length_from 16 0 in
       record {
         size = length-rows next n (map single (from 16 0)) e;
-        entry = λ k x p h. rows_at n 0 (map single (from 16 0)) k x e first-row p h ∙ ap (λ (i : ℕ). effect w g i x) (zero_add k);
+        entry = λ k x p h. rows_at n 0 (map single (from 16 0)) k x e first-row p h ∙ ap (λ (i : ℕ). effect w g i x) (zero-add k);
       }

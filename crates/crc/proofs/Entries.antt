@@ -3,7 +3,7 @@
 use mathlib.Core.Path.{◌≡◌, refl, sym, ap, ap₂, ◌∙◌}
 use mathlib.Core.List.{List}
 use Prim.Native.Nat.{ℕ, zero, suc, ◌+◌, ◌*◌, ◌/◌, ◌%◌, ◌^◌, ◌<◌, ◌≤◌}
-use native.Mathlib.Nat.{mod-lt, mod-mod, zero-div, zero-lt-suc, zero_add, add-zero, div-one}
+use native.Mathlib.Nat.{mod-lt, mod-mod, zero-div, zero-lt-suc, zero-add, add-zero, div-one}
 use native.Mathlib.Omega.{arith}
 use lib.ListN.{get_or}
 use lib.Pow.{field, mod-mod-pow, shr-shr}
@@ -24,7 +24,7 @@ module _ (t : List ℕ) where
   pub entries-append : (m n k v : ℕ) → entries t k (m + n) v ≡ sum (entries t k m v) (entries t (k + m) n (v / 2 ^ (m * 4)))
   unfolding entries
   entries-append zero n k v =
-      ap₂ (λ (i j : ℕ). entries t i j v) (sym (add-zero k)) (zero_add n)
+      ap₂ (λ (i j : ℕ). entries t i j v) (sym (add-zero k)) (zero-add n)
       ∙ ap (entries t (k + 0) n) (sym (div-one v)) ∙ sym (zero_sum (entries t (k + 0) n (v / 1)))
   entries-append (suc m) n k v =
       let e : suc m + n ≡ suc (m + n) = omega arith in

@@ -3,7 +3,7 @@
 use mathlib.Core.Path.{◌≡◌, refl, sym, ap, ap₂, ◌∙◌}
 use mathlib.Core.List.{List, [], ◌∷◌, ◌++◌}
 use Prim.Native.Nat.{ℕ, zero, suc, ◌+◌, ◌-◌, ◌*◌, ◌/◌, ◌%◌, ◌^◌, ◌<◌}
-use native.Mathlib.Nat.{mod-lt, zero-div, mod-eq_of_lt, pow-suc, mul_one, mul_assoc, mul_comm, suc-add, zero_add, add_comm, add-mul-mod_self_right, add-mul-div_right, mod-add-div', add-mul, mul_right_comm, mul-div-mul_right}
+use native.Mathlib.Nat.{mod-lt, zero-div, mod-eq_of_lt, pow-suc, mul-one, mul_assoc, mul_comm, suc-add, zero-add, add_comm, add-mul-mod_self_right, add-mul-div_right, mod-add-div', add-mul, mul_right_comm, mul-div-mul_right}
 use native.Mathlib.Omega.{arith}
 use lib.ListN.{length}
 use lib.Pow.{pow_pos, pow-add, field, mod-mod-pow, shr-shr}
@@ -102,7 +102,7 @@ module _ (w g : ℕ) where
 
   pub bits-append : (m n r b : ℕ) → bits w g (m + n) r b ≡ bits w g n (bits w g m r (b / 2 ^ n)) b
   unfolding bits
-  bits-append zero n r b = ap (λ (x : ℕ). bits w g x r b) (zero_add n)
+  bits-append zero n r b = ap (λ (x : ℕ). bits w g x r b) (zero-add n)
   bits-append (suc m) n r b =
       ap (λ (x : ℕ). bits w g x r b) (suc-add m n)
       ∙ bits-append m n (bit w g r (b / 2 ^ (m + n))) b
@@ -167,7 +167,7 @@ module _ (w g : ℕ) where
 
     pub bits-top : (n r b : ℕ) → r < 2 ^ w → AtTop n r b
     unfolding bits
-    bits-top zero r b l = sym (zero_sum (r * 1 % 2 ^ w) ∙ ap (λ (x : ℕ). x % 2 ^ w) (mul_one r) ∙ mod-eq_of_lt l)
+    bits-top zero r b l = sym (zero_sum (r * 1 % 2 ^ w) ∙ ap (λ (x : ℕ). x % 2 ^ w) (mul-one r) ∙ mod-eq_of_lt l)
     bits-top (suc m) r b l = top-more m (bits-top m) r b
 
     -- where at least one bit goes in the register may be of any size: what stands above its w bits does not count

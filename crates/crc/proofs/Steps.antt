@@ -3,7 +3,7 @@
 use mathlib.Core.Path.{◌≡◌, sym, ap, ap₂, ◌∙◌}
 use mathlib.Core.List.{List, [], ◌∷◌}
 use Prim.Native.Nat.{ℕ, suc, ◌+◌, ◌*◌, ◌/◌, ◌%◌, ◌^◌, ◌<◌, ◌≤◌}
-use native.Mathlib.Nat.{mod-eq_of_lt, mul-mod_left, mul-div_cancel, mul_assoc, mul_one, add-zero}
+use native.Mathlib.Nat.{mod-eq_of_lt, mul-mod_left, mul-div_cancel, mul_assoc, mul-one, add-zero}
 use native.Mathlib.Numerals.{add-one}
 use native.Mathlib.Omega.{arith}
 use lib.Bits.{xor_block}
@@ -102,7 +102,7 @@ sixteen_is t r d i h =
     let bs : List ℕ = drop i d in
     let l : 16 ≤ length bs = simp length-drop (omega arith) in
     let up : r * 2 ^ 128 ≡ r * 2 ^ 96 * 2 ^ 32 = sym (mul_assoc r (2 ^ 96) (2 ^ 32)) in
-    let same : r * 2 ^ 0 ≡ r = mul_one r in
+    let same : r * 2 ^ 0 ≡ r = mul-one r in
     let at : (m : ℕ) → number (take 4 (drop m bs)) ≡ number (take 4 (drop (i + m) d)) = λ m. ap (λ (x : List ℕ). number (take 4 x)) (drop-drop m i d) in
     ap₂ (λ (x y : ℕ). sum (entries t 0 32 (sum x (number (take 16 bs)))) y)
     (ap (λ (x : ℕ). x / 2 ^ 32) up ∙ mul-div_cancel (r * 2 ^ 96) (pow_pos 32)) (ap (λ (x : ℕ). x % 2 ^ 32) up ∙ mul-mod_left (r * 2 ^ 96) (2 ^ 32))

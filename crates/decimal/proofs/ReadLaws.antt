@@ -1,7 +1,7 @@
 -- The steps of the loop that reads a number: its bytes are counted first, then taken one after the other.
 -- Assumes nothing.
 use mathlib.Core.Path.{◌≡◌, refl, sym, ap, ◌∙◌}
-use mathlib.Core.Bool.{Bool, true, false, not, ◌&&◌, ◌||◌, and_true}
+use mathlib.Core.Bool.{Bool, true, false, not, ◌&&◌, ◌||◌, and-true}
 use mathlib.Core.List.{List, [], ◌∷◌}
 use Prim.Native.Nat.{ℕ, ◌+◌, ◌-◌, ◌*◌, ◌^◌, ◌≤◌, ◌<◌}
 use native.Mathlib.Nat.{pow-suc, pow-le-pow_right}
@@ -60,7 +60,7 @@ module _ (v : List ℕ) (value i : ℕ) (r : Reading v value i) where
   unfolding is_number
   says t e =
       let p = and_both (between 1 8 (length v)) (eqb (length v) 1 || not (eqb (get_or v 0 0) 48)) r.counted in
-      rw (p.0, p.1, e) (and_true t)
+      rw (p.0, p.1, e) (and-true t)
 
   pub reading_end : length v ≤ i → value ≡ number_in v
   reading_end h =

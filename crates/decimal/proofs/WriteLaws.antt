@@ -4,7 +4,7 @@ use mathlib.Core.Path.{◌≡◌, refl, sym, ap, ◌∙◌}
 use mathlib.Core.Logic.{◌⊎◌, inl, inr}
 use mathlib.Core.List.{List, [], ◌∷◌, ◌++◌}
 use Prim.Native.Nat.{ℕ, zero, suc, ◌+◌, ◌-◌, ◌/◌, ◌%◌, ◌≤◌, ◌<◌}
-use native.Mathlib.Nat.{zero_add, zero-sub, sub-zero, suc-sub-suc}
+use native.Mathlib.Nat.{zero-add, zero-sub, sub-zero, suc-sub-suc}
 use native.Mathlib.Omega.{arith}
 use lib.ListN.{length, set, drop, replicate, length-append}
 use lib.Seq.{sets, set_comm}
@@ -21,7 +21,7 @@ set_first (y ∷ s) l at p x h =
 
 sets_last : (l s : List ℕ) (x : ℕ) → sets l 0 (s ++ (x ∷ [])) ≡ sets (set l (length s) x) 0 s
 sets_last l s x =
-    sets-append l 0 s (x ∷ []) ∙ ap (λ (p : ℕ). set (sets l 0 s) p x) (zero_add (length s)) ∙ set_first s l 0 (length s) x (omega arith)
+    sets-append l 0 s (x ∷ []) ∙ ap (λ (p : ℕ). set (sets l 0 s) p x) (zero-add (length s)) ∙ set_first s l 0 (length s) x (omega arith)
 
 drop_zeros : (m n : ℕ) → drop m (replicate {A = ℕ} n 0) ≡ replicate (n - m) 0
 drop_zeros zero n = ap (λ (k : ℕ). replicate k 0) (sym (sub-zero n))

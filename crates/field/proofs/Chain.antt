@@ -6,7 +6,7 @@ use mathlib.Core.Logic.{⊎_elim}
 use mathlib.Core.Bool.{Bool, true, false, ◌||◌, ◌&&◌, not}
 use mathlib.Core.List.{List, [], ◌∷◌}
 use Prim.Native.Nat.{ℕ, zero, suc, ◌+◌, ◌<◌, suc-le-suc}
-use native.Mathlib.Nat.{add-zero, zero_add, add-suc, suc-add, zero-lt-suc, le_of_suc-le-suc, not-suc-le-zero}
+use native.Mathlib.Nat.{add-zero, zero-add, add-suc, suc-add, zero-lt-suc, le_of_suc-le-suc, not-suc-le-zero}
 use lib.Dec.{T, eqb, eqb→eq, eqb_refl, T_not}
 use lib.ListN.{length, get_or}
 use Rattle.ground.specs.Bits.{sum}
@@ -34,7 +34,7 @@ get_or_from (suc n) k (suc i) h =
     ∙ ap power (suc-add k i ∙ sym (add-suc k i))
 
 pub get_or_chain : (n i : ℕ) → i < n → get_or (chain n 1) i 0 ≡ power i
-get_or_chain n i h = ap (λ (x : ℕ). get_or (chain n x) i 0) (sym power_zero) ∙ get_or_from n zero i h ∙ ap power (zero_add i)
+get_or_chain n i h = ap (λ (x : ℕ). get_or (chain n x) i 0) (sym power_zero) ∙ get_or_from n zero i h ∙ ap power (zero-add i)
 
 -- the rule of the table
 pub powers_rule : Powers (chain 256 1)

@@ -2,7 +2,7 @@
 -- Assumes nothing.
 use mathlib.Core.Path.{◌≡◌, refl, sym, ap, ◌∙◌}
 use Prim.Native.Nat.{ℕ, zero, suc, ◌+◌, ◌*◌, ◌<◌}
-use native.Mathlib.Nat.{zero_add, suc-add, add_comm, mul-zero, mul-suc}
+use native.Mathlib.Nat.{zero-add, suc-add, add_comm, mul-zero, mul-suc}
 use lib.Dec.{lit<}
 use Rattle.ground.specs.Bits.{sum}
 use Rattle.field.specs.Field.{carryless, reduce, product, expo, power}
@@ -27,7 +27,7 @@ power-suc i = product-two (power i) (power-byte i)
 
 pub product-power : (i j : ℕ) → product (power i) (power j) ≡ power (i + j)
 product-power zero j =
-    ap (λ (x : ℕ). product x (power j)) power_zero ∙ product_one (power j) (power-byte j) ∙ ap power (sym (zero_add j))
+    ap (λ (x : ℕ). product x (power j)) power_zero ∙ product_one (power j) (power-byte j) ∙ ap power (sym (zero-add j))
 product-power (suc i) j =
     ap (λ (x : ℕ). product x (power j)) (power-suc i)
     ∙ product_double (power i) (power j) (power-byte i)

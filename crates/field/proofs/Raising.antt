@@ -3,7 +3,7 @@
 use mathlib.Core.Path.{◌≡◌, refl, sym, ap, ap₂, ◌∙◌}
 use mathlib.Core.Logic.{◌≢◌}
 use Prim.Native.Nat.{ℕ, zero, suc, ◌+◌, ◌*◌, ◌<◌}
-use native.Mathlib.Nat.{zero_add, suc-add, zero-mul, suc-mul}
+use native.Mathlib.Nat.{zero-add, suc-add, zero-mul, suc-mul}
 use Rattle.field.specs.declared.Sixteen.{Sixteen}
 use Rattle.field.specs.Field.{product, power, expo, Inverse}
 use Rattle.field.specs.Words.{entry, InWords, Products, Inverses}
@@ -20,7 +20,7 @@ expo-suc x j = refl
 
 pub expo-add : (x m n : ℕ) → expo x (m + n) ≡ product (expo x m) (expo x n)
 expo-add x zero n =
-    ap (expo x) (zero_add n) ∙ sym (product_one (expo x n) (expo-byte x n)) ∙ ap (λ (z : ℕ). product z (expo x n)) (sym (expo_zero x))
+    ap (expo x) (zero-add n) ∙ sym (product_one (expo x n) (expo-byte x n)) ∙ ap (λ (z : ℕ). product z (expo x n)) (sym (expo_zero x))
 expo-add x (suc m) n =
     ap (expo x) (suc-add m n) ∙ expo-suc x (m + n) ∙ ap (product x) (expo-add x m n) ∙ sym (product_assoc x (expo x m) (expo x n))
     ∙ ap (λ (z : ℕ). product z (expo x n)) (sym (expo-suc x m))

@@ -50,9 +50,9 @@ pub record Served (m at n : ℕ) : Type 0 where
   pub count : n ≤ 15
   pub start : at ≤ 16777216
 
-and_true : (a b : Bool) → a && b ≡ true → (a ≡ true) × (b ≡ true)
-and_true true b e = (refl, e)
-and_true false b e = (e, cc)
+and-true : (a b : Bool) → a && b ≡ true → (a ≡ true) × (b ≡ true)
+and-true true b e = (refl, e)
+and-true false b e = (e, cc)
 
 served : (len m at n : ℕ) → put_serves len m at n ≡ true → Served m at n
 unfolding put_serves
@@ -60,10 +60,10 @@ served len m at n e =
     let a : Bool = ltb 0 m && leb m 255 in
     let b : Bool = a && leb n 15 in
     let c : Bool = b && leb at 16777216 in
-    let q = and_true c (leb len 16777216) e in
-    let r = and_true b (leb at 16777216) q.0 in
-    let s = and_true a (leb n 15) r.0 in
-    let t = and_true (ltb 0 m) (leb m 255) s.0 in
+    let q = and-true c (leb len 16777216) e in
+    let r = and-true b (leb at 16777216) q.0 in
+    let s = and-true a (leb n 15) r.0 in
+    let t = and-true (ltb 0 m) (leb m 255) s.0 in
     record { rows = leb-true m 255 t.1; count = leb-true n 15 s.1; start = leb-true at 16777216 r.1 }
 
 -- ---- what the call answers and leaves

@@ -5,7 +5,7 @@ use mathlib.Core.Logic.{◌⊎◌, inl, inr}
 use mathlib.Core.Bool.{Bool, true, false}
 use mathlib.Core.List.{List, [], ◌∷◌, ◌++◌, flatten}
 use Prim.Native.Nat.{ℕ, zero, suc, ◌+◌, ◌-◌, ◌*◌, ◌/◌, ◌%◌, ◌<◌, ◌≤◌}
-use native.Mathlib.Nat.{add-zero, zero_add, add_comm, zero-mul, suc-mul, add-mul, one-mul, mod-lt, div-add-mod', le-div_iff_mul-le, div-eq_of_lt-le}
+use native.Mathlib.Nat.{add-zero, zero-add, add_comm, zero-mul, suc-mul, add-mul, one-mul, mod-lt, div-add-mod', le-div_iff_mul-le, div-eq_of_lt-le}
 use native.Mathlib.Omega.{arith}
 use borrow.Author.Tests.{leb-true, leb-false}
 use lib.Dec.{leb}
@@ -25,7 +25,7 @@ module _ {A : Type 0} where
 
   -- counted from 0
   pub get_or-listed_0 : (f : ℕ → A) (n k : ℕ) (d : A) → k < n → get_or (listed f n 0) k d ≡ f k
-  get_or-listed_0 f n k d h = get_or-listed f n 0 k d h ∙ ap f (zero_add k)
+  get_or-listed_0 f n k d h = get_or-listed f n 0 k d h ∙ ap f (zero-add k)
 
   pub listed-append : (f : ℕ → A) (n k i : ℕ) → listed f (n + k) i ≡ listed f n i ++ listed f k (i + n)
   listed-append f zero k i = let e : 0 + k ≡ k = omega arith in ap₂ (listed f) e (sym (add-zero i))

@@ -4,7 +4,7 @@ use mathlib.Core.Path.{◌≡◌, refl, sym, ap, ap₂, subst, ◌∙◌}
 use mathlib.Core.Logic.{◌⊎◌, inl, inr}
 use mathlib.Core.List.{List, [], ◌∷◌, ◌++◌, append-nil}
 use Prim.Native.Nat.{ℕ, suc, ◌+◌, ◌-◌, ◌<◌, ◌≤◌}
-use native.Mathlib.Nat.{add-zero, zero_add, add-suc, suc-add}
+use native.Mathlib.Nat.{add-zero, zero-add, add-suc, suc-add}
 use native.Mathlib.Omega.{arith}
 use lib.ListN.{length, get_or, set, take, drop, length-set, length-drop, drop_of_length-le, take-append-drop}
 use lib.Seq.{sets, set_out, sets-eq, length-sets, take_all, length-take-le}
@@ -31,7 +31,7 @@ sets-all l xs e =
 
 -- behind a front
 set-behind : (a l : List ℕ) (i x : ℕ) → set (a ++ l) (length a + i) x ≡ a ++ set l i x
-set-behind [] l i x = ap (λ (k : ℕ). set l k x) (zero_add i)
+set-behind [] l i x = ap (λ (k : ℕ). set l k x) (zero-add i)
 set-behind (y ∷ a) l i x =
     ap (λ (k : ℕ). set (y ∷ (a ++ l)) k x) (suc-add (length a) i) ∙ ap (λ (r : List ℕ). y ∷ r) (set-behind a l i x)
 

@@ -5,7 +5,7 @@ use mathlib.Core.Logic.{⊎_elim}
 use mathlib.Core.Bool.{Bool, true, false, true≢false}
 use mathlib.Core.List.{List, ◌++◌}
 use Prim.Native.Nat.{ℕ, ◌+◌, ◌*◌, ◌-◌, ◌/◌, ◌<◌, ◌≤◌}
-use native.Mathlib.Nat.{zero_add}
+use native.Mathlib.Nat.{zero-add}
 use native.Mathlib.Omega.{arith}
 use lib.ListN.{length, get_or, take, drop}
 use lib.Seq.{sets}
@@ -40,7 +40,7 @@ module _ (p : Place) (s before : List ℕ) where
         record {
           walk = t.next;
           run = run_jump (λ i. get_or (sent_in p s) i 0) (length (sent_in p s)) 0 before out o v.run l z t.ends
-              (e ∙ ap₂ (sets out) (sym (zero_add o)) bytes);
+              (e ∙ ap₂ (sets out) (sym (zero-add o)) bytes);
         }
 
     pub joining_end : p.count ≤ k → length (sent_in p s) ≤ length before → out ≡ sent_in p s ++ drop (length (sent_in p s)) before

@@ -4,7 +4,7 @@ use mathlib.Core.Path.{◌≡◌, refl, sym, ap, ap₂, ◌∙◌}
 use mathlib.Core.Bool.{Bool, true, false, true≢false, ◌&&◌}
 use mathlib.Core.List.{List, ◌∷◌, ◌++◌}
 use Prim.Native.Nat.{ℕ, ◌+◌, ◌*◌, ◌/◌, ◌%◌, ◌<◌, ◌≤◌}
-use native.Mathlib.Nat.{zero_add}
+use native.Mathlib.Nat.{zero-add}
 use native.Mathlib.Omega.{arith}
 use borrow.Author.Tests.{eq-eqb, ne_eqb, eqb-true}
 use lib.Dec.{eqb, leb}
@@ -58,7 +58,7 @@ module _ (p : Place) (s : List ℕ) where
         stands = stands_first p;
         short = omega arith;
         whole = omega (arith, ap length e);
-        ahead = λ j. ap₂ (λ (l : List ℕ) (i : ℕ). get_or l i 0) (sym e) (zero_add j);
+        ahead = λ j. ap₂ (λ (l : List ℕ) (i : ℕ). get_or l i 0) (sym e) (zero-add j);
       }
 
   module _ (at k o : ℕ) (w : Walk p s at k o) where

@@ -3,7 +3,7 @@
 use mathlib.Core.Path.{◌≡◌, sym, ap, ap₂, ◌∙◌}
 use mathlib.Core.List.{List}
 use Prim.Native.Nat.{ℕ, ◌+◌, ◌-◌, ◌*◌, ◌/◌, ◌%◌, ◌<◌, ◌≤◌}
-use native.Mathlib.Nat.{add-zero, zero_add, mul_comm, mul-pos, mod-lt, zero-lt-suc, div-lt_iff_lt-mul}
+use native.Mathlib.Nat.{add-zero, zero-add, mul_comm, mul-pos, mod-lt, zero-lt-suc, div-lt_iff_lt-mul}
 use native.Mathlib.Omega.{arith}
 use lib.ListN.{length}
 use lib.Seq.{sets}
@@ -63,7 +63,7 @@ module _ (f : ℕ → ℕ) (from n : ℕ) (out₀ out : List ℕ) (x : ℕ) (run
   pub part-more : (next : List ℕ) (r : ℕ) → x + r ≤ n → next ≡ sets out x (listed f r (from + x)) → Run (λ k. f (from + k)) n 0 out₀ next (x + r)
   part-more next r h e =
       run_jump (λ k. f (from + k)) n 0 out₀ out x run r next h
-      (e ∙ ap₂ (λ (p : ℕ) (l : List ℕ). sets out p l) (sym (zero_add x)) (listed_shift f r from x))
+      (e ∙ ap₂ (λ (p : ℕ) (l : List ℕ). sets out p l) (sym (zero-add x)) (listed_shift f r from x))
 
   pub part-done : n ≤ x → out ≡ sets out₀ 0 (listed f n from)
   part-done h =

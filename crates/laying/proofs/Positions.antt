@@ -3,7 +3,7 @@
 use mathlib.Core.Path.{◌≡◌, sym, ap, ap₂, ◌∙◌}
 use mathlib.Core.List.{List}
 use Prim.Native.Nat.{ℕ, ◌+◌, ◌*◌, ◌/◌, ◌%◌, ◌<◌, ◌≤◌}
-use native.Mathlib.Nat.{zero_add, add-mul, mod-lt, div-add-mod', div-lt_iff_lt-mul}
+use native.Mathlib.Nat.{zero-add, add-mul, mod-lt, div-add-mod', div-lt_iff_lt-mul}
 use native.Mathlib.Omega.{arith}
 use lib.Arith.{digits_div, digits_mod}
 use lib.ListN.{length, get_or}
@@ -81,7 +81,7 @@ pub part-listed : (m : ℕ) (file : List ℕ) (from n : ℕ) → from + n ≤ 25
 unfolding part_of sent_byte coded_file
 part-listed m file from n l =
     slice_listed (λ j. coded_at m file (sent_spot 1 m j)) (255 * m * tables_of m (length file)) 0 from n l
-    ∙ ap (listed (λ j. coded_at m file (sent_spot 1 m j)) n) (zero_add from)
+    ∙ ap (listed (λ j. coded_at m file (sent_spot 1 m j)) n) (zero-add from)
 
 pub length_part : (m : ℕ) (file : List ℕ) (from n : ℕ) → from + n ≤ 255 * m * tables_of m (length file) → length (part_of m file from n) ≡ n
 length_part m file from n l = ap length (part-listed m file from n l) ∙ length-listed (sent_byte m file) n from

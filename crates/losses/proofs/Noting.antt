@@ -5,7 +5,7 @@ use mathlib.Core.Logic.{⊎_elim}
 use mathlib.Core.Bool.{Bool, true, false}
 use mathlib.Core.List.{List, [], ◌∷◌, ◌++◌, append-nil}
 use Prim.Native.Nat.{ℕ, ◌+◌, ◌-◌, ◌≤◌, ◌<◌, zero-le}
-use native.Mathlib.Nat.{zero_add}
+use native.Mathlib.Nat.{zero-add}
 use native.Mathlib.Numerals.{add-one}
 use native.Mathlib.Omega.{arith}
 use lib.ListN.{length, get_or, set, replicate, length-set, length-append, get_or-replicate, get_or-append}
@@ -24,7 +24,7 @@ told-nothing g = record { sized = refl; count = refl; entry = λ k h. get_or-rep
 passing-lost : (g : ℕ → Bool) (c : ℕ) → g c ≡ true → passing g (c + 1) 0 ≡ passing g c 0 ++ (c ∷ [])
 passing-lost g c t =
     ap (λ (n : ℕ). passing g n 0) (add-one c) ∙ passing-more g c 0
-    ∙ ap (λ (k : ℕ). passing g c 0 ++ single (g k) k) (zero_add c) ∙ ap (λ (b : Bool). passing g c 0 ++ single b c) t
+    ∙ ap (λ (k : ℕ). passing g c 0 ++ single (g k) k) (zero-add c) ∙ ap (λ (b : Bool). passing g c 0 ++ single b c) t
 
 module _ {g : ℕ → Bool} {c lost : ℕ} {at : List ℕ} (was : Told g c lost at) where
   longer : length (passing g c 0 ++ (c ∷ [])) ≡ lost + 1
@@ -71,7 +71,7 @@ module _ {g : ℕ → Bool} {c lost : ℕ} {at : List ℕ} (was : Told g c lost 
   pub told_came : (r : ℕ) → c ≤ r → ((x : ℕ) → c ≤ x → x < r → g x ≡ false) → Told g r lost at
   told_came r l none =
       let n : c + (r - c) ≡ r = omega arith in
-      let z : 0 + c ≡ c = zero_add c in
+      let z : 0 + c ≡ c = zero-add c in
       let e : passing g r 0 ≡ passing g c 0 =
       ap (λ (i : ℕ). passing g i 0) (sym n) ∙ passing-append g c (r - c) 0
       ∙ ap (λ (i : ℕ). passing g c 0 ++ passing g (r - c) i) z

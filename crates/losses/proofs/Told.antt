@@ -5,7 +5,7 @@ use mathlib.Core.Path.{◌≡◌, refl, sym, ap, ◌∙◌}
 use mathlib.Core.Bool.{Bool, true, false, cond}
 use mathlib.Core.List.{List, [], ◌∷◌, ◌++◌, append-nil}
 use Prim.Native.Nat.{ℕ, zero, suc, ◌-◌, ◌≤◌, ◌<◌, zero-le}
-use native.Mathlib.Nat.{zero_add, not-suc-le-zero, le_of_suc-le-suc}
+use native.Mathlib.Nat.{zero-add, not-suc-le-zero, le_of_suc-le-suc}
 use native.Mathlib.Omega.{arith}
 use borrow.Author.Tests.{lt-ltb, le-ltb}
 use lib.Dec.{ltb}
@@ -22,7 +22,7 @@ use Rattle.losses.specs.Losses.{lost_places}
 pub lost-passing : (f : ℕ → Bool) (n : ℕ) → lost_of f n ≡ length (passing f n 0)
 unfolding lost_of passing
 lost-passing f zero = refl
-lost-passing f (suc n) = by (f n) (lost-passing f n) ∙ ap length (sym (passing-more f n 0 ∙ ap (λ (k : ℕ). passing f n 0 ++ single (f k) k) (zero_add n)))
+lost-passing f (suc n) = by (f n) (lost-passing f n) ∙ ap length (sym (passing-more f n 0 ∙ ap (λ (k : ℕ). passing f n 0 ++ single (f k) k) (zero-add n)))
   where
     by : (b : Bool) → lost_of f n ≡ length (passing f n 0) → cond b (suc (lost_of f n)) (lost_of f n) ≡ length (passing f n 0 ++ single b n)
     by true e = omega (arith, length-append (passing f n 0) (n ∷ []))

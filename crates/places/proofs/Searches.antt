@@ -4,7 +4,7 @@ use mathlib.Core.Path.{◌≡◌, refl, ap, ◌∙◌}
 use mathlib.Core.Bool.{Bool, true, false, cond}
 use mathlib.Core.List.{List, [], ◌∷◌}
 use Prim.Native.Nat.{ℕ, zero, suc, ◌+◌, ◌<◌}
-use native.Mathlib.Nat.{add-zero, zero_add, add-suc, suc-add}
+use native.Mathlib.Nat.{add-zero, zero-add, add-suc, suc-add}
 use native.Mathlib.Omega.{arith}
 use lib.ListN.{length, get_or, set}
 use Rattle.places.specs.declared.Place.{Place}
@@ -62,7 +62,7 @@ module _ (f : Place → Bool) where
       rw q at r.first
 
   pub is_first : (ps : List Place) (i : ℕ) → First ps i → first_from f ps 0 ≡ At i
-  is_first ps i r = from_first ps 0 i r ∙ ap At (zero_add i)
+  is_first ps i r = from_first ps 0 i r ∙ ap At (zero-add i)
 
   -- no place passes exactly if none is found
   pub none_passes : (ps : List Place) (j : ℕ) → first_from f ps j ≡ Nothing → (k : ℕ) → k < length ps → f (get_or ps k unused) ≡ false

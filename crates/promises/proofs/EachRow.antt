@@ -3,7 +3,7 @@
 use mathlib.Core.Path.{◌≡◌, sym, ap, ◌∙◌, subst}
 use mathlib.Core.List.{List}
 use Prim.Native.Nat.{ℕ, ◌-◌, ◌*◌, ◌/◌, ◌%◌}
-use native.Mathlib.Nat.{zero_add}
+use native.Mathlib.Nat.{zero-add}
 use native.Mathlib.Omega.{arith}
 use lib.ListN.{length, drop}
 use Rattle.code.specs.Code.{Bytes}
@@ -39,14 +39,14 @@ module _ (q : List ℕ) where
     rows-broken : (i : ℕ) → mend_rows count 0 (payload_in q) ≡ broken i → FirstBroken q i
     rows-broken i e =
         let f = mend_broken count 0 (payload_in q) i payload_bytes whole-sized e in
-        let same : f.0 ≡ i = sym (f.1 ∙ zero_add f.0) in
+        let same : f.0 ≡ i = sym (f.1 ∙ zero-add f.0) in
         let l : FirstLost count (payload_in q) i = subst (FirstLost count (payload_in q)) same f.2 in
         record { within = omega (arith, whole-sized, l.within); lost = l.lost; before = l.before }
 
     broken-rows : (i : ℕ) → FirstBroken q i → mend_rows count 0 (payload_in q) ≡ broken i
     broken-rows i f =
         broken_mend count 0 (payload_in q) i payload_bytes whole-sized (record { within = omega (arith, whole-sized, f.within); lost = f.lost; before = f.before })
-        ∙ ap broken (zero_add i)
+        ∙ ap broken (zero-add i)
 
 mended : (q : List ℕ) → mended_in 1 q ≡ mend_rows (length (payload_in q) / 255) 0 (payload_in q)
 mended q = mended-rows 1 q (λ z. omega arith)

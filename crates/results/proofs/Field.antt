@@ -46,8 +46,8 @@ products_one κs a r s d e p q = (same_entries r s p.words q.words (λ k h. equa
 pub inverses_one : OneResult field.inverses.ended field.inverses.Reads.Learnt
 inverses_one κs a r s d e p q = (same_entries r s p.words q.words (λ k h. same_inverse (entry a.0 k) (entry r k) (entry s k) (p.entry k h) (q.entry k h)), refl)
 
-pub mul_one : OneResult field.mul.ended field.mul.Reads.Learnt
-mul_one κs a r s d e p q = (equation p q, refl)
+pub mul-one : OneResult field.mul.ended field.mul.Reads.Learnt
+mul-one κs a r s d e p q = (equation p q, refl)
 
 pub inverse_one : OneResult field.inverse.ended field.inverse.Reads.Learnt
 inverse_one κs a r s d e p q = (same_inverse a.0 r s p q, refl)

@@ -26,10 +26,10 @@ passing-more f (suc n) e =
 
 pub passing-append : (f : ℕ → Bool) (m n e : ℕ) → passing f (m + n) e ≡ passing f m e ++ passing f n (e + m)
 unfolding passing
-passing-append f zero n e = rw (zero_add n, add-zero e) refl
+passing-append f zero n e = rw (zero-add n, add-zero e) refl
   where
-    zero_add : (k : ℕ) → 0 + k ≡ k
-    zero_add k = omega arith
+    zero-add : (k : ℕ) → 0 + k ≡ k
+    zero-add k = omega arith
 passing-append f (suc m) n e =
     let i : suc m + n ≡ suc (m + n) = omega arith in
     let j : suc e + m ≡ e + suc m = omega arith in

@@ -4,7 +4,7 @@ use mathlib.Core.Path.{◌≡◌, sym, ap, ◌∙◌}
 use mathlib.Core.Logic.{⊎_elim}
 use mathlib.Core.List.{List}
 use Prim.Native.Nat.{ℕ, suc, ◌+◌, ◌-◌, ◌*◌, ◌%◌, ◌^◌, ◌≤◌, ◌<◌}
-use native.Mathlib.Nat.{eq-or-lt_of_le, zero_add}
+use native.Mathlib.Nat.{eq-or-lt_of_le, zero-add}
 use native.Mathlib.Omega.{arith}
 use lib.Bits.{bit_xor}
 use lib.ListN.{get_or}
@@ -51,5 +51,5 @@ pub both_located : (at : List ℕ) (low high : ℕ) → ((k : ℕ) → k < 8 →
     → Located at (record { low = low; high = high })
 both_located at low high first second k h =
     entry_either (record { low = low; high = high }) (power (get_or at k 0)) k
-    (λ l. first k l ∙ ap (λ (i : ℕ). power (get_or at i 0)) (zero_add k))
+    (λ l. first k l ∙ ap (λ (i : ℕ). power (get_or at i 0)) (zero-add k))
     (λ l. second (k - 8) (omega arith) ∙ ap (λ (i : ℕ). power (get_or at i 0)) (let e : 8 + (k - 8) ≡ k = omega arith in e))

@@ -1,7 +1,7 @@
 -- The laws of `until_lf` and `unbroken` on lists: a text without CR and LF that stands before an LF reaches just to it, and the first LF parts a list in two.
 -- Assumes nothing.
 use mathlib.Core.Path.{◌≡◌, refl, sym, ap, ◌∙◌}
-use mathlib.Core.Bool.{Bool, true, false, true≢false, cond, not, ◌&&◌, and_true}
+use mathlib.Core.Bool.{Bool, true, false, true≢false, cond, not, ◌&&◌, and-true}
 use mathlib.Core.List.{List, [], ◌∷◌, ◌++◌}
 use Prim.Native.Nat.{ℕ, zero, suc, ◌+◌, ◌<◌, ◌≤◌}
 use native.Mathlib.Numerals.{add-one}
@@ -114,4 +114,4 @@ module _ (s : List ℕ) (t : Bool) (i : ℕ) (p : Passing s t i) where
       }
 
   pub passing_end : length s ≤ i → t ≡ unbroken s
-  passing_end h = sym (and_true t) ∙ ap (λ (k : List ℕ). t && unbroken k) (sym (drop_of_length-le s h)) ∙ p.rest
+  passing_end h = sym (and-true t) ∙ ap (λ (k : List ℕ). t && unbroken k) (sym (drop_of_length-le s h)) ∙ p.rest

@@ -74,9 +74,9 @@ and_assoc : (a b d : Bool) → ((a && b) && d) ≡ (a && (b && d))
 and_assoc true b d = refl
 and_assoc false b d = refl
 
-and_true : (a : Bool) → (a && true) ≡ a
-and_true true = refl
-and_true false = refl
+and-true : (a : Bool) → (a && true) ≡ a
+and-true true = refl
+and-true false = refl
 
 module _ (m size : ℕ) (c : List Content) (n rows : ℕ) where
   pub judging_first : Judging m size c n rows true true 0
@@ -90,8 +90,8 @@ module _ (m size : ℕ) (c : List Content) (n rows : ℕ) where
     pub judging_end : rows ≤ q → Judges m size c n rows (record { lacks = rows; coded = coded; clear = clear })
     judging_end h = record {
       lacking = ap (λ (o : Found). before o rows) (sym (left_end (lacks m size c) rows q h) ∙ v.lacking);
-      coded = λ e. sym (and_true coded) ∙ ap (λ (o : Found). coded && is_nothing o) (sym (left_end (uncoded m size c) rows q h)) ∙ v.codes;
-      clear = λ e. sym (and_true clear) ∙ ap (λ (o : Found). clear && is_nothing o) (sym (left_end (spoilt m size c n) rows q h)) ∙ v.clears;
+      coded = λ e. sym (and-true coded) ∙ ap (λ (o : Found). coded && is_nothing o) (sym (left_end (uncoded m size c) rows q h)) ∙ v.codes;
+      clear = λ e. sym (and-true clear) ∙ ap (λ (o : Found). clear && is_nothing o) (sym (left_end (spoilt m size c n) rows q h)) ∙ v.clears;
     }
 
     module _ (h : q < rows) (r : ℕ) (told : r ≡ fault_of m size c n q) where

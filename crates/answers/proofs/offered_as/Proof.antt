@@ -1,6 +1,6 @@
 -- Each answer of an offer has its number by definition; the bytes mended are a number of 32 bits, so that nothing is cut off.
 use mathlib.Core.Path.{◌≡◌, sym, ap, ◌∙◌}
-use native.Mathlib.Nat.{zero_add}
+use native.Mathlib.Nat.{zero-add}
 use native.Mathlib.Omega.{arith}
 use Rattle.record.specs.declared.Offered.{Offered}
 use Rattle.record.specs.Told.{offered_told}
@@ -45,10 +45,10 @@ refused-requires : tie.Need-refused-requires
 refused-requires c κs = tt
 
 returns : tie.Need-returns
-returns c = sym (zero_add _) ∙ told c.before.offered.given.1
+returns c = sym (zero-add _) ∙ told c.before.offered.given.1
 
 returns-2 : tie.Need-returns-2
-returns-2 c = sym (zero_add _) ∙ told c.before.offered2.given.1
+returns-2 c = sym (zero-add _) ∙ told c.before.offered2.given.1
 
 returns-3 : tie.Need-returns-3
 returns-3 c = c.refused.ensures ∙ told c.before.before.offered3.given.1

@@ -2,7 +2,7 @@
 -- Assumes nothing.
 use mathlib.Core.Path.{sym}
 use Prim.Native.Nat.{◌+◌, ◌-◌, ◌≤◌}
-use native.Mathlib.Nat.{zero_add}
+use native.Mathlib.Nat.{zero-add}
 use native.Mathlib.Omega.{arith}
 use lib.ListN.{length}
 use Rattle.ground.proofs.Writing.{Run, run_begin}
@@ -33,7 +33,7 @@ put-run-requires : tie.Need-put-run-requires invariant-loop decreases-loop
 put-run-requires c κs =
     let s = c.before.before.before.before.before in
     let a = s.args in
-    (omega arith, part-next (length a.file.now) a.m a.from a.n (length a.out.now) 0 s.requires _ _ _ (omega arith) c.before.before.loop.invariant.long (sym (zero_add _)))
+    (omega arith, part-next (length a.file.now) a.m a.from a.n (length a.out.now) 0 s.requires _ _ _ (omega arith) c.before.before.loop.invariant.long (sym (zero-add _)))
 
 add-x : tie.Need-overflow-add-x invariant-loop decreases-loop
 add-x c = omega (arith, c.before.before.put-run.ensures.1, below c.before.before.before.before.before.before.before.before)

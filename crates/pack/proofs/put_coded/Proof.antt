@@ -3,7 +3,7 @@
 use mathlib.Core.Path.{◌≡◌, refl, sym, ap, ◌∙◌}
 use mathlib.Core.List.{List}
 use Prim.Native.Nat.{ℕ, ◌+◌, ◌-◌, ◌*◌, ◌≤◌}
-use native.Mathlib.Nat.{zero_add}
+use native.Mathlib.Nat.{zero-add}
 use native.Mathlib.Omega.{arith}
 use borrow.Author.Rules.{rules}
 use lib.ListN.{length}
@@ -40,7 +40,7 @@ put-run-requires c κs =
     let a = c.before.before.before.before.before.args in (
       search rules,
       run-next a.file.now a.m a.first a.count (length a.out.now) 0 c.before.before.before.before.before.requires c.before.before.loop.done _ _ (search rules)
-          (ap length c.before.before.loop.invariant.1 ∙ length-sets a.out.now 0 (coded_rows a.file.now a.m a.first c.before.before.loop.done)) (sym (zero_add _)),
+          (ap length c.before.before.loop.invariant.1 ∙ length-sets a.out.now 0 (coded_rows a.file.now a.m a.first c.before.before.loop.done)) (sym (zero-add _)),
     )
 
 add_done : tie.Need-overflow-add-done invariant-loop decreases-loop
