@@ -1,4 +1,6 @@
 // Answers as one number: the header include/brithelva.h says how. Each takes whatever value there is of its type.
+#![tactic(auto)]
+
 ghost use Rattle.std.specs.Prelude.{◌≡◌};
 ghost use Rattle.refusals.specs.Told.{refused_as, verdict_told};
 ghost use Rattle.pack.specs.Told.{packed_told};

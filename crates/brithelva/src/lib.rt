@@ -1,4 +1,6 @@
 // The library's C face: each function stands for one call of the crates below, with its answer as one number. include/brithelva.h documents it for C.
+#![tactic(auto)]
+
 ghost use Rattle.std.specs.Prelude.{◌≡◌, true, false, length};
 ghost use Rattle.refusals.specs.Told.{verdict_told};
 ghost use Rattle.crc.specs.Crc.{crc32_of};

@@ -1,4 +1,6 @@
 // Dates with a time of day: which are real, and which of two comes first.
+#![tactic(auto)]
+
 ghost use Rattle.std.specs.Prelude.{◌≡◌};
 ghost use Rattle.calendar.specs.Calendar.{leap, days_in, real, not_given, not_after};
 

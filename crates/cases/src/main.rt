@@ -1,4 +1,6 @@
 // Runs a file of cases from standard input, and writes a line for each: reference/README.md describes the language.
+#![tactic(auto)]
+
 use calls::Answer;
 use judging::Tally;
 use setting::Lengths;

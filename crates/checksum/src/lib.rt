@@ -1,4 +1,6 @@
 // CRC-32 of source document 000, Annex C, as document 01, section 2, takes it: of the whole at once, and in parts.
+#![tactic(auto)]
+
 ghost use Rattle.std.specs.Prelude.{◌≡◌};
 ghost use Rattle.ground.specs.Bits.{sum};
 ghost use Rattle.crc.specs.Crc.{feed, ones, crc32_of};

@@ -1,4 +1,6 @@
 // The kinds of content of source document 001, table 3.
+#![tactic(auto)]
+
 ghost use Rattle.std.specs.Prelude.{◌≡◌};
 ghost use Rattle.content.specs.Content.{content_of};
 

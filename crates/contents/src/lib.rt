@@ -1,5 +1,7 @@
 // Slots of a store as the calls above read and fill them: document 01, section 5. Each takes every input, and answers what the definitions of specs/ say, by
 // which what a place holds is told. A store reads as 0 beyond its end.
+#![tactic(auto)]
+
 ghost use Rattle.std.specs.Prelude.{◌≡◌, ◌+◌, ◌≤◌, length};
 ghost use Rattle.contents.specs.Slots.{length_at, room_for, slot_verdict, stored_within};
 ghost use Rattle.contents.specs.Contents.{length_fits};

@@ -1,6 +1,8 @@
 // The register of CRC-32 (source document 000, Annex C, as document 01, section 2, takes it), fed by a table that the caller lends. Beside this code the crate has
 // the definition of the CRC (specs/) and its laws (proofs/). The table has an entry for each half byte at each of 32 places: sixteen bytes go in at once, and yet
 // it is small enough to be made anew for a call.
+#![tactic(auto)]
+
 mod halfbytes;
 
 ghost use Rattle.std.specs.Prelude.{◌≡◌, [], ◌∷◌, ◌+◌, ◌*◌, ◌%◌, ◌≤◌, ◌<◌, length, get_or, take, drop};

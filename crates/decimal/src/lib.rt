@@ -1,4 +1,6 @@
 // Numbers in decimal digits, read and written.
+#![tactic(auto)]
+
 ghost use Rattle.std.specs.Prelude.{◌≡◌, not, ◌&&◌, ◌||◌, ◌++◌, ◌-◌, eqb, length, replicate, get_or};
 ghost use Rattle.ground.specs.Ranges.{between};
 ghost use Rattle.decimal.specs.Decimal.{number_in, digits};

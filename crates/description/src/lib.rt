@@ -1,4 +1,6 @@
 // Reading a description file (document 02, R-4): its lines are found first, then read into attributes, then judged by the rules that the writer keeps too.
+#![tactic(auto)]
+
 ghost use Rattle.std.specs.Prelude.{◌≡◌, ◌+◌, ◌≤◌, length, take, drop};
 ghost use Rattle.decimal.specs.Decimal.{number_in};
 ghost use Rattle.attributes.specs.Describe.{optional_in, given_time, lower, describe_of};

@@ -1,4 +1,6 @@
 // The two editions of the spare bits: document 02, R-9.
+#![tactic(auto)]
+
 ghost use Rattle.std.specs.Prelude.{◌≡◌};
 ghost use Rattle.packet.specs.Edition.{spare_of, is_of, edition_of};
 

@@ -1,4 +1,6 @@
 // Encoding of rows of RS(255,239): checks, and what rows leave when the generator divides them (document 01, section 3).
+#![tactic(auto)]
+
 ghost use Rattle.std.specs.Prelude.{◌≡◌};
 ghost use Rattle.code.specs.Code.{generator as generatorOf};
 ghost use Rattle.encoding.specs.Encode.{encode_of, checked_of, remainders_of};

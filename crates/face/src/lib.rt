@@ -1,5 +1,7 @@
 // What the C face writes into lent memory: bytes and fields, put at the start of an output. Beside this code the crate has what each function of the C face
 // answers and leaves (specs/Face.antt), and the laws of it (proofs/).
+#![tactic(auto)]
+
 ghost use Rattle.packet.specs.Told.{field_list};
 ghost use Rattle.face.specs.Face.{Says, puts};
 

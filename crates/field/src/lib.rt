@@ -1,4 +1,6 @@
 // GF(256): the bytes as a field, document 01, section 3. The sum of two elements is `^`. Products are formed without a table, by repeated doubling, eight in a word.
+#![tactic(auto)]
+
 ghost use Rattle.std.specs.Prelude.{◌≡◌};
 ghost use Rattle.field.specs.Field.{product, Inverse};
 ghost use Rattle.field.specs.Tables.{Powers};

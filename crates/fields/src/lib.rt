@@ -1,4 +1,6 @@
 // A packet's fields, read: document 01, sections 2 and 6; for packets of either order, document 02, R-8.
+#![tactic(auto)]
+
 ghost use Rattle.std.specs.Prelude.{◌≡◌, ◌&&◌, ◌+◌, ◌*◌, ◌/◌, ◌%◌, ◌≤◌, length};
 ghost use Rattle.packet.specs.Packet.{fields_in, marked, bad_protection, bad_number, bad_rows, judged, read_by, read_of, read_header_of};
 

@@ -1,4 +1,6 @@
 // Rows of a table, taken out of a file and encoded (document 01, section 3). The checks are written by crate encoding, which this stands on.
+#![tactic(auto)]
+
 ghost use Rattle.std.specs.Prelude.{◌≡◌, ◌+◌, ◌*◌, ◌<◌, ◌≤◌, length, get_or};
 ghost use Rattle.std.proofs.lemmas.List.Edits.{sets};
 ghost use Rattle.filling.specs.InnerColumn.{column};

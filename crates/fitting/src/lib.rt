@@ -1,4 +1,6 @@
 // Whether settings are within their ranges: document 01, sections 2 and 4; editions and orders document 02, R-9 and R-8.
+#![tactic(auto)]
+
 ghost use Rattle.std.specs.Prelude.{◌≡◌};
 ghost use Rattle.settings.specs.Settings.{order_fits, settings_fit};
 

@@ -1,5 +1,7 @@
 // The file that one place holds: document 01, section 5, Hand out, behind the refusals 9 and 10. Every refusal is ruled out before a byte is written; the store is
 // only read. A place in column order is handed out by crate restoring.
+#![tactic(auto)]
+
 ghost use Rattle.std.specs.Prelude.{◌≡◌, length};
 ghost use Rattle.handing.specs.Hand.{usable_in, hand_place_of};
 

@@ -1,4 +1,6 @@
 // A packet's header, written: document 01, sections 2 and 6.
+#![tactic(auto)]
+
 ghost use Rattle.std.specs.Prelude.{◌≡◌};
 ghost use Rattle.packet.specs.Packet.{header_of};
 

@@ -1,4 +1,6 @@
 // The record as a caller holds it, 160 bytes (specs/Layout.antt): read, and written again.
+#![tactic(auto)]
+
 ghost use Rattle.std.specs.Prelude.{◌≡◌, ◌+◌, ◌*◌, ◌≤◌, length};
 ghost use Rattle.std.proofs.lemmas.List.Edits.{sets};
 ghost use Rattle.holding.specs.Layout.{place_length, record_length, two, four, place_in, record_in, place_bytes, record_bytes};

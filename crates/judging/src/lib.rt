@@ -1,4 +1,6 @@
 // Whether the attributes of a description may stand in their lines: by the fifteen rules that reader and writer share (crate attributes, specs/Rules.antt).
+#![tactic(auto)]
+
 ghost use Rattle.std.specs.Prelude.{cond, ◌&&◌, ◌≡◌, eqb, leb, length};
 ghost use Rattle.ground.specs.Ranges.{between};
 ghost use Rattle.content.specs.Content.{content_of};

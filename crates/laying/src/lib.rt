@@ -1,5 +1,7 @@
 // The payload of a packet that is sent by columns (document 02, R-8): a part of all tables, column behind column. The information columns are the file's own bytes; a row whose
 // checks are in the part is encoded once, by crate filling, which this stands on.
+#![tactic(auto)]
+
 ghost use Rattle.std.specs.Prelude.{◌≡◌, ◌+◌, ◌-◌, ◌*◌, ◌<◌, ◌≤◌, length, get_or};
 ghost use Rattle.std.proofs.lemmas.List.Edits.{sets};
 ghost use Rattle.ground.specs.Lists.{listed};

@@ -1,4 +1,6 @@
 // A description as thirty numbers, as the C face lends and takes it.
+#![tactic(auto)]
+
 ghost use Rattle.std.specs.Prelude.{◌≡◌, ◌≤◌, ◌<◌};
 ghost use Rattle.std.proofs.lemmas.List.Edits.{sets};
 ghost use Rattle.attributes.specs.Told.{description_list};

@@ -1,4 +1,6 @@
 // A row of a place in column order, as it came: document 02, R-8. Its bytes stand in many slots, M bytes apart in what was sent; those of empty slots are lost.
+#![tactic(auto)]
+
 ghost use Rattle.std.specs.Prelude.{◌≡◌};
 ghost use Rattle.losses.specs.Losses.{tabled, came_of};
 

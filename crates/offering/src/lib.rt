@@ -1,5 +1,7 @@
 // Offer: document 01, section 5. A packet is judged first, which does not look at the store; then its payload meets what the slot of its number holds.
 // Refusals in the order 9, then 1 to 8 as the field reader gives them, 7 passed over at a place in column order (document 02, R-8), then 10, 11, 33 (R-9), and 12 to 16.
+#![tactic(auto)]
+
 ghost use Rattle.std.specs.Prelude.{◌≡◌, true, not, ◌+◌, ◌/◌, ◌%◌, ◌≤◌, eqb, length};
 ghost use Rattle.packet.specs.Packet.{resource_in, kind_in, read_by, read_of};
 ghost use Rattle.packet.specs.declared.Reading.TheVariants.{Sent};

@@ -1,5 +1,7 @@
 // Open and Close of the collecting record: document 01, section 5. The record is a struct by value, returned anew; open clears slots of the lent store.
 // Refusals in the orders 9, 17, 18, 19, 20 and 9, 10. What is done with a place while it is open stands in the crates record, standing and readout.
+#![tactic(auto)]
+
 ghost use Rattle.std.specs.Prelude.{◌≡◌, ◌+◌, ◌*◌, ◌≤◌, length};
 ghost use Rattle.settings.specs.Settings.{house};
 ghost use Rattle.places.specs.Places.{first_unused};

@@ -1,5 +1,7 @@
 // The record of eight places: document 01, section 5. Whether it is good for a store, and where there is room in it, is told by crate room; every call here
 // answers for any record.
+#![tactic(auto)]
+
 ghost use Rattle.std.specs.Prelude.{◌≡◌};
 ghost use Rattle.places.specs.Places.{fresh_record, cover_of, place_of, count_fits, names, place_named, first_unused};
 

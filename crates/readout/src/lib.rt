@@ -1,5 +1,7 @@
 // The file that the place of a resource and type holds: document 01, section 5, Hand out. Record and store are only read. What a place holds is handed out by crate handing, where
 // the definitions are.
+#![tactic(auto)]
+
 ghost use Rattle.std.specs.Prelude.{◌≡◌};
 ghost use Rattle.handing.specs.Hand.{hand_out_of};
 

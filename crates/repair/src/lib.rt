@@ -1,5 +1,7 @@
 // Repair of rows of RS(255,239), exact: the one coded row within eight bytes, or that there is none (document 01, section 3, and demand 2). What is to be added to a row
 // is found in crate solving.
+#![tactic(auto)]
+
 ghost use Rattle.std.specs.Prelude.{◌≡◌, ◌≤◌};
 ghost use Rattle.repair.specs.InnerRows.{told_of};
 ghost use Rattle.repair.specs.Repair.{nothing_mended, mending_of, Mends};

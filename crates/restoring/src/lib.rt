@@ -1,4 +1,6 @@
 // The file that a place in column order holds: document 02, R-8, behind the refusals 9 and 10. Every refusal is ruled out before a byte is written; the store is only read.
+#![tactic(auto)]
+
 ghost use Rattle.std.specs.Prelude.{◌≡◌};
 ghost use Rattle.columns.specs.Columns.{hand_columns_of};
 

@@ -1,5 +1,7 @@
 // Where the bytes of places stand in the store: document 01, section 5; when refusal 9 is given: section 6. A record is judged by `is_good` before anything else
 // is asked of it. The definitions and laws are those of crate places.
+#![tactic(auto)]
+
 ghost use Rattle.std.specs.Prelude.{◌≡◌};
 ghost use Rattle.places.specs.Places.{good};
 ghost use Rattle.places.specs.Room.{lowest_start};

@@ -1,5 +1,7 @@
 // The roots of a polynomial of nine coefficients, the constant first, among the powers of α (document 01, section 3). Eight exponents are tried at once: a word
 // holds the values at eight powers that follow each other, and the coefficients then move on by eight exponents.
+#![tactic(auto)]
+
 ghost use Rattle.std.specs.Prelude.{◌≡◌, ◌≤◌};
 ghost use Rattle.roots.specs.Roots.{roots_of};
 ghost use Rattle.roots.specs.InnerWords.{Short};

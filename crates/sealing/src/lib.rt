@@ -1,4 +1,6 @@
 // A packet's CRC: written behind its header and payload (document 01, section 4), and judged when it is offered (section 5).
+#![tactic(auto)]
+
 ghost use Rattle.std.specs.Prelude.{◌≡◌, length};
 ghost use Rattle.sealing.specs.Sealing.{seal_verdict, sealed_at, crc_agrees};
 

@@ -1,4 +1,6 @@
 // The settings under which a file is packed and collected: document 01, sections 2 and 4, and the house setting.
+#![tactic(auto)]
+
 ghost use Rattle.std.specs.Prelude.{◌≡◌};
 ghost use Rattle.settings.specs.Settings.{row_wise, size_fits, rows_held, rows_sent, house as houseOf};
 

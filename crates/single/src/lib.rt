@@ -1,5 +1,7 @@
 // One row repaired, by value and out of a slice, and how much was mended in it: document 01, section 3, and demand 2; document 02, R-7. The rows of a payload are
 // mended by crate repair, which this stands on.
+#![tactic(auto)]
+
 ghost use Rattle.std.specs.Prelude.{◌≡◌};
 ghost use Rattle.single.specs.Single.{mend_of, repair_row_of};
 

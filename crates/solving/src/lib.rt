@@ -1,5 +1,7 @@
 // What is to be added to a row so that it becomes the coded row within eight bytes, by what the row leaves when the generator divides it (document 01, section 3,
 // and demand 2), or one that has all bytes but those at given places. A place is told by its exponent a: byte 254 - a of a row has the locator α^a.
+#![tactic(auto)]
+
 ghost use Rattle.std.specs.Prelude.{◌≡◌, ◌<◌};
 ghost use Rattle.errata.specs.Errata.{errata_of};
 ghost use Rattle.errata.specs.InnerErrata.{nothing_to, Ordered, Put, Kept, Nought};

@@ -1,5 +1,7 @@
 // How a resource stands: document 01, section 5, Status. A pass over the lengths of a place's slots, two bytes of each, which Hand out begins with too. Record
 // and store are only read.
+#![tactic(auto)]
+
 ghost use Rattle.std.specs.Prelude.{◌≡◌, ◌≤◌, length};
 ghost use Rattle.places.specs.Places.{end_of};
 ghost use Rattle.contents.specs.Contents.{contents};

@@ -1,4 +1,6 @@
 // A payload meets the slot of its number: document 01, section 5, Offer, and the refusals 15 and 16. What is offered comes here once it is read, judged by its fields and mended.
+#![tactic(auto)]
+
 ghost use Rattle.std.specs.Prelude.{◌≡◌, ◌<◌, ◌^◌};
 ghost use Rattle.record.specs.Put.{slot_has, put_of};
 

@@ -1,5 +1,7 @@
 // The sixteen syndromes of a row, from the sixteen bytes that it leaves when the generator divides it (document 01, section 3). Each byte counts in syndrome j by a power of
 // α; the products are formed bit by bit, highest first, of all bytes and for all syndromes at once.
+#![tactic(auto)]
+
 ghost use Rattle.std.specs.Prelude.{◌≡◌, ℕ, ◌<◌};
 ghost use Rattle.field.specs.Words.{entry, InWords};
 ghost use Rattle.terms.specs.Terms.{Syndromes};

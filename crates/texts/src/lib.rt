@@ -1,4 +1,6 @@
 // Texts as they stand in a line of a description file: UTF-8, and where lines break.
+#![tactic(auto)]
+
 ghost use Rattle.std.specs.Prelude.{◌≡◌};
 ghost use Rattle.texts.specs.Utf8.{well_formed};
 ghost use Rattle.texts.specs.Breaks.{until_lf, unbroken};

@@ -1,4 +1,6 @@
 // How dates with a time of day are written, and read back.
+#![tactic(auto)]
+
 ghost use Rattle.std.specs.Prelude.{cond, ◌≡◌, ◌+◌, ◌-◌, ◌/◌, ◌%◌, ◌<◌, eqb, length};
 ghost use Rattle.ground.specs.Ranges.{is_digit};
 ghost use Rattle.times.specs.Written.{time_text, form, formed, two_at, time_at, time_in};

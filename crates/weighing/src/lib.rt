@@ -1,5 +1,7 @@
 // Whether the file that a place in column order holds can be handed out: document 02, R-8, behind the refusals 9 and 10, and but for the output's room. Nothing is
 // written; lengths are judged first, then row by row what is lost, what fits no coded row, and the padding.
+#![tactic(auto)]
+
 ghost use Rattle.std.specs.Prelude.{◌≡◌, replicate};
 ghost use Rattle.columns.specs.Columns.{hand_columns_of, weighed_of};
 ghost use Rattle.columns.specs.InnerJudge.{Shaped, hand_judged};

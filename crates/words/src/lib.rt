@@ -1,5 +1,7 @@
 // Bytes as numbers of a wider type, the bytes of a word, numbers in a range, the lesser of two, and quotients rounded up. A wider number asks of a caller no more
 // than the byte: that it is below 256 is known of the result.
+#![tactic(auto)]
+
 ghost use Rattle.std.specs.Prelude.{◌≡◌, ◌<◌, min};
 ghost use Rattle.ground.specs.Lists.{ceil};
 ghost use Rattle.ground.specs.Ranges.{between};
