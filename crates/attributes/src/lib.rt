@@ -6,14 +6,14 @@ use calendar::Time;
 use refusals::Refusal;
 
 // A part of a lent text: where it begins, and how many bytes it has.
-#[derive(Drop)]
+#[derive(Clone, Copy)]
 pub struct Part {
     pub at: usize,
     pub length: usize,
 }
 
 // The fifteen attributes, line 01 first; `size` is the file's length. A time of zeros stands for none.
-#[derive(Drop)]
+#[derive(Clone, Copy)]
 pub struct Description {
     pub service: u64,
     pub mode: u64,
@@ -40,14 +40,14 @@ impl Description {
 }
 
 // What reading a text answers.
-#[derive(Drop)]
+#[derive(Clone, Copy)]
 pub enum Described {
     Attributes(Description),
     Refused(Refusal),
 }
 
 // What writing one answers: how many bytes were written.
-#[derive(Drop)]
+#[derive(Clone, Copy)]
 pub enum Composed {
     Text(usize),
     Refused(Refusal),

@@ -7,7 +7,7 @@ ghost use Rattle.calendar.specs.Calendar.{leap, days_in, real, not_given, not_af
 use words::within;
 
 // A date and a time of day, real or not.
-#[derive(Drop)]
+#[derive(Clone, Copy)]
 pub struct Time {
     pub year: u64,
     pub month: u64,

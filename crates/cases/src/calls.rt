@@ -4,7 +4,7 @@ use refusals::Refusal;
 use settings::Settings;
 
 // A refusal's number, or 0 for accepted; its value; and whether a refused call changed anything.
-#[derive(Drop)]
+#[derive(Clone, Copy)]
 pub(crate) struct Answer {
     pub(crate) number: u64,
     pub(crate) value: u64,

@@ -1,6 +1,6 @@
 // Digests of bytes: the length, the CRC-32 and FNV-1a of 64 bits.
 
-#[derive(Drop)]
+#[derive(Clone, Copy)]
 pub(crate) struct Digest {
     pub(crate) length: u64,
     pub(crate) crc: u64,

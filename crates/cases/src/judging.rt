@@ -29,7 +29,7 @@ fn kind_of(line: &[u8]) -> u8 {
 }
 
 // How many cases there were, and how many of them were wrong.
-#[derive(Drop)]
+#[derive(Clone, Copy)]
 pub(crate) struct Tally {
     pub(crate) cases: u64,
     pub(crate) wrong: u64,

@@ -19,7 +19,7 @@ mod transmission;
 mod words;
 
 // What stays from line to line, beside the bytes.
-#[derive(Drop)]
+#[derive(Clone, Copy)]
 struct State {
     lengths: Lengths,
     settings: Settings,

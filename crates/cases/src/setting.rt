@@ -3,7 +3,7 @@ use crate::{commands, generator, lines, memory, numbers, words};
 use settings::Settings;
 
 // How many bytes of each buffer are at hand.
-#[derive(Drop)]
+#[derive(Clone, Copy)]
 pub(crate) struct Lengths {
     pub(crate) file: usize,
     pub(crate) held: usize,

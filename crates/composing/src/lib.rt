@@ -18,7 +18,7 @@ use slices::copy_in;
 use times::time_text;
 
 // A line's value: at most nineteen bytes at the front of `bytes`, then a part of the text. One of the two has no bytes.
-#[derive(Drop)]
+#[derive(Clone, Copy)]
 struct Value {
     bytes: [u8; 19],
     length: usize,

@@ -5,7 +5,7 @@ ghost use Rattle.std.specs.Prelude.{◌≡◌};
 ghost use Rattle.content.specs.Content.{content_of};
 
 // What a kind is the kind of.
-#[derive(Drop)]
+#[derive(Clone, Copy)]
 pub enum Content {
     File,
     Stream,

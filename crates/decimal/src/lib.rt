@@ -11,7 +11,7 @@ use words::wide;
 pub const NO_NUMBER: u64 = 100000000;
 
 // The digits of a number at the front, zeros behind them.
-#[derive(Drop)]
+#[derive(Clone, Copy)]
 pub struct Digits {
     pub bytes: [u8; 8],
     pub length: usize,

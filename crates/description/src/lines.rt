@@ -6,7 +6,7 @@ ghost use Rattle.attributes.specs.Lines.{label, without_cr};
 ghost use Rattle.description.specs.Inner.{Split, Stepped};
 
 // The values of the lines that are there, each by its beginning and its length, zeros for those that are not; how many there are, and where they end.
-#[derive(Drop)]
+#[derive(Clone, Copy)]
 pub(crate) struct Lines {
     pub(crate) starts: [usize; 15],
     pub(crate) lengths: [usize; 15],
@@ -15,7 +15,7 @@ pub(crate) struct Lines {
 }
 
 // Where a value ends: whether LF is there, how many bytes stand before it, and how many of them are the value.
-#[derive(Drop)]
+#[derive(Clone, Copy)]
 struct End {
     found: bool,
     before: usize,
@@ -23,7 +23,7 @@ struct End {
 }
 
 // A line that is there or not: the length of its value, and where the next begins.
-#[derive(Drop)]
+#[derive(Clone, Copy)]
 struct Step {
     there: bool,
     length: usize,

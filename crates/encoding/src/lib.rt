@@ -11,7 +11,7 @@ mod register;
 use refusals::{Refusal, Verdict};
 
 // The sixteen checks of a row; zeros beside a refusal.
-#[derive(Drop)]
+#[derive(Clone, Copy)]
 pub struct Encoded {
     pub verdict: Verdict,
     pub checks: [u8; 16],

@@ -9,7 +9,7 @@ ghost use Rattle.encoding.specs.InnerRegister.{part, unpack, both, checks_at, re
 use crate::halves;
 
 // Sixteen bytes, the first one at the top of `h`.
-#[derive(Drop)]
+#[derive(Clone, Copy)]
 pub(crate) struct Reg {
     pub h: u64,
     pub l: u64,

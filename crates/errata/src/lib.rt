@@ -5,7 +5,7 @@
 
 // Whether there is a coded row within reach; then the n places at which to add something, and what. Zeros behind them, and in all of it where there is no such row.
 // `find` tells the places in increasing order, with values that are never 0; `fill` those that it was given, with values that may be.
-#[derive(Drop)]
+#[derive(Clone, Copy)]
 pub struct Errata {
     pub fits: bool,
     pub n: usize,

@@ -10,7 +10,7 @@ mod bitwise;
 mod tables;
 
 // Sixteen elements, the first eight in `low`, the lowest byte first.
-#[derive(Drop)]
+#[derive(Clone, Copy)]
 pub struct Sixteen {
     pub low: u64,
     pub high: u64,

@@ -18,7 +18,7 @@ pub(crate) fn needs_tables(n: usize, m: usize, count: usize) -> bool
 }
 
 // Where a row begins in the file, and how many of its information bytes stand there.
-#[derive(Drop)]
+#[derive(Clone, Copy)]
 struct Span {
     start: usize,
     count: usize,

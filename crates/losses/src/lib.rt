@@ -9,7 +9,7 @@ use places::Place;
 mod runs;
 
 // The row's bytes, 0 for each that is lost; how many are lost; and the first sixteen of these, each told by its exponent, 254 less its column.
-#[derive(Drop)]
+#[derive(Clone, Copy)]
 pub struct Came {
     pub row: [u8; 255],
     pub lost: usize,

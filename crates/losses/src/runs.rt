@@ -8,7 +8,7 @@ ghost use Rattle.losses.specs.InnerRuns.{Tabled, Held, Least, Walk, Reached, Cop
 use places::Place;
 
 // Where a run ended: the column behind it, and how many columns are lost up to there.
-#[derive(Drop)]
+#[derive(Clone, Copy)]
 struct Run {
     column: usize,
     lost: usize,
@@ -199,7 +199,7 @@ fn take_runs(p: Place, store: &[u8], first: usize, row: &mut [u8; 255], at: &mut
 }
 
 // Where a byte of what was sent stands: its slot, and its number there.
-#[derive(Drop)]
+#[derive(Clone, Copy)]
 struct Spot {
     slot: usize,
     byte: usize,

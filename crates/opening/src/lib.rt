@@ -15,14 +15,14 @@ use refusals::{Refusal, Verdict};
 use settings::Settings;
 
 // The record after open or close, and what is answered. Beside a refusal the record is as it came.
-#[derive(Drop)]
+#[derive(Clone, Copy)]
 pub struct Kept {
     pub record: Record,
     pub verdict: Verdict,
 }
 
 // What open is to do: to refuse, or to take the place of a number from a start on.
-#[derive(Drop)]
+#[derive(Clone, Copy)]
 pub(crate) enum Planned {
     Refuse(Refusal),
     Take(usize, usize),

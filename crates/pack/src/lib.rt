@@ -12,14 +12,14 @@ use refusals::Refusal;
 use settings::Settings;
 
 // The length of the packet that was written, or why none was.
-#[derive(Drop)]
+#[derive(Clone, Copy)]
 pub enum Packed {
     Written(usize),
     Refused(Refusal),
 }
 
 // Whether a packet can be made; its count of packets and the length of its payload.
-#[derive(Drop)]
+#[derive(Clone, Copy)]
 enum Plan {
     Stop(Refusal),
     Go(u32, usize),

@@ -5,7 +5,7 @@
 use refusals::Refusal;
 
 // A packet's fields, as sent. `kind` is document 01's type: 0 stream, 1 file, 2 description file.
-#[derive(Drop)]
+#[derive(Clone, Copy)]
 pub struct Packet {
     pub resource: u16,
     pub number: u32,
@@ -19,7 +19,7 @@ pub struct Packet {
 }
 
 // What an edition writes where nothing else is said: the four reserved bits, and M without protection.
-#[derive(Drop)]
+#[derive(Clone, Copy)]
 pub struct Spare {
     pub reserved: u8,
     pub rows: u8,
@@ -37,7 +37,7 @@ impl Packet {
 }
 
 // What reading a packet's fields finds.
-#[derive(Drop)]
+#[derive(Clone, Copy)]
 pub enum Reading {
     Sent(Packet),
     Refused(Refusal),

@@ -8,7 +8,7 @@ ghost use Rattle.places.specs.Places.{fresh_record, cover_of, place_of, count_fi
 use settings::Settings;
 
 // A place in use holds what a file is collected under and where its slots start. It is in use exactly if its resource is not 0.
-#[derive(Drop)]
+#[derive(Clone, Copy)]
 pub struct Place {
     pub resource: u16,
     pub kind: u8,
@@ -22,13 +22,13 @@ pub struct Place {
     pub order: u16,
 }
 
-#[derive(Drop)]
+#[derive(Clone, Copy)]
 pub struct Record {
     pub places: [Place; 8],
 }
 
 // A number that was looked for, or that there is none.
-#[derive(Drop)]
+#[derive(Clone, Copy)]
 pub enum Found {
     At(usize),
     Nothing,

@@ -6,7 +6,7 @@
 use refusals::Refusal;
 
 // What offering a packet answers. Stored and Repeat carry the bytes mended in this packet, all its rows together; 0 without protection.
-#[derive(Drop)]
+#[derive(Clone, Copy)]
 pub enum Offered {
     Stored(u32),
     Repeat(u32),

@@ -6,7 +6,7 @@ ghost use Rattle.refusals.specs.Refusals.{number_of, value_of};
 
 // By the documents' names; the extra value where one is named: of Repair the first row that has no coded row within eight bytes, of
 // Missing the lowest empty slot, of Line the line that has a fault, of Lost the first row that lacks more than sixteen bytes.
-#[derive(Drop)]
+#[derive(Clone, Copy)]
 pub enum Refusal {
     Short,
     Mark,
@@ -42,7 +42,7 @@ pub enum Refusal {
 }
 
 // What a call answers that hands nothing else over.
-#[derive(Drop)]
+#[derive(Clone, Copy)]
 pub enum Verdict {
     Accepted,
     Refused(Refusal),

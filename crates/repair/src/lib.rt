@@ -12,7 +12,7 @@ use packet::Packet;
 use refusals::{Refusal, Verdict};
 
 // What mending answers, and how many bytes it mended; 0 beside a refusal.
-#[derive(Drop)]
+#[derive(Clone, Copy)]
 pub struct Counted {
     pub verdict: Verdict,
     pub count: u32,

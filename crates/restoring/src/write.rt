@@ -11,7 +11,7 @@ use crate::lost;
 use places::Place;
 
 // Bytes of the file that follow one another in one slot: the slot, the first of them there, and how many.
-#[derive(Drop)]
+#[derive(Clone, Copy)]
 struct Chunk {
     slot: usize,
     from: usize,

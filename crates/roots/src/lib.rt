@@ -13,7 +13,7 @@ mod search;
 mod table;
 
 // The exponents of the first n roots, in increasing order; zeros behind them.
-#[derive(Drop)]
+#[derive(Clone, Copy)]
 pub struct Roots {
     pub n: usize,
     pub at: [u8; 16],

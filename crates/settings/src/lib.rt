@@ -8,7 +8,7 @@ use packet::Packet;
 
 // What a file is packed and collected under, besides its packets' count. `size` is the payload size P of packing and the slot size S of a
 // place, `edition` that of the packets' spare bits, `order` that in which the tables are sent: 0 by rows, 1 by columns.
-#[derive(Drop)]
+#[derive(Clone, Copy)]
 pub struct Settings {
     pub resource: u16,
     pub kind: u8,

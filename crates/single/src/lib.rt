@@ -9,7 +9,7 @@ use refusals::{Refusal, Verdict};
 
 // The corrected row, and the number of bytes at which it differs from the row that came, 0 to 8; beside a refusal the row as it came, or zeros where no row
 // came, and 0.
-#[derive(Drop)]
+#[derive(Clone, Copy)]
 pub struct Mended {
     pub verdict: Verdict,
     pub row: [u8; 255],

@@ -8,7 +8,7 @@ ghost use Rattle.errata.specs.InnerValues.{list_of};
 use field::Sixteen;
 
 // Nine entries, eight of them in `low`, and the sixteen runs of them.
-#[derive(Drop)]
+#[derive(Clone, Copy)]
 struct Vector {
     low: u64,
     high: u64,

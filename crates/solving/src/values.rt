@@ -61,7 +61,7 @@ fn divide(gathered: Sixteen, gaps: Sixteen, n: usize) -> Sixteen
 }
 
 // Values at given places that give as many syndromes, and whether they fit all sixteen.
-#[derive(Drop)]
+#[derive(Clone, Copy)]
 pub(crate) struct Solution {
     pub fits: bool,
     pub values: [u8; 16],

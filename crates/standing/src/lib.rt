@@ -13,7 +13,7 @@ use refusals::Refusal;
 
 // What a pass saw: whether the place lies in the store and every length is right, and then how many slots are filled, how many stand before the lowest empty
 // one, which is all of them where none is empty, and how many bytes the payloads have; else 0 for each.
-#[derive(Drop)]
+#[derive(Clone, Copy)]
 pub struct Seen {
     pub sound: bool,
     pub filled: u32,
@@ -22,7 +22,7 @@ pub struct Seen {
 }
 
 // How a resource stands: the number of filled slots, and the lowest empty one.
-#[derive(Drop)]
+#[derive(Clone, Copy)]
 pub enum Standing {
     Filled(u32, Found),
     Refused(Refusal),

@@ -7,7 +7,7 @@ ghost use Rattle.texts.specs.Breaks.{until_lf, unbroken};
 ghost use Rattle.texts.specs.Inner.{pending, asked, after};
 
 // What is awaited inside a sequence: so many bytes more (0), the next one from (1) to (2), and those behind it from 80 to BF.
-#[derive(Drop)]
+#[derive(Clone, Copy)]
 struct Wait(u8, u8, u8);
 
 // A byte that cannot come: behind a wrong byte nothing is well formed.

@@ -14,7 +14,7 @@ use places::Place;
 
 // The first row that lacks more than sixteen bytes, or as many as there are rows where none does; only then whether every row is coded, and whether all bytes beyond
 // the file's end are 0.
-#[derive(Drop)]
+#[derive(Clone, Copy)]
 pub(crate) struct Judged {
     pub lacks: u32,
     pub coded: bool,
