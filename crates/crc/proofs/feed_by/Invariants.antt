@@ -1,0 +1,17 @@
+-- `crc::feed_by` walks by sixteen bytes, and leaves fewer than sixteen to `feed_fours`. The invariant: what is left from i on gives, from the present register, the answer.
+-- Assumes nothing.
+use native.Mathlib.Omega.{arith}
+use borrow.Author.Rules.{rules}
+use mathlib.Core.Path.{◌≡◌, refl, ◌∙◌}
+use mathlib.Core.List.{[], ◌∷◌}
+use Prim.Native.Nat.{◌-◌, ◌≤◌}
+use lib.ListN.{length, drop}
+use Rattle.crc.specs.Table.{feed_by}
+use Rattle.crc.proofs.Walk.{turn_at, end_at}
+use Rattle.crc.proofs.feed_by.Given as goal
+
+abbrev pub invariant-loop-i : goal.invariant-loop-i
+invariant-loop-i l = (l.i ≤ length l.bytes) × (feed_by 32 l.table (16 ∷ 4 ∷ 1 ∷ []) l.r (drop l.i l.bytes) ≡ feed_by 32 l.table (16 ∷ 4 ∷ 1 ∷ []) l.register l.bytes)
+
+abbrev pub decreases-loop-i : goal.decreases-loop-i
+decreases-loop-i l = length l.bytes - l.i

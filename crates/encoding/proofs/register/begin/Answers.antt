@@ -1,0 +1,14 @@
+-- `register::begin` feeds seven bytes to nothing: a word less its last byte has a byte of 0 in front, which changes nothing.
+-- Assumes nothing.
+use Rattle.encoding.proofs.Feeding.{feeding_start}
+use native.Mathlib.Omega.{arith}
+use Rattle.encoding.proofs.register.begin.Goals as goal
+
+pub word-requires : goal.word-requires
+word-requires c = omega arith
+
+pub turn-requires : goal.turn-requires
+turn-requires c = c.requires.1
+
+pub returns : goal.returns
+returns c = feeding_start _ _ c.word.result _ (omega arith) c.word.ensures c.turn.ensures

@@ -1,0 +1,44 @@
+-- `places::find_place` meets its contract: at every turn what is left of the places gives the same answer.
+-- Assumes nothing.
+use mathlib.Core.Path.{◌≡◌, sym, ◌∙◌}
+use Prim.Native.Nat.{◌≤◌, ◌-◌}
+use native.Mathlib.Omega.{arith}
+use borrow.Author.Rules.{rules}
+use lib.ListN.{length, drop}
+use Rattle.places.specs.Places.{names, first_from, place_named}
+use Rattle.places.proofs.Steps.{mapped_length, first_hit, first_miss, first_end}
+use Rattle.places.proofs.find_place.Goals as goal
+
+pub offset_bounds-held-i : goal.offset_bounds-held-i
+offset_bounds-held-i c = omega arith
+
+pub bounds-held-i : goal.bounds-held-i
+bounds-held-i c = omega arith
+
+pub returns-then-holds : goal.returns-then-holds
+returns-then-holds c =
+    let eight : length c.args.held.places ≡ 8 = search (rules, mapped_length) in
+    let ps = c.args.held.places in
+    sym (first_hit _ ps c.loop-i.i (omega (arith, eight)) (sym c.holds.ensures ∙ c.if-holds.true))
+    ∙ c.loop-i.invariant.1
+
+pub overflow_add-i : goal.overflow_add-i
+overflow_add-i c = omega arith
+
+pub loop-i-smaller : goal.loop-i-smaller
+loop-i-smaller c = omega arith
+
+pub loop-i-preserved : goal.loop-i-preserved
+loop-i-preserved c =
+    let eight : length c.args.held.places ≡ 8 = search (rules, mapped_length) in
+    let ps = c.args.held.places in (
+      search rules,
+      sym (first_miss _ ps c.loop-i.i (omega (arith, eight)) (sym c.holds.ensures ∙ c.if-holds.false))
+          ∙ c.loop-i.invariant.1,
+    )
+
+pub returns : goal.returns
+returns c =
+    let eight : length c.args.held.places ≡ 8 = search (rules, mapped_length) in
+    sym (first_end _ c.args.held.places c.loop-i.i (omega (arith, eight)))
+    ∙ c.loop-i.invariant.1

@@ -1,0 +1,13 @@
+-- `roots::products::move_on` moves one coefficient after the other (`Moving`).
+-- Assumes nothing.
+use Prim.Native.Nat.{◌-◌, ◌≤◌}
+use native.Mathlib.Omega.{arith}
+use Rattle.roots.proofs.Making.{words_fewer}
+use Rattle.roots.proofs.Moving.{Moving, moving_start, moving_more, moving_end, moving_byte, seventh}
+use Rattle.roots.proofs.products.move_on.Given as goal
+
+abbrev pub invariant-loop-i : goal.invariant-loop-i
+invariant-loop-i l = (l.i ≤ l.top) × Moving l.initial.t l.t l.sum l.i
+
+abbrev pub decreases-loop-i : goal.decreases-loop-i
+decreases-loop-i l = l.top - l.i

@@ -1,0 +1,14 @@
+-- The bytes that the store has room for are written one after the other. Invariant: the store is a run of the first i of them, `Run`. The measure is what is
+-- left of them.
+use mathlib.Core.Path.{refl, ◌∙◌}
+use Prim.Native.Nat.{◌+◌, ◌-◌, ◌<◌}
+use native.Mathlib.Omega.{arith}
+use lib.ListN.{length, get_or}
+use Rattle.ground.proofs.Writing.{sets_reach, Run, run_begin, run_step, run_end}
+use Rattle.slices.proofs.copy_in.Given as goal
+
+abbrev pub invariant-loop-i : goal.invariant-loop-i
+invariant-loop-i l = Run (λ k. get_or l.bytes k 0) l.n l.at l.initial.store l.store l.i
+
+abbrev pub decreases-loop-i : goal.decreases-loop-i
+decreases-loop-i l = l.n - l.i

@@ -1,0 +1,65 @@
+-- `kernel::null_vector` keeps each vector at a run of its own, which does not annihilate it; there are eight runs, so that one of nine passes them all. Each turn a vector
+-- goes one run on, or one vector more is kept and the next begins one run before.
+-- Assumes nothing.
+use mathlib.Core.Path.{◌≡◌, refl, ◌∙◌}
+use mathlib.Core.Logic.{⊎_elim}
+use Prim.Native.Nat.{ℕ, ◌+◌, ◌-◌, ◌*◌, ◌<◌}
+use native.Mathlib.Omega.{arith}
+use Rattle.ground.specs.Lists.{listed}
+use Rattle.field.specs.Words.{entry}
+use Rattle.errata.specs.InnerNull.{in_two}
+use Rattle.solving.proofs.Turns.{Keeping, keeping_start, keeping_skip, keeping_more, keeping_mixed, keeping_end, few}
+use Rattle.errata.specs.InnerValues.{list_of}
+use Rattle.solving.proofs.kernel.null_vector.Goals as goal
+
+pub loop-i-init : goal.loop-i-init
+unfolding list_of
+loop-i-init c = keeping_start _ (omega arith) (omega arith)
+
+pub bounds-pivots-i : goal.bounds-pivots-i
+bounds-pivots-i c = omega arith
+
+pub overflow_add-i : goal.overflow_add-i
+overflow_add-i c = omega arith
+
+pub loop-i-smaller-then-d-eq0 : goal.loop-i-smaller-then-d-eq0
+loop-i-smaller-then-d-eq0 c = omega arith
+
+pub loop-i-preserved-then-d-eq0 : goal.loop-i-preserved-then-d-eq0
+loop-i-preserved-then-d-eq0 c = keeping_skip c.loop-i.invariant (omega arith) c.byte-d.ensures c.if-d-eq0.true
+
+pub offset_bounds-kept-i : goal.offset_bounds-kept-i
+offset_bounds-kept-i c = omega arith
+
+pub bounds-kept-i : goal.bounds-kept-i
+bounds-kept-i c = omega arith
+
+pub bounds-pivots-i-then-p-eq0 : goal.bounds-pivots-i-then-p-eq0
+bounds-pivots-i-then-p-eq0 c = omega arith
+
+pub overflow_sub-i : goal.overflow_sub-i
+overflow_sub-i c = omega arith
+
+pub overflow_add-l : goal.overflow_add-l
+overflow_add-l c = omega (arith, few c.loop-i.invariant)
+
+pub offset_bounds-kept-i-else-p-eq0 : goal.offset_bounds-kept-i-else-p-eq0
+offset_bounds-kept-i-else-p-eq0 c = omega arith
+
+pub bounds-kept-i-else-p-eq0 : goal.bounds-kept-i-else-p-eq0
+bounds-kept-i-else-p-eq0 c = omega arith
+
+pub overflow_add-i-else-p-eq0 : goal.overflow_add-i-else-p-eq0
+overflow_add-i-else-p-eq0 c = omega arith
+
+pub loop-i-smaller : goal.loop-i-smaller
+loop-i-smaller c = omega arith
+
+pub loop-i-preserved : goal.loop-i-preserved
+loop-i-preserved c =
+    let turn : c.loop-i.i < 8 = omega arith in
+    keeping_mixed c.loop-i.invariant turn c.byte-d.ensures c.if-p-eq0.false c.mix-next.ensures
+
+pub returns : goal.returns
+unfolding list_of
+returns c = keeping_end c.loop-i.invariant (omega arith) c.entries.ensures
