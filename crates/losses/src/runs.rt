@@ -22,26 +22,26 @@ fn length_at(store: &[u8], at: usize) -> usize
     words::index(store[at]) + words::index(store[at + 1]) * 256
 }
 
-// Whether a slot for `size` bytes may hold `n`, `in_rows` saying whether payloads are whole rows.
-fn may_hold(size: usize, in_rows: bool, n: usize) -> bool
-    ensures { result ≡ (leb n size && (not in_rows || eqb (n % 255) 0)) }
+// Whether a slot for `size` bytes may hold `n`, `by_rows` saying whether payloads are whole rows.
+fn may_hold(size: usize, by_rows: bool, n: usize) -> bool
+    ensures { result ≡ (leb n size && (not by_rows || eqb (n % 255) 0)) }
 {
     if size < n {
         return false;
     }
-    !in_rows || n % 255 == 0
+    !by_rows || n % 255 == 0
 }
 
-// The length of the payload in slot `k`; 0 where it is empty, where its length is wrong, and where there is no such slot. `in_rows` says whether payloads are whole rows.
-fn held_by(p: Place, store: &[u8], k: usize, in_rows: bool) -> usize
-    requires { (end_of p ≤ length store.now) × (in_rows ≡ in_rows p) }
+// The length of the payload in slot `k`; 0 where it is empty, where its length is wrong, and where there is no such slot. `by_rows` says whether payloads are whole rows.
+fn held_by(p: Place, store: &[u8], k: usize, by_rows: bool) -> usize
+    requires { (end_of p ≤ length store.now) × (by_rows ≡ in_rows p) }
     ensures { Held p store.now k result }
 {
     if p.count as usize <= k {
         return 0;
     }
     let n = length_at(store, p.start as usize + k * (p.slot as usize + 2));
-    if may_hold(p.slot as usize, in_rows, n) {
+    if may_hold(p.slot as usize, by_rows, n) {
         return n;
     }
     0
@@ -227,17 +227,17 @@ fn spot_behind(s: Spot, step: usize, rest: usize, size: usize) -> Spot
 fn take_column(
     p: Place,
     store: &[u8],
-    in_rows: bool,
+    by_rows: bool,
     s: Spot,
     c: usize,
     lost: usize,
     row: &mut [u8; 255],
     at: &mut [u8; 16],
 ) -> usize
-    requires { Alone p (length store.now) in_rows c lost row.old at.old }
+    requires { Alone p (length store.now) by_rows c lost row.old at.old }
     ensures { Taken p store.now s.slot s.byte c lost row.old at.old result row.new at.new }
 {
-    let n = held_by(p, store, s.slot, in_rows);
+    let n = held_by(p, store, s.slot, by_rows);
     if s.byte < n {
         row[c] = store[p.start as usize + s.slot * (p.slot as usize + 2) + 2 + s.byte];
         return lost;
@@ -260,7 +260,7 @@ fn take_columns(
     requires { Tabled p (length store.now) × (first < 2 ^ 46) × Gathered p store.now first 0 0 row.old at.old }
     ensures { Gathered p store.now first 255 result row.new at.new }
 {
-    let in_rows = settings::row_wise(p.protection, p.order);
+    let by_rows = settings::row_wise(p.protection, p.order);
     let size = p.slot as usize;
     let step = p.rows as usize / size;
     let rest = p.rows as usize % size;
@@ -271,7 +271,7 @@ fn take_columns(
     let mut lost: usize = 0;
     let mut c: usize = 0;
     while c < 255 {
-        lost = take_column(p, store, in_rows, s, c, lost, row, at);
+        lost = take_column(p, store, by_rows, s, c, lost, row, at);
         s = spot_behind(s, step, rest, size);
         c += 1;
     }
@@ -283,7 +283,7 @@ fn take_even(p: Place, store: &[u8], first: usize, row: &mut [u8; 255], at: &mut
     requires { Tabled p (length store.now) × (first < 2 ^ 46) × (p.rows % p.slot ≡ 0) × Gathered p store.now first 0 0 row.old at.old }
     ensures { Gathered p store.now first 255 result row.new at.new }
 {
-    let in_rows = settings::row_wise(p.protection, p.order);
+    let by_rows = settings::row_wise(p.protection, p.order);
     let size = p.slot as usize;
     let step = p.rows as usize / size;
     let byte = first % size;
@@ -291,7 +291,7 @@ fn take_even(p: Place, store: &[u8], first: usize, row: &mut [u8; 255], at: &mut
     let mut lost: usize = 0;
     let mut c: usize = 0;
     while c < 255 {
-        lost = take_column(p, store, in_rows, Spot { slot: k, byte }, c, lost, row, at);
+        lost = take_column(p, store, by_rows, Spot { slot: k, byte }, c, lost, row, at);
         k += step;
         c += 1;
     }
