@@ -27,7 +27,7 @@ fn given_where(asked: bool, low: u64, high: u64, none: u64, n: u64) -> bool
 
 // Whether a part lies in the text, and is UTF-8 without CR or LF, of at least so many bytes.
 fn text_fits(text: &[u8], least: usize, p: Part) -> bool
-    ensures* { do let t = text.now in ⌜ result ≡ (inside t p && (leb least (length (part_of t p)) && is_text (part_of t p))) ⌝ }
+    ensures { result ≡ (inside text.now p && (leb least (length (part_of text.now p)) && is_text (part_of text.now p))) }
 {
     let at = p.at;
     let length = p.length;
