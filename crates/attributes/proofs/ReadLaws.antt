@@ -130,9 +130,9 @@ pub taken : (t : List ℕ) (d : Description) → describe_of t ≡ «Attributes�
 taken t d e = by (describe_of t) (reason t) e
   where
     by : (r : Described) → Reason t r → r ≡ «Attributes» d → Taken t d
-    by (Refused (Line k)) (at-line h) f = let z : ◌≡◌ {A = ℕ} 0 1 = cc in absurd (omega arith)
-    by (Refused Extra) (behind h l) f = let z : ◌≡◌ {A = ℕ} 0 1 = cc in absurd (omega arith)
-    by («Attributes» x) (whole h l) f =
+    by _ (at-line h) f = let z : ◌≡◌ {A = ℕ} 0 1 = cc in absurd (omega arith)
+    by _ (behind h l) f = let z : ◌≡◌ {A = ℕ} 0 1 = cc in absurd (omega arith)
+    by _ (whole h l) f =
         let s : d ≡ description_in t (found t) = cc in
         let a = fault_lines t in
         let b = fault_rules t in
@@ -152,20 +152,20 @@ pub lowest_fault : LowestFault describe_of
 lowest_fault t k e = by (describe_of t) (reason t) e
   where
     by : (r : Described) → Reason t r → r ≡ Refused (Line k) → (1 ≤ k) × (k ≤ 15) × (SoundLine t k → ⊥) × ((j : ℕ) → 1 ≤ j → j < k → SoundLine t j)
-    by (Refused (Line x)) (at-line h) f =
+    by _ (at-line h) f =
         let s : fault_of t ≡ k = cc in
         let l = fault_some t in
         (omega arith, omega arith, rw s at (not_sound t), λ j a b. sound-before t j a (omega arith))
-    by (Refused Extra) (behind h l) f = let z : ◌≡◌ {A = ℕ} 0 1 = cc in absurd (omega arith)
-    by («Attributes» x) (whole h l) f = let z : ◌≡◌ {A = ℕ} 0 1 = cc in absurd (omega arith)
+    by _ (behind h l) f = let z : ◌≡◌ {A = ℕ} 0 1 = cc in absurd (omega arith)
+    by _ (whole h l) f = let z : ◌≡◌ {A = ℕ} 0 1 = cc in absurd (omega arith)
 
 pub extra_last : ExtraLast describe_of
 extra_last t e j l h = by (describe_of t) (reason t) e
   where
     by : (r : Described) → Reason t r → r ≡ Refused Extra → SoundLine t j
-    by (Refused (Line x)) (at-line m) f = let z : ◌≡◌ {A = ℕ} 0 1 = cc in absurd (omega arith)
-    by (Refused Extra) (behind m o) f = sound-before t j l (omega arith)
-    by («Attributes» x) (whole m o) f = let z : ◌≡◌ {A = ℕ} 0 1 = cc in absurd (omega arith)
+    by _ (at-line m) f = let z : ◌≡◌ {A = ℕ} 0 1 = cc in absurd (omega arith)
+    by _ (behind m o) f = sound-before t j l (omega arith)
+    by _ (whole m o) f = let z : ◌≡◌ {A = ℕ} 0 1 = cc in absurd (omega arith)
 
 -- ---- and a refusal that is due is told
 
@@ -182,14 +182,14 @@ tells_fault t k l m bad good = by (describe_of t) (reason t)
         near (inr a) b = absurd (not_sound t (good (fault_of t) (fault_some t) a))
 
     by : (r : Described) → Reason t r → r ≡ Refused (Line k)
-    by (Refused (Line x)) (at-line h) = ap (λ (n : ℕ). Refused (Line n)) is_fault
-    by (Refused Extra) (behind h n) = let e = is_fault in absurd (omega arith)
-    by («Attributes» x) (whole h n) = let e = is_fault in absurd (omega arith)
+    by _ (at-line h) = ap (λ (n : ℕ). Refused (Line n)) is_fault
+    by _ (behind h n) = let e = is_fault in absurd (omega arith)
+    by _ (whole h n) = let e = is_fault in absurd (omega arith)
 
 pub tells_extra : TellsExtra describe_of
 tells_extra t good more = by (describe_of t) (reason t)
   where
     by : (r : Described) → Reason t r → r ≡ Refused Extra
-    by (Refused (Line x)) (at-line h) = absurd (not_sound t (good (fault_of t) (fault_some t) h))
-    by (Refused Extra) (behind h n) = refl
-    by («Attributes» x) (whole h n) = absurd (omega arith)
+    by _ (at-line h) = absurd (not_sound t (good (fault_of t) (fault_some t) h))
+    by _ (behind h n) = refl
+    by _ (whole h n) = absurd (omega arith)

@@ -40,11 +40,36 @@ loop-j-init c = refl
 pub loop-i-smaller-in-loop-j : goal.loop-i-smaller-in-loop-j
 loop-i-smaller-in-loop-j c = omega arith
 
+pub loop-i-preserved-in-loop-j : goal.loop-i-preserved-in-loop-j
+loop-i-preserved-in-loop-j c =
+    let eight : length c.args.held.places ≡ 8 = search (rules, mapped_length) in
+    let within : c.loop-i.i < length c.args.held.places = omega (arith, eight) in
+    let judged : fits c.args.n (get_or c.args.held.places c.loop-i.i unused) ≡ c.is_sound.result = let p = get_or c.args.held.places c.loop-i.i unused in
+    fits_used c.args.n p (in_use_lem p c.if-p-ne0.true) ∙ sym c.is_sound.ensures in
+    let ps = c.args.held.places in
+    sym
+    (good-yes _ ps c.loop-i.i within (judged ∙ c.if-not-is_sound.false)
+    (sym c.loop-j.invariant ∙ all_end _ ps c.loop-j.j (omega (arith, eight))))
+    ∙ c.loop-i.invariant
+
 pub offset_bounds-held-j : goal.offset_bounds-held-j
 offset_bounds-held-j c = omega arith
 
 pub bounds-held-j : goal.bounds-held-j
 bounds-held-j c = omega arith
+
+pub returns-then-not-do_agree : goal.returns-then-not-do_agree
+returns-then-not-do_agree c =
+    let eight : length c.args.held.places ≡ 8 = search (rules, mapped_length) in
+    let within : c.loop-i.i < length c.args.held.places = omega (arith, eight) in
+    let judged : fits c.args.n (get_or c.args.held.places c.loop-i.i unused) ≡ c.is_sound.result = let p = get_or c.args.held.places c.loop-i.i unused in
+    fits_used c.args.n p (in_use_lem p c.if-p-ne0.true) ∙ sym c.is_sound.ensures in
+    let ps = c.args.held.places in
+    sym
+    (good_clash _ ps c.loop-i.i within (judged ∙ c.if-not-is_sound.false)
+    (sym c.loop-j.invariant
+    ∙ all-no _ ps c.loop-j.j (omega (arith, eight)) (sym c.do_agree.ensures ∙ c.if-not-do_agree.true)))
+    ∙ c.loop-i.invariant
 
 pub overflow_add-j : goal.overflow_add-j
 overflow_add-j c = omega arith

@@ -12,11 +12,22 @@ use Rattle.places.proofs.Named.{not_in_use}
 use Rattle.places.proofs.Steps.{mapped_length}
 use Rattle.places.proofs.Candidates.{Best, best_none, best_unused, best_lower, best_met, best_take, best_at, best_nowhere, lowest_zero, free_said}
 use Rattle.places.proofs.Facts.{usable-limit}
+use Rattle.room.proofs.lowest_start.Goals.{then-p-ne0+then-start-best+then-is_free-2, then-p-ne0+then-start-best+else-is_free-2, then-p-ne0+else-start-best, else-p-ne0}
 use Rattle.room.proofs.lowest_start.Goals as goal
+
+pub returns-then-is_free : goal.returns-then-is_free
+returns-then-is_free c =
+    let a = c.args in
+    sym (lowest_zero a.n a.size a.held.places (free_said _ _ _ 0 _ c.usable-end.ensures c.is_free.ensures c.if-is_free.true))
 
 pub overflow_add-best : goal.overflow_add-best
 overflow_add-best c =
     omega (arith, c.usable-end.ensures, usable-limit c.args.n)
+
+pub loop-i-init : goal.loop-i-init
+loop-i-init c =
+    let a = c.args in
+    rw c.usable-end.ensures (best_none a.n a.size a.held.places)
 
 pub offset_bounds-held-i : goal.offset_bounds-held-i
 offset_bounds-held-i c = omega arith
@@ -29,3 +40,37 @@ overflow_add-i c = omega arith
 
 pub loop-i-smaller : goal.loop-i-smaller
 loop-i-smaller c = omega arith
+
+pub loop-i-preserved : goal.loop-i-preserved
+loop-i-preserved c =
+    let a = c.args in
+    let ps = a.held.places in
+    let i = c.loop-i.i in
+    let b = c.loop-i.best in
+    let h = c.loop-i.invariant in
+    elim c.if-p-ne0.branch [
+      then-p-ne0+then-start-best+then-is_free-2 w ↦
+        rw w.best-is
+        (best_take a.n a.size ps i b h w.end_of-start.result w.end_of-start.ensures w.if-start-best.true
+        (free_said _ _ _ _ _ c.usable-end.ensures w.is_free-then-start-best.ensures w.if-is_free-2.true))
+    | then-p-ne0+then-start-best+else-is_free-2 w ↦
+        rw w.best-is
+        (best_met a.n a.size ps i b h w.end_of-start.result w.end_of-start.ensures
+        (free_said _ _ _ _ _ c.usable-end.ensures w.is_free-then-start-best.ensures w.if-is_free-2.false))
+    | then-p-ne0+else-start-best w ↦ rw w.best-is (best_lower a.n a.size ps i b h w.end_of-start.result w.end_of-start.ensures w.if-start-best.false)
+    | else-p-ne0 w ↦ rw w.best-is (best_unused a.n a.size ps i b h (not_in_use (get_or ps i unused) w.if-p-ne0.false))
+    ]
+
+pub returns-then-best-end : goal.returns-then-best-end
+returns-then-best-end c =
+    let eight : length c.args.held.places ≡ 8 = search (rules, mapped_length) in
+    let a = c.args in
+    sym (best_at a.n a.size a.held.places c.loop-i.i c.loop-i.best c.loop-i.invariant (omega (arith, eight))
+    (free_said _ _ _ 0 _ c.usable-end.ensures c.is_free.ensures c.if-is_free.false) (rw c.usable-end.ensures at c.if-best-end.true))
+
+pub returns-else-best-end : goal.returns-else-best-end
+returns-else-best-end c =
+    let eight : length c.args.held.places ≡ 8 = search (rules, mapped_length) in
+    let a = c.args in
+    sym (best_nowhere a.n a.size a.held.places c.loop-i.i c.loop-i.best c.loop-i.invariant (omega (arith, eight))
+    (free_said _ _ _ 0 _ c.usable-end.ensures c.is_free.ensures c.if-is_free.false) (rw c.usable-end.ensures at c.if-best-end.false))

@@ -28,3 +28,55 @@ returns-then-is_nought c =
     c.nothing.ensures
     ∙ found-told c.args.rest sixteen rest_bytes
     (nothing_left _ [] [] sixteen (c.is_nought.ensures.yes c.if-is_nought.true)) _ (keeping_end (keeping_start [] [] 0) (le_refl 0))
+
+pub solve-solution-requires : goal.solve-solution-requires
+solve-solution-requires c =
+    let bytes : (i : ℕ) → get_or c.null_vector.result i 0 < 256 = λ i. let fit : mir.Val.Fits mir.Syntax.w8 (get_or c.null_vector.result i 0) = search (rules, c.null_vector.type_inv) in fit.fits in
+    let places : Rooted c.null_vector.result c.find-places.result.n c.find-places.result.at = let null = c.null_vector in
+    rooted null.result null.ensures.top null.ensures.short.sized bytes null.ensures.leading c.find-places.result c.find-places.ensures in
+    places.placed
+
+pub returns-then-not-solution : goal.returns-then-not-solution
+returns-then-not-solution c =
+    let sixteen : length c.args.rest ≡ 16 = omega arith in
+    let rest_bytes : Bytes c.args.rest = bytes_of c.args.rest (λ i. let fit : mir.Val.Fits mir.Syntax.w8 (get_or c.args.rest i 0) = search rules in fit.fits) in
+    let bytes : (i : ℕ) → get_or c.null_vector.result i 0 < 256 = λ i. let fit : mir.Val.Fits mir.Syntax.w8 (get_or c.null_vector.result i 0) = search (rules, c.null_vector.type_inv) in fit.fits in
+    let places : Rooted c.null_vector.result c.find-places.result.n c.find-places.result.at = let null = c.null_vector in
+    rooted null.result null.ensures.top null.ensures.short.sized bytes null.ensures.leading c.find-places.result c.find-places.ensures in
+    let value-bytes : (i : ℕ) → get_or c.solve-solution.result.values i 0 < 256 = λ i. let fit : mir.Val.Fits mir.Syntax.w8 (get_or c.solve-solution.result.values i 0) = search rules in fit.fits in
+    let tried : (fits : Bool) → c.solve-solution.result.fits ≡ fits → Searched c.args.rest c.find-places.result.n c.find-places.result.at c.solve-solution.result.values fits = λ fits e. searched
+    (record {
+      syndromes = listed_syndromes c.syndromes-s.ensures;
+      bytes = bytes;
+      null = c.null_vector.ensures;
+      rooted = places;
+      value-bytes = value-bytes;
+      solved = c.solve-solution.ensures.0;
+    }) fits (subst (Agreeing (list_of c.syndromes-s.result) c.find-places.result.at c.solve-solution.result.values c.find-places.result.n) e c.solve-solution.ensures.1) in
+    c.nothing-then-not-solution.ensures ∙ none_told c.args.rest sixteen rest_bytes (tried false (not-true _ c.if-not-solution.true))
+
+pub keep-requires : goal.keep-requires
+keep-requires c =
+    let bytes : (i : ℕ) → get_or c.null_vector.result i 0 < 256 = λ i. let fit : mir.Val.Fits mir.Syntax.w8 (get_or c.null_vector.result i 0) = search (rules, c.null_vector.type_inv) in fit.fits in
+    let places : Rooted c.null_vector.result c.find-places.result.n c.find-places.result.at = let null = c.null_vector in
+    rooted null.result null.ensures.top null.ensures.short.sized bytes null.ensures.leading c.find-places.result c.find-places.ensures in
+    places.ordered
+
+pub returns : goal.returns
+returns c =
+    let sixteen : length c.args.rest ≡ 16 = omega arith in
+    let rest_bytes : Bytes c.args.rest = bytes_of c.args.rest (λ i. let fit : mir.Val.Fits mir.Syntax.w8 (get_or c.args.rest i 0) = search rules in fit.fits) in
+    let bytes : (i : ℕ) → get_or c.null_vector.result i 0 < 256 = λ i. let fit : mir.Val.Fits mir.Syntax.w8 (get_or c.null_vector.result i 0) = search (rules, c.null_vector.type_inv) in fit.fits in
+    let places : Rooted c.null_vector.result c.find-places.result.n c.find-places.result.at = let null = c.null_vector in
+    rooted null.result null.ensures.top null.ensures.short.sized bytes null.ensures.leading c.find-places.result c.find-places.ensures in
+    let value-bytes : (i : ℕ) → get_or c.solve-solution.result.values i 0 < 256 = λ i. let fit : mir.Val.Fits mir.Syntax.w8 (get_or c.solve-solution.result.values i 0) = search rules in fit.fits in
+    let tried : (fits : Bool) → c.solve-solution.result.fits ≡ fits → Searched c.args.rest c.find-places.result.n c.find-places.result.at c.solve-solution.result.values fits = λ fits e. searched
+    (record {
+      syndromes = listed_syndromes c.syndromes-s.ensures;
+      bytes = bytes;
+      null = c.null_vector.ensures;
+      rooted = places;
+      value-bytes = value-bytes;
+      solved = c.solve-solution.ensures.0;
+    }) fits (subst (Agreeing (list_of c.syndromes-s.result) c.find-places.result.at c.solve-solution.result.values c.find-places.result.n) e c.solve-solution.ensures.1) in
+    found-told c.args.rest sixteen rest_bytes (tried true (not-false _ c.if-not-solution.false)) c.keep.result c.keep.ensures

@@ -10,6 +10,7 @@ use Rattle.field.specs.Words.{entry}
 use Rattle.errata.specs.InnerNull.{in_two}
 use Rattle.solving.proofs.Turns.{Keeping, keeping_start, keeping_skip, keeping_more, keeping_mixed, keeping_end, few}
 use Rattle.errata.specs.InnerValues.{list_of}
+use Rattle.solving.proofs.kernel.null_vector.Goals.{then-i-eq0, else-i-eq0}
 use Rattle.solving.proofs.kernel.null_vector.Goals as goal
 
 pub loop-i-init : goal.loop-i-init
@@ -42,6 +43,31 @@ overflow_sub-i c = omega arith
 
 pub overflow_add-l : goal.overflow_add-l
 overflow_add-l c = omega (arith, few c.loop-i.invariant)
+
+pub loop-i-smaller-then-p-eq0 : goal.loop-i-smaller-then-p-eq0
+loop-i-smaller-then-p-eq0 c =
+    let back : c.if-i-eq0.i ≡ c.loop-i.i - 1 = let i : ℕ = c.loop-i.i in
+    elim c.if-i-eq0.branch [
+      then-i-eq0 w ↦
+        let z : i ≡ 0 = w.if-i-eq0.true in
+        let e : ◌≡◌ {A = ℕ} 0 (i - 1) = omega arith in
+        w.i-is ∙ e
+    | else-i-eq0 w ↦ w.i-is
+    ] in
+    omega (arith, few c.loop-i.invariant, back)
+
+pub loop-i-preserved-then-p-eq0 : goal.loop-i-preserved-then-p-eq0
+loop-i-preserved-then-p-eq0 c =
+    let back : c.if-i-eq0.i ≡ c.loop-i.i - 1 = let i : ℕ = c.loop-i.i in
+    elim c.if-i-eq0.branch [
+      then-i-eq0 w ↦
+        let z : i ≡ 0 = w.if-i-eq0.true in
+        let e : ◌≡◌ {A = ℕ} 0 (i - 1) = omega arith in
+        w.i-is ∙ e
+    | else-i-eq0 w ↦ w.i-is
+    ] in
+    let turn : c.loop-i.i < 8 = omega arith in
+    keeping_more c.loop-i.invariant turn c.byte-d.ensures refl c.if-d-eq0.false c.if-p-eq0.true c.shift-next.ensures back
 
 pub offset_bounds-kept-i-else-p-eq0 : goal.offset_bounds-kept-i-else-p-eq0
 offset_bounds-kept-i-else-p-eq0 c = omega arith

@@ -70,3 +70,21 @@ returns-then-solution c =
     → Filled c.args.at c.solve-solution.result.values c.args.n e → e ≡ filling_of c.args.rest c.args.at c.args.n = λ agree. filled-told c.args.rest c.args.at c.args.n falls rest_long rest_bytes at_long c.solve-solution.result.values
     (weighed_fits c.args.rest c.args.at c.args.n falls rest_long rest_bytes at_long weighed agree) in
     told (c.solve-solution.ensures.1.yes c.if-solution.true) c.filled-then-solution.result c.filled-then-solution.ensures
+
+pub returns : goal.returns
+returns c =
+    let rest_long : length c.args.rest ≡ 16 = omega arith in
+    let at_long : length c.args.at ≡ 16 = omega arith in
+    let rest_bytes : Bytes c.args.rest = bytes_of c.args.rest (λ i. let fit : mir.Val.Fits mir.Syntax.w8 (get_or c.args.rest i 0) = search rules in fit.fits) in
+    let falls : falling_to c.args.at c.args.n ≡ true = sym c.falling.ensures ∙ c.if-not-falling.false in
+    let syndromes : List ℕ = list_of c.syndromes.result in
+    let value-bytes : (i : ℕ) → get_or c.solve-solution.result.values i 0 < 256 = λ i. let fit : mir.Val.Fits mir.Syntax.w8 (get_or c.solve-solution.result.values i 0) = search rules in fit.fits in
+    let weighed : Weighed c.args.rest syndromes c.args.n c.args.at c.solve-solution.result.values = record {
+      syndromes = listed_syndromes c.syndromes.ensures;
+      placed = falling-placed _ _ falls;
+      value-bytes = value-bytes;
+      solved = c.solve-solution.ensures.0;
+    } in
+    c.nothing-2.ensures
+    ∙ agreeing_none c.args.rest c.args.at c.args.n falls rest_long rest_bytes at_long weighed
+    (subst (Agreeing syndromes c.args.at c.solve-solution.result.values c.args.n) c.if-solution.false c.solve-solution.ensures.1)

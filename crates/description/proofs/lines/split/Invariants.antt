@@ -1,0 +1,13 @@
+-- Line by line, until one is missing or all fifteen are there. Invariant: what was found stands before what is still found (`Splitting`). The measure is the lines left.
+-- Assumes nothing.
+use Prim.Native.Nat.{◌-◌}
+use native.Mathlib.Omega.{arith}
+use borrow.Author.Tests.{not-true, not-false}
+use Rattle.description.proofs.SplitLaws.{Splitting, splitting_begin, splitting_end, splitting_stop, splitting_more}
+use Rattle.description.proofs.lines.split.Given as goal
+
+abbrev pub invariant-loop-k : goal.invariant-loop-k
+invariant-loop-k l = Splitting l.text l.starts l.lengths l.k l.at
+
+abbrev pub decreases-loop-k : goal.decreases-loop-k
+decreases-loop-k l = 15 - l.k
