@@ -1,4 +1,5 @@
-// The library's C face: each function stands for one call of the crates below, with its answer as one number. include/brithelva.h documents it for C.
+// The library's C face: each function stands for one call of the crates below, with its answer as one number. Crate brithelva_c exports them, and
+// include/brithelva.h documents them for C.
 #![tactic(auto)]
 
 ghost use Rattle.std.specs.Prelude.{◌≡◌, true, false, length};
@@ -21,16 +22,14 @@ const NO_RECORD: u64 = 9;
 const NOT_THIRTY: u64 = 17;
 
 // The CRC-32 of the bytes.
-#[unsafe(no_mangle)]
-pub extern "C" fn bh_crc32(bytes: &[u8]) -> u32
+pub fn bh_crc32(bytes: &[u8]) -> u32
     ensures { result ≡ crc32_of bytes.now }
 {
     checksum::crc32(bytes)
 }
 
 // The checks of 239 information bytes, at the start of `checks`.
-#[unsafe(no_mangle)]
-pub extern "C" fn bh_encode_row(info: &[u8], checks: &mut [u8]) -> u64
+pub fn bh_encode_row(info: &[u8], checks: &mut [u8]) -> u64
     ensures { Says (encode_says info.now checks.old) result checks.new }
 {
     let made = encoding::encode_row(info);
@@ -39,8 +38,7 @@ pub extern "C" fn bh_encode_row(info: &[u8], checks: &mut [u8]) -> u64
 }
 
 // The row of 255 bytes as repaired, at the start of `fixed`. The value is the number of bytes mended.
-#[unsafe(no_mangle)]
-pub extern "C" fn bh_repair_row(row: &[u8], fixed: &mut [u8]) -> u64
+pub fn bh_repair_row(row: &[u8], fixed: &mut [u8]) -> u64
     ensures { Says (repair_says row.now fixed.old) result fixed.new }
 {
     let mended = single::repair_row(row);
@@ -50,16 +48,14 @@ pub extern "C" fn bh_repair_row(row: &[u8], fixed: &mut [u8]) -> u64
 }
 
 // The fields of a packet as nine numbers and its edition, at the start of `fields`.
-#[unsafe(no_mangle)]
-pub extern "C" fn bh_read_fields(packet: &[u8], fields: &mut [u32]) -> u64
+pub fn bh_read_fields(packet: &[u8], fields: &mut [u32]) -> u64
     ensures { Says (read_says true packet.now fields.old) result fields.new }
 {
     put_reading(fields::read_fields(packet), fields)
 }
 
 // The same without refusal 7, for packets of either order.
-#[unsafe(no_mangle)]
-pub extern "C" fn bh_read_header(packet: &[u8], fields: &mut [u32]) -> u64
+pub fn bh_read_header(packet: &[u8], fields: &mut [u32]) -> u64
     ensures { Says (read_says false packet.now fields.old) result fields.new }
 {
     put_reading(fields::read_header(packet), fields)
@@ -76,8 +72,7 @@ fn put_reading(reading: Reading, fields: &mut [u32]) -> u64
 }
 
 // Packet `number` of a file in an edition and an order, at the start of `out`. The value is its length.
-#[unsafe(no_mangle)]
-pub extern "C" fn bh_pack_as(
+pub fn bh_pack_as(
     file: &[u8],
     resource: u16,
     kind: u8,
@@ -107,8 +102,7 @@ pub extern "C" fn bh_pack_as(
 }
 
 // The same in the edition and the order that are meant where none is named.
-#[unsafe(no_mangle)]
-pub extern "C" fn bh_pack(
+pub fn bh_pack(
     file: &[u8],
     resource: u16,
     kind: u8,
@@ -137,8 +131,7 @@ pub extern "C" fn bh_pack(
 }
 
 // The same under the house setting.
-#[unsafe(no_mangle)]
-pub extern "C" fn bh_pack_house(
+pub fn bh_pack_house(
     file: &[u8],
     resource: u16,
     kind: u8,
@@ -164,8 +157,7 @@ fn put_kept(held: &mut [u8], kept: Kept) -> u64
 }
 
 // Opens a place of the record in an edition and an order: the record's bytes and the slots' lengths in the store change, or nothing does.
-#[unsafe(no_mangle)]
-pub extern "C" fn bh_open_as(
+pub fn bh_open_as(
     held: &mut [u8],
     store: &mut [u8],
     resource: u16,
@@ -198,8 +190,7 @@ pub extern "C" fn bh_open_as(
 }
 
 // The same in the edition and the order that are meant where none is named.
-#[unsafe(no_mangle)]
-pub extern "C" fn bh_open(
+pub fn bh_open(
     held: &mut [u8],
     store: &mut [u8],
     resource: u16,
@@ -228,8 +219,7 @@ pub extern "C" fn bh_open(
 }
 
 // The same under the house setting.
-#[unsafe(no_mangle)]
-pub extern "C" fn bh_open_house(
+pub fn bh_open_house(
     held: &mut [u8],
     store: &mut [u8],
     resource: u16,
@@ -248,8 +238,7 @@ pub extern "C" fn bh_open_house(
 }
 
 // Offers a packet to the record, which is only read. The value is twice the bytes mended, and 1 more for a repeat.
-#[unsafe(no_mangle)]
-pub extern "C" fn bh_offer(held: &[u8], store: &mut [u8], packet: &[u8]) -> u64
+pub fn bh_offer(held: &[u8], store: &mut [u8], packet: &[u8]) -> u64
     ensures { Keeps (offer_says held.now store.old packet.now) result held.now store.new }
 {
     if held.len() != holding::RECORD {
@@ -260,8 +249,7 @@ pub extern "C" fn bh_offer(held: &[u8], store: &mut [u8], packet: &[u8]) -> u64
 }
 
 // How a resource and type stand: the value is the filled slots + 2^24 · (the lowest empty one + 1), with 0 for the latter where none is empty.
-#[unsafe(no_mangle)]
-pub extern "C" fn bh_status(held: &[u8], store: &[u8], resource: u16, kind: u8) -> u64
+pub fn bh_status(held: &[u8], store: &[u8], resource: u16, kind: u8) -> u64
     ensures { result ≡ status_says held.now store.now (record { resource = resource; kind = kind }) }
 {
     if held.len() != holding::RECORD {
@@ -272,8 +260,7 @@ pub extern "C" fn bh_status(held: &[u8], store: &[u8], resource: u16, kind: u8) 
 }
 
 // A collected file of `length` bytes, at the start of `out`. Record and store are only read.
-#[unsafe(no_mangle)]
-pub extern "C" fn bh_hand_out(
+pub fn bh_hand_out(
     held: &[u8],
     store: &[u8],
     resource: u16,
@@ -292,8 +279,7 @@ pub extern "C" fn bh_hand_out(
 }
 
 // Closes the place of a resource and type. The store is only read.
-#[unsafe(no_mangle)]
-pub extern "C" fn bh_close(held: &mut [u8], store: &[u8], resource: u16, kind: u8) -> u64
+pub fn bh_close(held: &mut [u8], store: &[u8], resource: u16, kind: u8) -> u64
     ensures { Keeps (close_says held.old store.now (record { resource = resource; kind = kind })) result held.new store.now }
 {
     if held.len() != holding::RECORD {
@@ -304,8 +290,7 @@ pub extern "C" fn bh_close(held: &mut [u8], store: &[u8], resource: u16, kind: u
 }
 
 // The attributes of a description file as thirty numbers, at the start of `values`.
-#[unsafe(no_mangle)]
-pub extern "C" fn bh_read_description(text: &[u8], values: &mut [u64]) -> u64
+pub fn bh_read_description(text: &[u8], values: &mut [u64]) -> u64
     ensures { Says (describe_says text.now values.old) result values.new }
 {
     match description::read(text) {
@@ -315,8 +300,7 @@ pub extern "C" fn bh_read_description(text: &[u8], values: &mut [u64]) -> u64
 }
 
 // The description file of thirty numbers whose texts are parts of `text`, at the start of `out`. The value is its length.
-#[unsafe(no_mangle)]
-pub extern "C" fn bh_write_description(values: &[u64], text: &[u8], out: &mut [u8]) -> u64
+pub fn bh_write_description(values: &[u64], text: &[u8], out: &mut [u8]) -> u64
     ensures { Says (compose_says values.now text.now out.old) result out.new }
 {
     if values.len() != 30 {
