@@ -1,6 +1,6 @@
 # Targets of the repository; README.md names the two that a newcomer needs (demo, test).
 # The proved library is compiled for x86-64. On another processor the command is built by Debian's cross compiler and run
-# under the kit's emulator; build/run is the same word on both.
+# under an emulator; build/run is the same word on both.
 VERSION = 6.0
 PREFIX = /usr/local
 DESTDIR =
@@ -16,18 +16,22 @@ LINK = -static
 endif
 CFLAGS = -std=gnu11 -O2 -Wall -Wextra -Wconversion -Iinclude
 # what the library is made from: a change of any of these makes it anew
-sources = crates.txt $(shell find crates -path '*/must-fail' -prune -o -type f -print)
+sources = crates.txt $(shell find crates \( -name must-fail -o -name out \) -prune -o -type f -print)
+# as many checks at a time as there are processors, and 4 GB for each
+checks = $(shell awk -v n="$$(nproc)" '/^MemAvailable/ { m = int($$2 / 4000000); print m < 1 ? 1 : m < n ? m : n }' /proc/meminfo)
 command = $(wildcard command/*.c command/*.h) include/brithelva.h
 
 .PHONY: all test quick left-out style reference reference-itself reference-cases cases demo library command safety checked checked-command checked-safety kill steps limits transcript largest example bench fuzz install uninstall clean
 
 all: build/run
 
+# `rt all check` proves several crates at a time; `rt lib` decides, proves one after the other what is left, and compiles
 build/libbrithelva.a: $(sources)
 	@mkdir -p build
-	@echo 'proving the library and compiling it: a few minutes'
-	@rt staticlib brithelva >build/library.log 2>&1 || { cat build/library.log; exit 1; }
-	@cp target/staticlib/libbrithelva.a $@
+	@echo 'proving the library and compiling it: many minutes the first time'
+	@rt all check --jobs $(checks) >build/library.log 2>&1 || true
+	@cd crates/brithelva_c && rt lib >>../../build/library.log 2>&1 || { cat ../../build/library.log; exit 1; }
+	@cp crates/brithelva_c/out/libbrithelva_c.a $@
 
 build/brithelva: build/libbrithelva.a $(command) Makefile
 	@$(tools) $(CC_FOR)
@@ -41,7 +45,7 @@ build/run: build/brithelva
 demo: build/run
 	@tests/demo build/run
 
-# ---- tests. `test` is the gate: what shows a fault in seconds, then every proof and every wrong edit from nothing (`rt ci`), then what runs on the
+# ---- tests. `test` is the gate: what shows a fault in seconds, then every proof and every wrong edit (`rt ci`), then what runs on the
 # proved library. tests/gate runs these parts one by one, and beside each other what a + joins; its last line counts what passed.
 before = style reference
 in_c = library command safety+kill limits+transcript example fuzz+largest+steps
@@ -64,7 +68,6 @@ style:
 	@tests/style-test
 	@tests/gate-test
 	@tests/style
-	@rt fmt --check
 
 # the second program: its own tests, and its output beside that of the program `cases`
 reference:
@@ -74,19 +77,21 @@ reference-itself:
 reference-cases:
 	@reference/compare
 
-# the proved program `cases` on random files of cases, which the second program answers; its own file of cases is run by every `rt check`
-cases:
-	@rt check cases
-	@tests/random-cases
+# the proved program `cases` on random files of cases, which the second program answers; its own file of cases is run by every `rt ci`
+cases: build/cases
+	@tests/random-cases build/cases
 
-# the library, and on x86-64 the one that a fuzzer sees into. For each `rt` proves `brithelva` itself once more, and nothing below it: so beside each other
-ifeq ($(machine),x86_64)
-library:
+# where `rt ci` has made it, the gate puts it here
+build/cases: $(sources)
 	@mkdir -p build
-	@rt check brithelva >build/library.log 2>&1 || { cat build/library.log; exit 1; }
-	@$(MAKE) --no-print-directory -j2 beside=yes build/libbrithelva.a build/watched.a
-else
+	@cd crates/cases && rt run <stdin >../../build/cases.stdout 2>../../build/cases.log || { cat ../../build/cases.log; exit 1; }
+	@cmp build/cases.stdout crates/cases/stdout
+	@cp crates/cases/out/cases $@
+
+# the library, and on x86-64 the one that a fuzzer sees into, for which `rt` proves `brithelva_c` itself once more, and nothing below it
 library: build/libbrithelva.a
+ifeq ($(machine),x86_64)
+library: build/watched.a
 endif
 
 command: build/run
@@ -151,7 +156,7 @@ fuzz: build/run
 	@fuzz/run $(SECONDS) $(SEED)
 
 # empty where it cannot be had
-build/watched.a: $(if $(beside),,build/libbrithelva.a) fuzz/watched $(sources)
+build/watched.a: build/libbrithelva.a fuzz/watched $(sources)
 	@fuzz/watched $@ >build/watched.log 2>&1 || { echo 'fuzz: the fuzzer does not see into the library here'; : >$@; }
 
 # ---- times beside other libraries, on this machine's own processor
@@ -184,4 +189,4 @@ uninstall:
 	rm -rf $(DESTDIR)$(PREFIX)/libexec/brithelva
 
 clean:
-	rm -rf build target
+	rm -rf build crates/*/out
