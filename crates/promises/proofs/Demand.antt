@@ -247,7 +247,7 @@ module _ (g : Settings) (file : List ℕ) (p : Protected g file) (i start : ℕ)
       record { collecting = b.collecting; keeps = λ n h. b.keeps n (a.keeps n h) }
 
   -- a copy somewhere in the list leaves its packet there
-  pub offered_run : {cs : List Call} (n : ℕ) → n < count_of g (length file) → Offers g file n cs → AllFair g file cs → (x : State) → Collecting x → Has n (run step cs x).state
+  pub offered_run : (n : ℕ) {cs : List Call} → n < count_of g (length file) → Offers g file n cs → AllFair g file cs → (x : State) → Collecting x → Has n (run step cs x).state
   offered_run n below (Offers.here {q} {cs} cp) (AllFair.next f fs) x k =
       let a = copy_go n below q cp x k in
       (fair-run fs (step (offering q) x).state a.0.collecting).keeps n a.1

@@ -65,8 +65,8 @@ returns-in-13 c = at-line c.args.d _ 13 _ c.in-13.is c.time-in-13.ensures
 pub returns-in_default : goal.returns-in_default
 unfolding pieces
 returns-in_default c =
-    let last : c.args.k ≡ 14 = let k = c.args.k in
-    let r = c.in_default-own.rest in
+    let k = c.args.k in
+    let r = c.in_default.in_default-own.rest in
     let p = r.0.0.0.0.0.0.0.0.0.0 in
     let q = r.0.0.0.0.0.0 in
     let s = r.0.0 in
@@ -74,5 +74,5 @@ returns-in_default c =
     let b = up k 7 (up k 6 (up k 5 (up k 4 a q.0.0.0.1) q.0.0.1) q.0.1) q.1 in
     let e = up k 11 (up k 10 (up k 9 (up k 8 b s.0.0.0.1) s.0.0.1) s.0.1) s.1 in
     let f : 14 ≤ k = up k 13 (up k 12 e r.0.1) r.1 in
-    omega arith in
+    let last : k ≡ 14 = omega arith in
     at-line c.args.d _ 14 _ last c.number-in_default.ensures

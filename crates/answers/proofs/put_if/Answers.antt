@@ -1,0 +1,19 @@
+-- An accepted verdict puts the bytes; a refused one is answered, and the output stays.
+use Rattle.face.proofs.SayLaws.{puts_accepted, puts-refused}
+use native.Mathlib.Omega.{arith}
+use Rattle.answers.proofs.put_if.Goals as goal
+
+pub enum_told-1 : goal.enum_told-1
+enum_told-1 c = omega arith
+
+pub enum_known-verdict : goal.enum_known-verdict
+enum_known-verdict c = omega arith
+
+pub shape_of-out : goal.shape_of-out
+shape_of-out c = omega arith
+
+pub returns-in-Accepted : goal.returns-in-Accepted
+returns-in-Accepted c = puts_accepted _ _ _ _ _ c.in-Accepted.is c.put.ensures
+
+pub returns-in-Refused : goal.returns-in-Refused
+returns-in-Refused c = puts-refused _ _ _ _ _ c.in-Refused.is c.refused.ensures

@@ -1,0 +1,84 @@
+-- The pass over the lengths rules out the refusals 15 and 21 and gives the joined length; then every slot is filled. Without protection the refusals 23 and 26
+-- are ruled out, in this order, and the payloads are the file.
+use mathlib.Core.Path.{◌≡◌, sym, ◌∙◌}
+use mathlib.Core.List.{List}
+use Prim.Native.Nat.{ℕ}
+use native.Mathlib.Omega.{arith}
+use borrow.Author.Tests.{not-true, not-false}
+use Rattle.contents.specs.Contents.{contents, joined}
+use Rattle.standing.proofs.SurveyLaws.{Tallied, Sees, sees}
+use Rattle.handing.specs.Hand.{hand_joined, hand_contents}
+use Rattle.columns.proofs.HandLaws.{comes_from}
+use Rattle.handing.proofs.HandCases.{plain_size, plain-output, plain-file, joined-rows, contents-slot, contents_missing, contents-full}
+use Rattle.handing.proofs.hand.hand_usable.Goals as goal
+
+pub returns-then-not-seen : goal.returns-then-not-seen
+returns-then-not-seen c =
+    let seen : Sees c.args.p (contents c.args.p c.args.store.now) c.survey-seen.result = sees _ _ c.requires.ends _ c.survey-seen.ensures in
+    contents-slot _ _ _ _ (seen.wrong (not-true _ c.if-not-seen.true))
+
+pub returns-then-seen-p : goal.returns-then-seen-p
+returns-then-seen-p c =
+    let seen : Sees c.args.p (contents c.args.p c.args.store.now) c.survey-seen.result = sees _ _ c.requires.ends _ c.survey-seen.ensures in
+    let tallied : Tallied c.args.p (contents c.args.p c.args.store.now) c.survey-seen.result = seen.sound (not-false _ c.if-not-seen.false) in
+    let t = tallied in contents_missing _ _ _ _ t.right c.requires.by_rows _ (t.some c.if-seen-p.true)
+
+pub hand_rows-requires : goal.hand_rows-requires
+hand_rows-requires c =
+    let seen : Sees c.args.p (contents c.args.p c.args.store.now) c.survey-seen.result = sees _ _ c.requires.ends _ c.survey-seen.ensures in
+    let tallied : Tallied c.args.p (contents c.args.p c.args.store.now) c.survey-seen.result = seen.sound (not-false _ c.if-not-seen.false) in
+    let t = tallied in
+    let u = c.requires in
+    let d = c.if-p-ne0.true in
+    (record { filled = record { ends = u.ends; right = t.right }; protected = d; by_rows = u.by_rows; least = u.rows d }, t.bytes)
+
+pub shape_of-out-then-p-ne0 : goal.shape_of-out-then-p-ne0
+shape_of-out-then-p-ne0 c = omega arith
+
+pub returns-then-p-ne0 : goal.returns-then-p-ne0
+returns-then-p-ne0 c =
+    let seen : Sees c.args.p (contents c.args.p c.args.store.now) c.survey-seen.result = sees _ _ c.requires.ends _ c.survey-seen.ensures in
+    let tallied : Tallied c.args.p (contents c.args.p c.args.store.now) c.survey-seen.result = seen.sound (not-false _ c.if-not-seen.false) in
+    let full : (n : ℕ) (out : List ℕ)
+    → hand_contents c.args.p (contents c.args.p c.args.store.now) n out
+    ≡ hand_joined c.args.p (joined (contents c.args.p c.args.store.now)) n out = λ n out. let t = tallied in contents-full _ _ n out t.right c.requires.by_rows (t.none c.if-seen-p.false) in
+    comes_from (full _ _ ∙ joined-rows _ _ _ _ c.if-p-ne0.true) c.hand_rows.ensures
+
+pub returns-then-n-bytes : goal.returns-then-n-bytes
+returns-then-n-bytes c =
+    let seen : Sees c.args.p (contents c.args.p c.args.store.now) c.survey-seen.result = sees _ _ c.requires.ends _ c.survey-seen.ensures in
+    let tallied : Tallied c.args.p (contents c.args.p c.args.store.now) c.survey-seen.result = seen.sound (not-false _ c.if-not-seen.false) in
+    let full : (n : ℕ) (out : List ℕ)
+    → hand_contents c.args.p (contents c.args.p c.args.store.now) n out
+    ≡ hand_joined c.args.p (joined (contents c.args.p c.args.store.now)) n out = λ n out. let t = tallied in contents-full _ _ n out t.right c.requires.by_rows (t.none c.if-seen-p.false) in
+    comes_from (full _ _) (plain_size _ _ _ _ c.if-p-ne0.false (λ e. c.if-n-bytes.true (e ∙ sym tallied.bytes)))
+
+pub returns-then-out-bytes : goal.returns-then-out-bytes
+returns-then-out-bytes c =
+    let seen : Sees c.args.p (contents c.args.p c.args.store.now) c.survey-seen.result = sees _ _ c.requires.ends _ c.survey-seen.ensures in
+    let tallied : Tallied c.args.p (contents c.args.p c.args.store.now) c.survey-seen.result = seen.sound (not-false _ c.if-not-seen.false) in
+    let full : (n : ℕ) (out : List ℕ)
+    → hand_contents c.args.p (contents c.args.p c.args.store.now) n out
+    ≡ hand_joined c.args.p (joined (contents c.args.p c.args.store.now)) n out = λ n out. let t = tallied in contents-full _ _ n out t.right c.requires.by_rows (t.none c.if-seen-p.false) in
+    let l = tallied.bytes in
+    comes_from (full _ _) (plain-output _ _ _ _ c.if-p-ne0.false (c.if-n-bytes.false ∙ l) _ l c.if-out-bytes.true)
+
+pub write_plain-requires : goal.write_plain-requires
+write_plain-requires c =
+    let seen : Sees c.args.p (contents c.args.p c.args.store.now) c.survey-seen.result = sees _ _ c.requires.ends _ c.survey-seen.ensures in
+    let tallied : Tallied c.args.p (contents c.args.p c.args.store.now) c.survey-seen.result = seen.sound (not-false _ c.if-not-seen.false) in
+    let t = tallied in
+    (record { ends = c.requires.ends; right = t.right }, omega (arith, t.bytes, c.if-out-bytes.false))
+
+pub shape_of-out : goal.shape_of-out
+shape_of-out c = omega arith
+
+pub returns : goal.returns
+returns c =
+    let seen : Sees c.args.p (contents c.args.p c.args.store.now) c.survey-seen.result = sees _ _ c.requires.ends _ c.survey-seen.ensures in
+    let tallied : Tallied c.args.p (contents c.args.p c.args.store.now) c.survey-seen.result = seen.sound (not-false _ c.if-not-seen.false) in
+    let full : (n : ℕ) (out : List ℕ)
+    → hand_contents c.args.p (contents c.args.p c.args.store.now) n out
+    ≡ hand_joined c.args.p (joined (contents c.args.p c.args.store.now)) n out = λ n out. let t = tallied in contents-full _ _ n out t.right c.requires.by_rows (t.none c.if-seen-p.false) in
+    let l = tallied.bytes in
+    comes_from (full _ _) (plain-file _ _ _ _ c.if-p-ne0.false (c.if-n-bytes.false ∙ l) _ l c.if-out-bytes.false _ c.write_plain.ensures)

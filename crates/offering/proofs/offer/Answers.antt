@@ -1,0 +1,115 @@
+-- The record is judged, the place that the packet names is found, the fields are read as that place has them; the rest is `offer_at`. A good record's place is sound.
+use mathlib.Core.Path.{◌≡◌, sym, ap, ◌∙◌}
+use mathlib.Core.Bool.{true, not}
+use Prim.Native.Nat.{◌<◌}
+use native.Mathlib.Omega.{arith}
+use borrow.Author.Rules.{rules}
+use borrow.Author.Tests.{not-true, not-false}
+use lib.Dec.{eqb}
+use lib.ListN.{length, get_or}
+use Rattle.packet.specs.declared.Reading.TheVariants.{Sent}
+use Rattle.packet.specs.Packet.{read_by}
+use Rattle.places.specs.declared.Found.TheVariants.{At}
+use Rattle.places.specs.Places.{Name, unused, names, good, place_named}
+use Rattle.places.proofs.Steps.{mapped_length}
+use Rattle.places.proofs.Keeping.{good-at}
+use Rattle.places.proofs.Holders.{found-names}
+use Rattle.record.specs.Offer.{name_in}
+use Rattle.record.proofs.OfferCases.{told, come, refusal_read, offer_bad}
+use Rattle.record.proofs.OfferReads.{offer-short, offer-nowhere, offer_unread_at, named-at, offer-read-at}
+use Rattle.offering.proofs.offer.Goals as goal
+
+pub returns-then-not-is_good : goal.returns-then-not-is_good
+returns-then-not-is_good c = told (offer_bad _ _ _ (sym c.is_good.ensures ∙ c.if-not-is_good.true))
+
+pub overflow_add-t-14 : goal.overflow_add-t-14
+overflow_add-t-14 c = omega arith
+
+pub overflow_add-t-15 : goal.overflow_add-t-15
+overflow_add-t-15 c = omega arith
+
+pub returns-then-packet : goal.returns-then-packet
+returns-then-packet c =
+    let well : good (length c.args.store.now) c.args.held.places ≡ true = sym c.is_good.ensures ∙ c.if-not-is_good.false in
+    told (offer-short _ _ _ well (omega arith))
+
+pub resource_in-requires : goal.resource_in-requires
+resource_in-requires c = omega arith
+
+pub kind_in-requires : goal.kind_in-requires
+kind_in-requires c = omega arith
+
+pub enum_known-i : goal.enum_known-i
+enum_known-i c = omega arith
+
+pub enum_told-1 : goal.enum_told-1
+enum_told-1 c = omega arith
+
+pub returns-in_default : goal.returns-in_default
+returns-in_default c =
+    let well : good (length c.args.store.now) c.args.held.places ≡ true = sym c.is_good.ensures ∙ c.if-not-is_good.false in
+    let name : ◌≡◌ {A = Name} (record { resource = c.resource_in.result; kind = c.kind_in.result }) (name_in c.args.packet.now) = λ i. record { resource = c.resource_in.ensures i; kind = c.kind_in.ensures i } in
+    let found : place_named c.args.held.places (name_in c.args.packet.now) ≡ c.find_place.result = sym (c.find_place.ensures ∙ ap (place_named c.args.held.places) name) in
+    let s = c.args in
+    told (offer-nowhere s.held s.store.now s.packet.now well (found ∙ c.in_default.is) _ c.offer_nowhere.ensures)
+
+pub offset_bounds-held-i : goal.offset_bounds-held-i
+offset_bounds-held-i c =
+    let name : ◌≡◌ {A = Name} (record { resource = c.resource_in.result; kind = c.kind_in.result }) (name_in c.args.packet.now) = λ i. record { resource = c.resource_in.ensures i; kind = c.kind_in.ensures i } in
+    let found : place_named c.args.held.places (name_in c.args.packet.now) ≡ c.find_place.result = sym (c.find_place.ensures ∙ ap (place_named c.args.held.places) name) in
+    let named : place_named c.args.held.places (name_in c.args.packet.now) ≡ At c.in-At.i = found ∙ c.in-At.is in
+    let eight : length c.args.held.places ≡ 8 = search (rules, mapped_length) in
+    let below : c.in-At.i < 8 = omega (arith, (found-names _ _ _ named).0, eight) in
+    omega (arith, below)
+
+pub bounds-held-i : goal.bounds-held-i
+bounds-held-i c =
+    let name : ◌≡◌ {A = Name} (record { resource = c.resource_in.result; kind = c.kind_in.result }) (name_in c.args.packet.now) = λ i. record { resource = c.resource_in.ensures i; kind = c.kind_in.ensures i } in
+    let found : place_named c.args.held.places (name_in c.args.packet.now) ≡ c.find_place.result = sym (c.find_place.ensures ∙ ap (place_named c.args.held.places) name) in
+    let named : place_named c.args.held.places (name_in c.args.packet.now) ≡ At c.in-At.i = found ∙ c.in-At.is in
+    let eight : length c.args.held.places ≡ 8 = search (rules, mapped_length) in
+    let below : c.in-At.i < 8 = omega (arith, (found-names _ _ _ named).0, eight) in
+    below
+
+pub enum_known-reading : goal.enum_known-reading
+enum_known-reading c = omega arith
+
+pub enum_told-in_default-reading : goal.enum_told-in_default-reading
+enum_told-in_default-reading c = omega arith
+
+pub returns-in_default-reading : goal.returns-in_default-reading
+returns-in_default-reading c =
+    let well : good (length c.args.store.now) c.args.held.places ≡ true = sym c.is_good.ensures ∙ c.if-not-is_good.false in
+    let name : ◌≡◌ {A = Name} (record { resource = c.resource_in.result; kind = c.kind_in.result }) (name_in c.args.packet.now) = λ i. record { resource = c.resource_in.ensures i; kind = c.kind_in.ensures i } in
+    let found : place_named c.args.held.places (name_in c.args.packet.now) ≡ c.find_place.result = sym (c.find_place.ensures ∙ ap (place_named c.args.held.places) name) in
+    let named : place_named c.args.held.places (name_in c.args.packet.now) ≡ At c.in-At.i = found ∙ c.in-At.is in
+    let s = c.args in
+    told (offer_unread_at s.held s.store.now s.packet.now well _ named _ (sym c.read_at-reading.ensures ∙ refusal_read _ _ _ c.in_default-reading.is c.refusal_in.ensures))
+
+pub offer_at-requires : goal.offer_at-requires
+offer_at-requires c =
+    let well : good (length c.args.store.now) c.args.held.places ≡ true = sym c.is_good.ensures ∙ c.if-not-is_good.false in
+    let name : ◌≡◌ {A = Name} (record { resource = c.resource_in.result; kind = c.kind_in.result }) (name_in c.args.packet.now) = λ i. record { resource = c.resource_in.ensures i; kind = c.kind_in.ensures i } in
+    let found : place_named c.args.held.places (name_in c.args.packet.now) ≡ c.find_place.result = sym (c.find_place.ensures ∙ ap (place_named c.args.held.places) name) in
+    let named : place_named c.args.held.places (name_in c.args.packet.now) ≡ At c.in-At.i = found ∙ c.in-At.is in
+    let read : read_by (not (eqb (get_or c.args.held.places c.in-At.i unused).order 1)) c.args.packet.now ≡ Sent c.in-Sent.fields = sym c.read_at-reading.ensures ∙ c.in-Sent.is in
+    let s = c.args in
+    let g = well in
+    let w = named in
+    let r = read in
+    let n = found-names _ _ _ w in
+    let p = get_or s.held.places c.in-At.i unused in
+    (r, good-at _ _ _ g n.0, ap (names p) (named-at s.held s.store.now s.packet.now g _ w _ r) ∙ n.1)
+
+pub shape_of-store : goal.shape_of-store
+shape_of-store c = omega arith
+
+pub returns : goal.returns
+returns c =
+    let well : good (length c.args.store.now) c.args.held.places ≡ true = sym c.is_good.ensures ∙ c.if-not-is_good.false in
+    let name : ◌≡◌ {A = Name} (record { resource = c.resource_in.result; kind = c.kind_in.result }) (name_in c.args.packet.now) = λ i. record { resource = c.resource_in.ensures i; kind = c.kind_in.ensures i } in
+    let found : place_named c.args.held.places (name_in c.args.packet.now) ≡ c.find_place.result = sym (c.find_place.ensures ∙ ap (place_named c.args.held.places) name) in
+    let named : place_named c.args.held.places (name_in c.args.packet.now) ≡ At c.in-At.i = found ∙ c.in-At.is in
+    let read : read_by (not (eqb (get_or c.args.held.places c.in-At.i unused).order 1)) c.args.packet.now ≡ Sent c.in-Sent.fields = sym c.read_at-reading.ensures ∙ c.in-Sent.is in
+    let s = c.args in
+    come (offer-read-at s.held s.store.now s.packet.now well _ named _ read) c.offer_at.ensures

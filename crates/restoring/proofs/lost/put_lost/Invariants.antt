@@ -1,0 +1,12 @@
+-- One place a turn. Invariant: the values of the first k places are put in. The measure is how many are left.
+-- Assumes nothing.
+use Prim.Native.Nat.{◌-◌}
+use native.Mathlib.Omega.{arith}
+use Rattle.columns.proofs.Putting.{Puts, puts_first, puts-more, puts_end}
+use Rattle.restoring.proofs.lost.put_lost.Given as goal
+
+abbrev pub invariant-loop-k : goal.invariant-loop-k
+invariant-loop-k l = Puts l.m l.n l.base l.at l.values l.lost l.initial.out l.out l.k
+
+abbrev pub decreases-loop-k : goal.decreases-loop-k
+decreases-loop-k l = l.lost - l.k
