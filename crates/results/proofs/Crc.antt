@@ -1,5 +1,6 @@
 -- One result (document 01, section 7) of each public call of crate crc, by that call's own contract.
 -- Assumes nothing.
+use borrow.Fn.Kinds.{ended_of}
 use mathlib.Core.Path.{◌≡◌, refl, sym, ap, ◌∙◌}
 use mathlib.Core.List.{List}
 use Prim.Native.Nat.{ℕ, ◌/◌, ◌%◌, ◌<◌}
@@ -20,8 +21,8 @@ same-table r s p q = ext_get_or 0 r s (p.size ∙ sym q.size) (λ i h. at r p i 
     at t u i h =
         ap (λ (j : ℕ). get_or t j 0) (sym (div-add-mod' i 16)) ∙ u.entry (i / 16) (i % 16) (omega (arith, u.size)) (mod-lt i (zero-lt-suc 15))
 
-pub table_one : OneResult crc.table.ended crc.table.Reads.Learnt
+pub table_one : OneResult (ended_of _ crc.table.Kinds.ps crc.table.Kinds.r) crc.table.Reads.Learnt
 table_one κs a r s d e p q = (same-table r s p q, refl)
 
-pub feed_by_one : OneResult crc.feed_by.ended crc.feed_by.Reads.Learnt
+pub feed_by_one : OneResult (ended_of _ crc.feed_by.Kinds.ps crc.feed_by.Kinds.r) crc.feed_by.Reads.Learnt
 feed_by_one κs a r s d e p q = (equation p q, refl)

@@ -1,5 +1,6 @@
 -- One result (document 01, section 7) of each public call of crate field, by that call's own contract.
 -- Assumes nothing.
+use borrow.Fn.Kinds.{ended_of}
 use mathlib.Core.Path.{◌≡◌, refl, sym, ap, ◌∙◌}
 use mathlib.Core.Bool.{Bool, true, false}
 use mathlib.Core.List.{List}
@@ -34,20 +35,20 @@ same_inverse a r s p q = split (eqb a 0) refl
         ∙ ap (λ (x : ℕ). product x s) (p.of_other (eqb-false a 0 e))
         ∙ product_one s q.byte
 
-pub powers_one : OneResult field.powers.ended field.powers.Reads.Learnt
+pub powers_one : OneResult (ended_of _ field.powers.Kinds.ps field.powers.Kinds.r) field.powers.Reads.Learnt
 powers_one κs a r s d e p q = (same_powers r s p q, refl)
 
-pub doubles_one : OneResult field.doubles.ended field.doubles.Reads.Learnt
+pub doubles_one : OneResult (ended_of _ field.doubles.Kinds.ps field.doubles.Kinds.r) field.doubles.Reads.Learnt
 doubles_one κs a r s d e p q = (same_bytes r s p.word q.word (λ k h. equation (p.entry k h) (q.entry k h)), refl)
 
-pub products_one : OneResult field.products.ended field.products.Reads.Learnt
+pub products_one : OneResult (ended_of _ field.products.Kinds.ps field.products.Kinds.r) field.products.Reads.Learnt
 products_one κs a r s d e p q = (same_entries r s p.words q.words (λ k h. equation (p.entry k h) (q.entry k h)), refl)
 
-pub inverses_one : OneResult field.inverses.ended field.inverses.Reads.Learnt
+pub inverses_one : OneResult (ended_of _ field.inverses.Kinds.ps field.inverses.Kinds.r) field.inverses.Reads.Learnt
 inverses_one κs a r s d e p q = (same_entries r s p.words q.words (λ k h. same_inverse (entry a.0 k) (entry r k) (entry s k) (p.entry k h) (q.entry k h)), refl)
 
-pub mul-one : OneResult field.mul.ended field.mul.Reads.Learnt
+pub mul-one : OneResult (ended_of _ field.mul.Kinds.ps field.mul.Kinds.r) field.mul.Reads.Learnt
 mul-one κs a r s d e p q = (equation p q, refl)
 
-pub inverse_one : OneResult field.inverse.ended field.inverse.Reads.Learnt
+pub inverse_one : OneResult (ended_of _ field.inverse.Kinds.ps field.inverse.Kinds.r) field.inverse.Reads.Learnt
 inverse_one κs a r s d e p q = (same_inverse a.0 r s p q, refl)

@@ -1,12 +1,13 @@
 -- One result (document 01, section 7) of each public call of crate single, by that call's own contract.
 -- Assumes nothing.
+use borrow.Fn.Kinds.{ended_of}
 use mathlib.Core.Path.{refl}
 use Rattle.ground.proofs.OneResult.{equation}
 use Rattle.results.specs.OneResult.{OneResult}
 use Rattle.single.proofs as single
 
-pub repair_one : OneResult single.repair.ended single.repair.Reads.Learnt
+pub repair_one : OneResult (ended_of _ single.repair.Kinds.ps single.repair.Kinds.r) single.repair.Reads.Learnt
 repair_one κs a r s d e p q = (equation p q, refl)
 
-pub repair-row_one : OneResult single.repair_row.ended single.repair_row.Reads.Learnt
+pub repair-row_one : OneResult (ended_of _ single.repair_row.Kinds.ps single.repair_row.Kinds.r) single.repair_row.Reads.Learnt
 repair-row_one κs a r s d e p q = (equation p q, refl)

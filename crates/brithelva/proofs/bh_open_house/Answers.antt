@@ -1,0 +1,22 @@
+-- The same under the house setting.
+use mathlib.Core.Path.{refl}
+use native.Mathlib.Omega.{arith}
+use Rattle.face.proofs.HoldLaws.{open_bad, open_says_lem}
+use Rattle.brithelva.proofs.bh_open_house.Goals as goal
+
+pub returns-then-held-ne-RECORD : goal.returns-then-held-ne-RECORD
+returns-then-held-ne-RECORD c = open_bad _ _ _ _ _ c.if-held-ne-RECORD.true refl
+
+pub put_kept-requires : goal.put_kept-requires
+put_kept-requires c = c.if-held-ne-RECORD.false
+
+pub shape_of-held : goal.shape_of-held
+shape_of-held c = omega arith
+
+pub shape_of-store : goal.shape_of-store
+shape_of-store c = omega arith
+
+pub returns : goal.returns
+returns c =
+    open_says_lem _ _ _ _ _ _ _ _ _ c.if-held-ne-RECORD.false c.record_in-before.ensures c.open_house-kept.ensures
+    c.put_kept.ensures.1 c.put_kept.ensures.0

@@ -1,0 +1,11 @@
+-- What was read is told.
+use mathlib.Core.Bool.{true}
+use native.Mathlib.Omega.{arith}
+use Rattle.face.proofs.SayLaws.{reads_as}
+use Rattle.brithelva.proofs.bh_read_fields.Goals as goal
+
+pub shape_of-fields : goal.shape_of-fields
+shape_of-fields c = omega arith
+
+pub returns : goal.returns
+returns c = reads_as true _ _ _ _ _ c.read_fields.ensures c.put_reading.ensures
