@@ -6,7 +6,7 @@ use mathlib.Core.Bool.{true≢false}
 use mathlib.Core.List.{List, [], ◌∷◌, ◌++◌}
 use Prim.Native.Nat.{ℕ, zero, suc, ◌<◌, ◌≤◌}
 use native.Mathlib.Omega.{arith}
-use lib.ListN.{length, take, drop}
+use lib.ListN.{take, drop}
 use Rattle.texts.specs.Utf8.{first_of}
 use Rattle.texts.specs.Breaks.{CR}
 use Rattle.decimal.specs.Decimal.{is_number, number_in, digits}

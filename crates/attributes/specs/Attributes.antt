@@ -1,6 +1,6 @@
 -- The fifteen attributes of a description file, and what is written of each in its line: source document 001, section 7.2, table 2, in its order.
 -- Assumes nothing.
-use Rattle.std.specs.Prelude.{cond, List, [], ◌∷◌, ℕ, eqb, length, take, drop}
+use Rattle.std.specs.Prelude.{cond, List, [], ◌∷◌, ℕ, eqb, take, drop}
 use Rattle.decimal.specs.Decimal.{digits}
 use Rattle.calendar.specs.declared.Time.{Time}
 use Rattle.calendar.specs.Calendar.{not_given}

@@ -13,7 +13,7 @@ use Rattle.places.specs.declared.Found.{Found}
 use Rattle.places.specs.declared.Found.TheVariants.{At, Nothing}
 use Rattle.places.specs.Places.{end_of}
 use Rattle.contents.specs.Slots.{length_at}
-use Rattle.contents.specs.Contents.{Slot as Content, wrong, holding, bytes_at, slot_at, length_fits, contents, any_wrong, filled, lowest_empty, joined}
+use Rattle.contents.specs.Contents.{Slot as Content, holding, bytes_at, slot_at, length_fits, contents, any_wrong, filled, lowest_empty, joined}
 use Rattle.contents.proofs.Bytes.{length-bytes}
 use Rattle.contents.proofs.Walks.{contents_from, walk_all, walk_step, walk_end}
 use Rattle.contents.proofs.Slots.{slot-holds, slot-wrong, fits-room}

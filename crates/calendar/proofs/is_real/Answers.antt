@@ -2,7 +2,6 @@
 use mathlib.Core.Path.{◌≡◌, sym, ap, ◌∙◌}
 use mathlib.Core.Bool.{true}
 use Prim.Native.Nat.{ℕ}
-use borrow.Author.Tests.{not-true, not-false}
 use Rattle.ground.specs.Ranges.{between}
 use Rattle.calendar.specs.Calendar.{days_in}
 use Rattle.calendar.proofs.DateLaws.{other_year, other_month, other_day, other_hour, other_minute, by_second}

@@ -1,5 +1,5 @@
 -- Every turn passes one line. Invariant: what is lent keeps its length.
-use Rattle.std.proofs.Common.{◌≡◌, ◌-◌, length, arith, rules}
+use Rattle.std.proofs.Common.{arith}
 use Rattle.cases.proofs.run.Goals as goal
 
 pub next-end-requires : goal.next-end-requires

@@ -1,5 +1,5 @@
 -- Every turn passes one line. Invariant: what is lent keeps its length.
-use Rattle.std.proofs.Common.{◌≡◌, ◌-◌, length, arith, rules}
+use Rattle.std.proofs.Common.{◌≡◌, ◌-◌, length}
 use Rattle.cases.proofs.run.Given as goal
 
 abbrev pub invariant-loop-at : goal.invariant-loop-at

@@ -1,12 +1,9 @@
 -- Each line's bytes are taken from the room as long as they are there. Invariant: what is left of the room lacks for the lines that are left as the room does for all.
 -- The measure is how many lines are left.
-use mathlib.Core.Path.{◌≡◌, sym, ap}
+use mathlib.Core.Path.{◌≡◌}
 use Prim.Native.Nat.{◌+◌, ◌-◌, ◌≤◌}
-use native.Mathlib.Omega.{arith}
-use borrow.Author.Tests.{lt-ltb, le-ltb}
-use lib.ListN.{drop, drop_of_length-le}
+use lib.ListN.{drop}
 use Rattle.composing.specs.Inner.{pieces, size_by}
-use Rattle.composing.proofs.LineLaws.{fifteen, size-line}
 use Rattle.composing.proofs.lacks_room.Given as goal
 
 abbrev pub invariant-loop-k : goal.invariant-loop-k

@@ -1,7 +1,6 @@
 -- The digits stand at the front of the eight bytes, and these at the front of the nineteen.
 use native.Mathlib.Omega.{arith}
 use mathlib.Core.Path.{refl}
-use borrow.Author.Rules.{rules}
 use Rattle.composing.proofs.ValueLaws.{number-holds}
 use Rattle.composing.proofs.number.Goals as goal
 

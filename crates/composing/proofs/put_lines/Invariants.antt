@@ -1,8 +1,7 @@
 -- One line is written behind the other. Invariant: what is left to write makes what all makes, `Lined`. The measure is how many lines are left.
 use Prim.Native.Nat.{◌-◌}
-use native.Mathlib.Omega.{arith}
 use Rattle.composing.specs.Inner.{pieces}
-use Rattle.composing.proofs.LineLaws.{fifteen, size-line, value-lies, Lined, lined_begin, lined_step, lined_end}
+use Rattle.composing.proofs.LineLaws.{Lined}
 use Rattle.composing.proofs.put_lines.Given as goal
 
 abbrev pub invariant-loop-k : goal.invariant-loop-k

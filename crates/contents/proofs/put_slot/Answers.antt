@@ -4,8 +4,6 @@ use mathlib.Core.List.{List}
 use mathlib.Core.Path.{◌≡◌, sym, ap, ◌∙◌}
 use Prim.Native.Nat.{ℕ, ◌+◌, ◌/◌, ◌%◌, ◌<◌, ◌≤◌}
 use native.Mathlib.Omega.{arith}
-use borrow.Author.Rules.{rules}
-use borrow.Author.Tests.{not-true, not-false}
 use lib.ListN.{length, set, length-set}
 use Rattle.contents.specs.Slots.{room_for}
 use Rattle.contents.proofs.Bytes.{room-known, stored_made, stored_within_lem, stored-nowhere, slot_served, slot-refused}

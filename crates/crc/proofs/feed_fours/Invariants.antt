@@ -1,15 +1,10 @@
 -- `crc::feed_fours` walks by words, and leaves fewer than four bytes to `feed_ones`. The invariant: what is left from i on gives, from the present register, the answer.
 -- Assumes nothing.
-use native.Mathlib.Omega.{arith}
-use borrow.Author.Rules.{rules}
-use mathlib.Core.Path.{◌≡◌, refl, sym, ap, ◌∙◌}
+use mathlib.Core.Path.{◌≡◌}
 use mathlib.Core.List.{[], ◌∷◌}
-use Prim.Native.Nat.{ℕ, ◌-◌, ◌≤◌}
+use Prim.Native.Nat.{◌-◌, ◌≤◌}
 use lib.ListN.{length, drop}
-use Rattle.ground.specs.Bits.{sum}
-use Rattle.crc.specs.Table.{entries, feed_by}
-use Rattle.crc.proofs.Walk.{turn_at, end_at}
-use Rattle.crc.proofs.Steps.{four_group}
+use Rattle.crc.specs.Table.{feed_by}
 use Rattle.crc.proofs.feed_fours.Given as goal
 
 abbrev pub invariant-loop-i : goal.invariant-loop-i

@@ -2,10 +2,8 @@
 -- Assumes nothing.
 use native.Mathlib.Omega.{arith}
 use borrow.Author.Rules.{rules}
-use mathlib.Core.Path.{◌≡◌, refl}
-use mathlib.Core.List.{[], ◌∷◌}
-use Prim.Native.Nat.{◌-◌, ◌≤◌}
-use lib.ListN.{length, drop}
+use mathlib.Core.Path.{refl}
+use mathlib.Core.List.{[]}
 use Rattle.crc.specs.Table.{feed_by}
 use Rattle.crc.proofs.Walk.{turn_at, end_at}
 use Rattle.crc.proofs.feed_ones.Goals as goal

@@ -1,13 +1,10 @@
 -- `crc::feed_ones` walks byte by byte. The invariant: what is left from i on gives, from the present register, the answer.
 -- Assumes nothing.
-use native.Mathlib.Omega.{arith}
-use borrow.Author.Rules.{rules}
-use mathlib.Core.Path.{◌≡◌, refl}
+use mathlib.Core.Path.{◌≡◌}
 use mathlib.Core.List.{[], ◌∷◌}
 use Prim.Native.Nat.{◌-◌, ◌≤◌}
 use lib.ListN.{length, drop}
 use Rattle.crc.specs.Table.{feed_by}
-use Rattle.crc.proofs.Walk.{turn_at, end_at}
 use Rattle.crc.proofs.feed_ones.Given as goal
 
 abbrev pub invariant-loop-i : goal.invariant-loop-i

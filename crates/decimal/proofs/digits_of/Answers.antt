@@ -2,7 +2,7 @@
 -- Invariant: what is left to write makes what all the digits make, `Writing`. The measure is how many are left.
 use mathlib.Core.Path.{refl}
 use native.Mathlib.Omega.{arith}
-use Rattle.decimal.proofs.WriteLaws.{Writing, writing_begin, writing_more, writing_end}
+use Rattle.decimal.proofs.WriteLaws.{writing_begin, writing_more, writing_end}
 use Rattle.decimal.proofs.digits_of.Goals as goal
 
 pub loop-i-init : goal.loop-i-init

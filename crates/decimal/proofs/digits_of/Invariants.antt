@@ -1,8 +1,6 @@
 -- The digits are counted, then written from the last to the first, each the remainder by ten of what is left of the number.
 -- Invariant: what is left to write makes what all the digits make, `Writing`. The measure is how many are left.
-use mathlib.Core.Path.{refl}
-use native.Mathlib.Omega.{arith}
-use Rattle.decimal.proofs.WriteLaws.{Writing, writing_begin, writing_more, writing_end}
+use Rattle.decimal.proofs.WriteLaws.{Writing}
 use Rattle.decimal.proofs.digits_of.Given as goal
 
 abbrev pub invariant-loop-i : goal.invariant-loop-i

@@ -1,12 +1,9 @@
 -- Bytes that are not one to eight, or start with a 0 and are several, write no number; nor do those among which one is no digit. Else each digit is
 -- added behind those before it.
 -- Invariant: what is left, read behind the value so far, says what all the bytes say, `Reading`. The measure is what is left.
-use mathlib.Core.Path.{sym, ◌∙◌}
 use Prim.Native.Nat.{◌-◌}
-use native.Mathlib.Omega.{arith}
-use borrow.Author.Tests.{not-true, not-false}
 use lib.ListN.{length}
-use Rattle.decimal.proofs.ReadLaws.{Reading, counted_not, reading_begin, reading_low, reading_high, reading_more, reading_small, reading_end}
+use Rattle.decimal.proofs.ReadLaws.{Reading}
 use Rattle.decimal.proofs.number_in.Given as goal
 
 abbrev pub invariant-loop-i : goal.invariant-loop-i

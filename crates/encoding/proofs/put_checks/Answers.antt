@@ -1,9 +1,9 @@
 -- `put_checks` writes the checks of two rows after two rows, and then of the one that may be left. The invariant: what is left to write makes what the whole makes, and
 -- behind the rows that are done nothing has changed (`Checking`). Assumes nothing.
 use mathlib.Core.Path.{refl}
-use Prim.Native.Nat.{◌+◌, ◌-◌}
+use Prim.Native.Nat.{◌+◌}
 use native.Mathlib.Omega.{arith}
-use Rattle.encoding.proofs.Checking.{Checking, checking_start, checking_more, checking_two, checking_done}
+use Rattle.encoding.proofs.Checking.{checking_start, checking_more, checking_two, checking_done}
 use Rattle.encoding.proofs.put_checks.Goals as goal
 
 pub loop-r-init : goal.loop-r-init

@@ -2,13 +2,12 @@
 -- Assumes nothing.
 use mathlib.Core.Path.{◌≡◌, refl, sym, ap, ◌∙◌}
 use mathlib.Core.List.{List}
-use mathlib.Core.Logic.{⊎_elim}
-use Prim.Native.Nat.{ℕ, ◌+◌, ◌-◌, ◌*◌, ◌/◌, ◌<◌, ◌≤◌}
+use Prim.Native.Nat.{ℕ, ◌+◌, ◌*◌, ◌/◌, ◌<◌, ◌≤◌}
 use native.Mathlib.Nat.{min-le_left, min-le_right}
 use native.Mathlib.Omega.{arith}
-use lib.ListN.{length, replicate}
+use lib.ListN.{length}
 use lib.Seq.{sets}
-use Rattle.ground.proofs.Pieces.{pieces, pieces_one, Laid, laid_start, laid_more, laid_done}
+use Rattle.ground.proofs.Pieces.{pieces, pieces_one, laid_start, laid_more, laid_done}
 use Rattle.encoding.specs.Encode.{rest_of, rows_in, remainders_of}
 use Rattle.encoding.specs.InnerRegister.{remainder_at}
 use Rattle.encoding.proofs.Feeding.{length_rest}

@@ -1,8 +1,7 @@
 -- `field::products` doubles one factor and adds it where the other has a bit, in both words (`Adding`).
 -- Assumes nothing.
-use Prim.Native.Nat.{◌-◌}
 use native.Mathlib.Omega.{arith}
-use Rattle.field.proofs.Walking.{Adding, adding_start, adding_step, adding_end, both_words}
+use Rattle.field.proofs.Walking.{adding_start, adding_step, adding_end, both_words}
 use Rattle.field.proofs.products.Goals as goal
 
 pub loop-i-init : goal.loop-i-init

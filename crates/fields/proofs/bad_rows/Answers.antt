@@ -1,7 +1,7 @@
 -- `fields::bad_rows` meets its contract: its tests are the definition's, and a packet of 19 bytes is longer than header and CRC.
 -- Assumes nothing.
 use native.Mathlib.Omega.{arith}
-use borrow.Author.Tests.{eq-eqb, ne_eqb, not-true, not-false}
+use borrow.Author.Tests.{eq-eqb, ne_eqb}
 use Rattle.fields.proofs.bad_rows.Goals as goal
 
 pub returns-then-not-rows : goal.returns-then-not-rows

@@ -1,7 +1,6 @@
 -- `fields::read_by` meets its contract: it asks for length, mark and length field in the definition's order, and the rest is `judge`.
 -- Assumes nothing.
-use mathlib.Core.Path.{sym, ap, ◌∙◌}
-use mathlib.Core.Bool.{not}
+use mathlib.Core.Path.{sym, ◌∙◌}
 use native.Mathlib.Omega.{arith}
 use borrow.Author.Tests.{lt-ltb, le-ltb, eq-eqb, ne_eqb}
 use Rattle.packet.specs.Packet.{read_by}

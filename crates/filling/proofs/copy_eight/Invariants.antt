@@ -1,11 +1,8 @@
 -- `copy_eight` writes one byte after the other; none stands further in the file than the last. The invariant: what is left to write makes what the whole makes (`Run`).
 -- Assumes nothing.
-use mathlib.Core.Path.{refl}
 use Prim.Native.Nat.{◌+◌, ◌-◌, ◌*◌}
-use native.Mathlib.Omega.{arith}
 use lib.ListN.{get_or}
-use Rattle.ground.proofs.Writing.{Run, run_begin, run_step, run_end}
-use Rattle.filling.proofs.Gathering.{before}
+use Rattle.ground.proofs.Writing.{Run}
 use Rattle.filling.proofs.copy_eight.Given as goal
 
 abbrev pub invariant-loop-c : goal.invariant-loop-c

@@ -1,9 +1,7 @@
 -- `copy_padded` writes one byte after the other. The invariant: what is left to write makes what the whole makes (`Run`).
 -- Assumes nothing.
-use Prim.Native.Nat.{◌+◌, ◌-◌, ◌*◌}
 use native.Mathlib.Omega.{arith}
-use lib.ListN.{get_or}
-use Rattle.ground.proofs.Writing.{Run, run_begin, run_step, run_end}
+use Rattle.ground.proofs.Writing.{run_begin, run_step, run_end}
 use Rattle.filling.proofs.Gathering.{near}
 use Rattle.filling.proofs.copy_padded.Goals as goal
 

@@ -1,8 +1,7 @@
 -- `fill` writes the information of one row after the other, and has the checks put behind each. The invariant: the rows so far have their information (`Filling`).
 -- Assumes nothing.
-use Prim.Native.Nat.{◌-◌}
 use native.Mathlib.Omega.{arith}
-use Rattle.filling.proofs.Gathering.{Filling, filling_start, filling_more, filling_done}
+use Rattle.filling.proofs.Gathering.{filling_start, filling_more, filling_done}
 use Rattle.filling.proofs.fill.Goals as goal
 
 pub loop-r-init : goal.loop-r-init

@@ -1,10 +1,9 @@
 -- `gather` writes eight bytes at a time while they lie within the file, and leaves the rest to `copy_padded`. The invariant: what is left to write makes what the whole
 -- makes (`Run`). Assumes nothing.
-use mathlib.Core.Logic.{⊎_elim}
-use Prim.Native.Nat.{◌+◌, ◌-◌, ◌*◌, ◌<◌, ◌≤◌}
+use Prim.Native.Nat.{◌+◌, ◌*◌, ◌<◌, ◌≤◌}
 use native.Mathlib.Omega.{arith}
-use lib.ListN.{length, get_or}
-use Rattle.ground.proofs.Writing.{Run, run_begin}
+use lib.ListN.{length}
+use Rattle.ground.proofs.Writing.{run_begin}
 use Rattle.filling.proofs.Gathering.{near, before, eight_more, row-gathered}
 use Rattle.filling.proofs.gather.Goals.{then-at-m, else-at-m}
 use Rattle.filling.proofs.gather.Goals as goal

@@ -1,11 +1,8 @@
 -- `gather` writes eight bytes at a time while they lie within the file, and leaves the rest to `copy_padded`. The invariant: what is left to write makes what the whole
 -- makes (`Run`). Assumes nothing.
-use mathlib.Core.Logic.{⊎_elim}
-use Prim.Native.Nat.{◌+◌, ◌-◌, ◌*◌, ◌<◌, ◌≤◌}
-use native.Mathlib.Omega.{arith}
-use lib.ListN.{length, get_or}
-use Rattle.ground.proofs.Writing.{Run, run_begin}
-use Rattle.filling.proofs.Gathering.{near, before, eight_more, row-gathered}
+use Prim.Native.Nat.{◌+◌, ◌-◌, ◌*◌}
+use lib.ListN.{get_or}
+use Rattle.ground.proofs.Writing.{Run}
 use Rattle.filling.proofs.gather.Given as goal
 
 abbrev pub invariant-loop-c : goal.invariant-loop-c

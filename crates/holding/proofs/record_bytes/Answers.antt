@@ -1,13 +1,12 @@
 -- The places are written one after the other. Invariant: `Putting`, the first i stand and the rest makes the whole. The measure is the number of those left.
 use mathlib.Core.Path.{◌≡◌}
-use Prim.Native.Nat.{◌-◌}
 use native.Mathlib.Omega.{arith}
 use borrow.Author.Rules.{rules}
 use lib.ListN.{length}
 use Rattle.places.proofs.Steps.{mapped_length}
 use Rattle.code.proofs.Lists.{length_zeros}
 use Rattle.holding.specs.Layout.{record_length, record_bytes}
-use Rattle.holding.proofs.RecordLaws.{Putting, put_begin, put_step, put_end}
+use Rattle.holding.proofs.RecordLaws.{put_begin, put_step, put_end}
 use Rattle.holding.proofs.record_bytes.Goals as goal
 
 pub loop-i-init : goal.loop-i-init

@@ -1,11 +1,9 @@
 -- The first line that does not fit is the lowest. Invariant: the lines passed fit, so that what is left says what all say. The measure is what is left.
 use mathlib.Core.Path.{ap, ◌∙◌}
-use Prim.Native.Nat.{◌-◌}
 use native.Mathlib.Omega.{arith}
 use lib.ListN.{length}
-use borrow.Author.Tests.{not-true, not-false}
 use Rattle.attributes.specs.Rules.{lowest}
-use Rattle.judging.proofs.LowestLaws.{Sound, sound_begin, sound_fault, sound_more, sound_end, fifteen}
+use Rattle.judging.proofs.LowestLaws.{sound_begin, sound_fault, sound_more, sound_end, fifteen}
 use Rattle.judging.proofs.lowest_fault.Goals as goal
 
 pub loop-i-init : goal.loop-i-init

@@ -1,11 +1,6 @@
 -- The first line that does not fit is the lowest. Invariant: the lines passed fit, so that what is left says what all say. The measure is what is left.
-use mathlib.Core.Path.{ap, ◌∙◌}
 use Prim.Native.Nat.{◌-◌}
-use native.Mathlib.Omega.{arith}
-use lib.ListN.{length}
-use borrow.Author.Tests.{not-true, not-false}
-use Rattle.attributes.specs.Rules.{lowest}
-use Rattle.judging.proofs.LowestLaws.{Sound, sound_begin, sound_fault, sound_more, sound_end, fifteen}
+use Rattle.judging.proofs.LowestLaws.{Sound}
 use Rattle.judging.proofs.lowest_fault.Given as goal
 
 abbrev pub invariant-loop-i : goal.invariant-loop-i

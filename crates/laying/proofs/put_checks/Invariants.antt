@@ -1,10 +1,8 @@
 -- `put_checks` writes the bytes of one row after the other, of as many rows as have one. The invariant: those of the rows so far stand where they belong (`Sown`).
 -- Assumes nothing.
-use mathlib.Core.Path.{◌≡◌, ap}
-use Prim.Native.Nat.{◌+◌, ◌-◌, ◌*◌}
-use native.Mathlib.Omega.{arith}
+use Prim.Native.Nat.{◌+◌, ◌-◌}
 use Rattle.laying.specs.InnerLay.{table_byte}
-use Rattle.laying.proofs.Strewing.{Sown, sow_begin, sow_more, sown_from}
+use Rattle.laying.proofs.Strewing.{Sown}
 use Rattle.laying.proofs.put_checks.Given as goal
 
 abbrev pub invariant-loop-i : goal.invariant-loop-i

@@ -1,9 +1,8 @@
 -- `put_zeros` writes one zero after the other. The invariant: what is left to write makes what the whole makes (`Run`).
 -- Assumes nothing.
 use mathlib.Core.Path.{refl}
-use Prim.Native.Nat.{◌-◌}
 use native.Mathlib.Omega.{arith}
-use Rattle.ground.proofs.Writing.{Run, run_begin, run_step, run_end}
+use Rattle.ground.proofs.Writing.{run_begin, run_step, run_end}
 use Rattle.laying.proofs.put_zeros.Goals as goal
 
 pub loop-i-init : goal.loop-i-init

@@ -1,9 +1,7 @@
 -- `put_zeros` writes one zero after the other. The invariant: what is left to write makes what the whole makes (`Run`).
 -- Assumes nothing.
-use mathlib.Core.Path.{refl}
 use Prim.Native.Nat.{◌-◌}
-use native.Mathlib.Omega.{arith}
-use Rattle.ground.proofs.Writing.{Run, run_begin, run_step, run_end}
+use Rattle.ground.proofs.Writing.{Run}
 use Rattle.laying.proofs.put_zeros.Given as goal
 
 abbrev pub invariant-loop-i : goal.invariant-loop-i

@@ -1,11 +1,10 @@
 -- `strew` writes one byte after the other, each m behind the last. The invariant: k of them are written, and nothing beside them (`Strewing`).
 -- Assumes nothing.
 use mathlib.Core.Path.{refl}
-use Prim.Native.Nat.{◌+◌, ◌-◌, ◌<◌}
+use Prim.Native.Nat.{◌-◌, ◌<◌}
 use native.Mathlib.Nat.{mul-le-mul}
 use native.Mathlib.Omega.{arith}
-use lib.ListN.{get_or}
-use Rattle.laying.proofs.Strewing.{Strewing, strew_begin, below-times, strew_more, strew_end}
+use Rattle.laying.proofs.Strewing.{strew_begin, below-times, strew_more, strew_end}
 use Rattle.laying.proofs.strew.Goals as goal
 
 pub loop-q-init : goal.loop-q-init

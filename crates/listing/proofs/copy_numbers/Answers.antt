@@ -1,10 +1,8 @@
 -- The numbers that the output has room for are written one after the other. Invariant: the output is a run of the first i of them, `Run`. The measure is what is left of them.
 -- Assumes nothing.
 use mathlib.Core.Path.{refl, ◌∙◌}
-use Prim.Native.Nat.{◌-◌}
 use native.Mathlib.Omega.{arith}
-use lib.ListN.{get_or}
-use Rattle.ground.proofs.Writing.{sets_reach, Run, run_begin, run-put, run_end}
+use Rattle.ground.proofs.Writing.{sets_reach, run_begin, run-put, run_end}
 use Rattle.listing.proofs.copy_numbers.Goals as goal
 
 pub loop-i-init : goal.loop-i-init

@@ -2,7 +2,6 @@
 use mathlib.Core.Path.{◌≡◌, sym, ◌∙◌}
 use mathlib.Core.Bool.{true}
 use lib.ListN.{length}
-use borrow.Author.Tests.{not-true, not-false}
 use Rattle.losses.specs.Losses.{tabled}
 use Rattle.losses.proofs.Gathering.{gathered-nothing, gathered_came}
 use Rattle.losses.proofs.Tabling.{tabled_facts, came_nothing, came_tabled}

@@ -4,7 +4,6 @@ use mathlib.Core.Bool.{true, not}
 use Prim.Native.Nat.{◌<◌}
 use native.Mathlib.Omega.{arith}
 use borrow.Author.Rules.{rules}
-use borrow.Author.Tests.{not-true, not-false}
 use lib.Dec.{eqb}
 use lib.ListN.{length, get_or}
 use Rattle.packet.specs.declared.Reading.TheVariants.{Sent}

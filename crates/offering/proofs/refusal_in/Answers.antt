@@ -1,7 +1,6 @@
 -- The refusal is taken out of the reading.
 use mathlib.Core.Path.{sym, ap}
 use native.Mathlib.Omega.{arith}
-use borrow.Author.Rules.{rules}
 use Rattle.record.specs.InnerOffer.{refusal_in}
 use Rattle.offering.proofs.refusal_in.Goals as goal
 

@@ -1,12 +1,9 @@
 -- Each turn clears one slot and goes on behind it. Invariant: the slots that are left lie in the store, whose length stays, and clearing them gives what
 -- clearing all of them in the store as it came gives. The measure is how many are left.
-use mathlib.Core.Path.{◌≡◌, sym, ◌∙◌}
+use mathlib.Core.Path.{◌≡◌}
 use Prim.Native.Nat.{◌+◌, ◌*◌, ◌≤◌}
-use native.Mathlib.Omega.{arith}
-use borrow.Author.Rules.{rules}
-use lib.ListN.{length, length-set}
+use lib.ListN.{length}
 use Rattle.contents.specs.Slots.{cleared}
-use Rattle.opening.proofs.ClearLaws.{cleared-step, cleared-none, rest_room}
 use Rattle.opening.proofs.clear_slots.Given as goal
 
 abbrev pub invariant-loop-left : goal.invariant-loop-left

@@ -1,15 +1,9 @@
 -- `pack::put_coded` meets its contract: each turn writes a run of rows behind those that stand already. The invariant: `done` rows are written.
 -- The measure is what is left of the count. Assumes nothing.
-use mathlib.Core.Path.{◌≡◌, refl, sym, ap, ◌∙◌}
-use mathlib.Core.List.{List}
-use Prim.Native.Nat.{ℕ, ◌+◌, ◌-◌, ◌*◌, ◌≤◌}
-use native.Mathlib.Nat.{zero-add}
-use native.Mathlib.Omega.{arith}
-use borrow.Author.Rules.{rules}
-use lib.ListN.{length}
-use lib.Seq.{sets, length-sets}
+use mathlib.Core.Path.{◌≡◌}
+use Prim.Native.Nat.{◌-◌, ◌≤◌}
+use lib.Seq.{sets}
 use Rattle.pack.specs.Inner.{coded_rows}
-use Rattle.pack.proofs.Runs.{run-below, run-next, run_more}
 use Rattle.pack.proofs.put_coded.Given as goal
 
 abbrev pub invariant-loop-done : goal.invariant-loop-done

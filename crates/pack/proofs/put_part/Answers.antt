@@ -1,14 +1,12 @@
 -- `pack::put_part` meets its contract: turn i stores byte from + i of the source at i. The invariant: the first i bytes are written, and what is left to write
 -- makes what all n make. Assumes nothing.
 use mathlib.Core.Path.{refl, sym, ap, ◌∙◌}
-use Prim.Native.Nat.{◌+◌, ◌-◌}
 use native.Mathlib.Nat.{zero-add}
 use native.Mathlib.Omega.{arith}
 use borrow.Author.Rules.{rules}
-use lib.ListN.{get_or}
 use lib.Seq.{sets}
 use Rattle.ground.proofs.Listed.{listed_from}
-use Rattle.ground.proofs.Writing.{Run, run_begin, run-put, run_end}
+use Rattle.ground.proofs.Writing.{run_begin, run-put, run_end}
 use Rattle.pack.proofs.put_part.Goals as goal
 
 pub loop-i-init : goal.loop-i-init

@@ -1,12 +1,9 @@
 -- `places::find_place` meets its contract: at every turn what is left of the places gives the same answer.
 -- Assumes nothing.
-use mathlib.Core.Path.{◌≡◌, sym, ◌∙◌}
+use mathlib.Core.Path.{◌≡◌}
 use Prim.Native.Nat.{◌≤◌, ◌-◌}
-use native.Mathlib.Omega.{arith}
-use borrow.Author.Rules.{rules}
-use lib.ListN.{length, drop}
+use lib.ListN.{drop}
 use Rattle.places.specs.Places.{names, first_from, place_named}
-use Rattle.places.proofs.Steps.{mapped_length, first_hit, first_miss, first_end}
 use Rattle.places.proofs.find_place.Given as goal
 
 abbrev pub invariant-loop-i : goal.invariant-loop-i

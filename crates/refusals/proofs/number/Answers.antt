@@ -1,8 +1,6 @@
 -- `refusals::number` meets its contract: each arm gives the number that the definition has for its refusal.
 -- Assumes nothing.
 use native.Mathlib.Omega.{arith}
-use mathlib.Core.Path.{sym, ap}
-use Rattle.refusals.specs.Refusals.{number_of}
 use Rattle.refusals.proofs.number.Goals as goal
 
 pub enum_told-1 : goal.enum_told-1

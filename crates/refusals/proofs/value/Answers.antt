@@ -1,7 +1,7 @@
 -- `refusals::value` meets its contract: the four refusals that carry a value give it, and the rest, told by their tags, give 0.
 -- Assumes nothing.
 use native.Mathlib.Omega.{arith}
-use mathlib.Core.Path.{◌≡◌, refl, sym, ap}
+use mathlib.Core.Path.{◌≡◌, refl}
 use mathlib.Core.List.{List, [], ◌∷◌}
 use Prim.Native.Nat.{ℕ}
 use types.Run.{OneOf, miss}

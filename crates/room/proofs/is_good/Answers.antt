@@ -2,12 +2,11 @@
 -- places that one in use is held against. An unused place fits and agrees with all.
 -- Assumes nothing.
 use mathlib.Core.Path.{◌≡◌, refl, sym, ◌∙◌}
-use Prim.Native.Nat.{◌-◌, ◌<◌}
+use Prim.Native.Nat.{◌<◌}
 use native.Mathlib.Omega.{arith}
 use borrow.Author.Rules.{rules}
-use borrow.Author.Tests.{not-true, not-false}
-use lib.ListN.{length, get_or, drop}
-use Rattle.places.specs.Places.{unused, all, agree, fits, good}
+use lib.ListN.{length, get_or}
+use Rattle.places.specs.Places.{unused, fits}
 use Rattle.places.proofs.Named.{in_use_lem, not_in_use}
 use Rattle.places.proofs.Steps.{mapped_length, all_yes, all-no, all_end, good_unfit, good_clash, good-yes, good_end}
 use Rattle.places.proofs.Keeping.{fits_used, good_skip}

@@ -2,15 +2,13 @@
 -- the loop keeps the lowest free one of the ends that it passed, or a number past the end of the usable store.
 -- Assumes nothing.
 use mathlib.Core.Path.{◌≡◌, sym}
-use mathlib.Core.Logic.{⊎_elim}
-use Prim.Native.Nat.{◌-◌}
 use native.Mathlib.Omega.{arith}
 use borrow.Author.Rules.{rules}
 use lib.ListN.{length, get_or}
 use Rattle.places.specs.Places.{unused}
 use Rattle.places.proofs.Named.{not_in_use}
 use Rattle.places.proofs.Steps.{mapped_length}
-use Rattle.places.proofs.Candidates.{Best, best_none, best_unused, best_lower, best_met, best_take, best_at, best_nowhere, lowest_zero, free_said}
+use Rattle.places.proofs.Candidates.{best_none, best_unused, best_lower, best_met, best_take, best_at, best_nowhere, lowest_zero, free_said}
 use Rattle.places.proofs.Facts.{usable-limit}
 use Rattle.room.proofs.lowest_start.Goals.{then-p-ne0+then-start-best+then-is_free-2, then-p-ne0+then-start-best+else-is_free-2, then-p-ne0+else-start-best, else-p-ne0}
 use Rattle.room.proofs.lowest_start.Goals as goal
@@ -49,16 +47,16 @@ loop-i-preserved c =
     let b = c.loop-i.best in
     let h = c.loop-i.invariant in
     elim c.if-p-ne0.branch [
-      then-p-ne0+then-start-best+then-is_free-2 w ↦
-        rw w.best-is
-        (best_take a.n a.size ps i b h w.end_of-start.result w.end_of-start.ensures w.if-start-best.true
-        (free_said _ _ _ _ _ c.usable-end.ensures w.is_free-then-start-best.ensures w.if-is_free-2.true))
-    | then-p-ne0+then-start-best+else-is_free-2 w ↦
-        rw w.best-is
-        (best_met a.n a.size ps i b h w.end_of-start.result w.end_of-start.ensures
-        (free_said _ _ _ _ _ c.usable-end.ensures w.is_free-then-start-best.ensures w.if-is_free-2.false))
-    | then-p-ne0+else-start-best w ↦ rw w.best-is (best_lower a.n a.size ps i b h w.end_of-start.result w.end_of-start.ensures w.if-start-best.false)
-    | else-p-ne0 w ↦ rw w.best-is (best_unused a.n a.size ps i b h (not_in_use (get_or ps i unused) w.if-p-ne0.false))
+      | then-p-ne0+then-start-best+then-is_free-2 w ↦
+          rw w.best-is
+          (best_take a.n a.size ps i b h w.end_of-start.result w.end_of-start.ensures w.if-start-best.true
+          (free_said _ _ _ _ _ c.usable-end.ensures w.is_free-then-start-best.ensures w.if-is_free-2.true))
+      | then-p-ne0+then-start-best+else-is_free-2 w ↦
+          rw w.best-is
+          (best_met a.n a.size ps i b h w.end_of-start.result w.end_of-start.ensures
+          (free_said _ _ _ _ _ c.usable-end.ensures w.is_free-then-start-best.ensures w.if-is_free-2.false))
+      | then-p-ne0+else-start-best w ↦ rw w.best-is (best_lower a.n a.size ps i b h w.end_of-start.result w.end_of-start.ensures w.if-start-best.false)
+      | else-p-ne0 w ↦ rw w.best-is (best_unused a.n a.size ps i b h (not_in_use (get_or ps i unused) w.if-p-ne0.false))
     ]
 
 pub returns-then-best-end : goal.returns-then-best-end

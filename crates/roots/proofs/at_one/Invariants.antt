@@ -1,16 +1,11 @@
 -- `roots::at_one` adds the coefficients: what is added, and what is left, make the value at 1.
 -- Assumes nothing.
-use mathlib.Core.Path.{◌≡◌, sym, ap, ◌∙◌}
-use mathlib.Core.List.{List}
-use Prim.Native.Nat.{ℕ, ◌-◌, ◌≤◌}
-use native.Mathlib.Omega.{arith}
-use lib.ListN.{length, get_or, drop, get_or-eq_default}
+use mathlib.Core.Path.{◌≡◌}
+use Prim.Native.Nat.{◌-◌, ◌≤◌}
+use lib.ListN.{drop}
 use Rattle.ground.specs.Bits.{sum as plus}
-use Rattle.ground.proofs.Sums.{zero_sum, sum_zero}
 use Rattle.field.specs.Field.{power}
 use Rattle.code.specs.Value.{eval}
-use Rattle.roots.proofs.Values.{eval-above, one_more}
-use borrow.Author.Rules.{rules}
 use Rattle.roots.proofs.at_one.Given as goal
 
 abbrev pub invariant-loop-i : goal.invariant-loop-i

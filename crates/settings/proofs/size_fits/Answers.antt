@@ -1,7 +1,7 @@
 -- `settings::size_fits` meets its contract: its tests are the definition's, in its order.
 -- Assumes nothing.
 use mathlib.Core.Path.{sym, ◌∙◌}
-use borrow.Author.Tests.{le-leb, lt-leb, eq-eqb, ne_eqb, not-true, not-false}
+use borrow.Author.Tests.{le-leb, lt-leb, eq-eqb, ne_eqb}
 use Rattle.settings.proofs.size_fits.Goals as goal
 
 pub returns-then-size-ge1 : goal.returns-then-size-ge1

@@ -1,10 +1,8 @@
 -- The bytes that the store has room for are written one after the other. Invariant: the store is a run of the first i of them, `Run`. The measure is what is
 -- left of them.
-use mathlib.Core.Path.{refl, ◌∙◌}
-use Prim.Native.Nat.{◌+◌, ◌-◌, ◌<◌}
-use native.Mathlib.Omega.{arith}
-use lib.ListN.{length, get_or}
-use Rattle.ground.proofs.Writing.{sets_reach, Run, run_begin, run_step, run_end}
+use Prim.Native.Nat.{◌-◌}
+use lib.ListN.{get_or}
+use Rattle.ground.proofs.Writing.{Run}
 use Rattle.slices.proofs.copy_in.Given as goal
 
 abbrev pub invariant-loop-i : goal.invariant-loop-i

@@ -1,11 +1,9 @@
 -- `is_nought` looks at one after the other: those before j are 0.
 -- Assumes nothing.
-use mathlib.Core.Path.{◌≡◌, sym, subst}
-use Prim.Native.Nat.{ℕ, ◌-◌, ◌≤◌, ◌<◌}
+use mathlib.Core.Path.{sym, subst}
 use native.Mathlib.Omega.{arith}
 use borrow.Author.Count.{below_more}
 use lib.Dec.{T}
-use lib.ListN.{get_or}
 use Rattle.solving.proofs.is_nought.Goals as goal
 
 pub loop-j-init : goal.loop-j-init

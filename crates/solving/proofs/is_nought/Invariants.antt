@@ -1,10 +1,7 @@
 -- `is_nought` looks at one after the other: those before j are 0.
 -- Assumes nothing.
-use mathlib.Core.Path.{◌≡◌, sym, subst}
+use mathlib.Core.Path.{◌≡◌}
 use Prim.Native.Nat.{ℕ, ◌-◌, ◌≤◌, ◌<◌}
-use native.Mathlib.Omega.{arith}
-use borrow.Author.Count.{below_more}
-use lib.Dec.{T}
 use lib.ListN.{get_or}
 use Rattle.solving.proofs.is_nought.Given as goal
 

@@ -1,7 +1,6 @@
 -- `keep` takes one place after the other.
 -- Assumes nothing.
 use mathlib.Core.Path.{sym, subst}
-use Prim.Native.Nat.{◌-◌}
 use native.Mathlib.Omega.{arith}
 use Rattle.terms.proofs.Stores.{next_nearer}
 use Rattle.errata.proofs.Keeping.{Keeping, keeping_start, keeping_more, keeping_end}

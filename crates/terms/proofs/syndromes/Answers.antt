@@ -3,7 +3,7 @@
 use native.Mathlib.Omega.{arith}
 use Prim.Native.Nat.{ℕ, ◌<◌}
 use lib.ListN.{get_or}
-use Rattle.terms.proofs.Summing.{Coming, coming_start, coming_more, coming_end}
+use Rattle.terms.proofs.Summing.{coming_start, coming_more, coming_end}
 use borrow.Author.Rules.{rules}
 use Rattle.terms.proofs.syndromes.Goals as goal
 

@@ -1,10 +1,7 @@
 -- `terms::turn` adds the powers of one byte after the other, or nothing (`Adding`).
 -- Assumes nothing.
-use Prim.Native.Nat.{◌-◌}
 use native.Mathlib.Omega.{arith}
-use Rattle.field.specs.declared.Sixteen.{Sixteen}
-use Rattle.field.specs.Words.{Doubled}
-use Rattle.terms.proofs.Summing.{Adding, adding_start, adding_more, adding_end}
+use Rattle.terms.proofs.Summing.{adding_start, adding_more, adding_end}
 use Rattle.terms.proofs.turn.Goals as goal
 
 pub loop-m-init : goal.loop-m-init

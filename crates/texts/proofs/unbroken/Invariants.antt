@@ -1,8 +1,7 @@
 -- Each byte is looked at, and none ends the loop. Invariant: no break was met so far, and there is none in what is left, says what all says.
 -- The measure is what is left.
 use Prim.Native.Nat.{◌-◌}
-use native.Mathlib.Omega.{arith}
-use Rattle.texts.proofs.BreakLaws.{Passing, passing_begin, passing-more, passing_end}
+use Rattle.texts.proofs.BreakLaws.{Passing}
 use Rattle.texts.proofs.unbroken.Given as goal
 
 abbrev pub invariant-loop-i : goal.invariant-loop-i

@@ -1,8 +1,7 @@
 -- The bytes are looked at one after the other, to the first LF. Invariant: what stands before the first LF of what is left, behind the bytes passed, is what
 -- stands before the first of all. The measure is what is left.
-use Prim.Native.Nat.{◌-◌}
 use native.Mathlib.Omega.{arith}
-use Rattle.texts.proofs.BreakLaws.{Seeking, seeking_begin, seeking_found, seeking_more, seeking_end}
+use Rattle.texts.proofs.BreakLaws.{seeking_begin, seeking_found, seeking_more, seeking_end}
 use Rattle.texts.proofs.until_lf.Goals as goal
 
 pub loop-i-init : goal.loop-i-init

@@ -1,8 +1,7 @@
 -- One byte after the other is taken from what is awaited. Invariant: what is left, behind what is awaited, is well formed as all is. At the end nothing may be
 -- awaited. The measure is what is left.
 use Prim.Native.Nat.{◌-◌}
-use native.Mathlib.Omega.{arith}
-use Rattle.texts.proofs.Utf8Laws.{Reading, reading_begin, reading_more, reading_end}
+use Rattle.texts.proofs.Utf8Laws.{Reading}
 use Rattle.texts.proofs.well_formed.Given as goal
 
 abbrev pub invariant-loop-i : goal.invariant-loop-i

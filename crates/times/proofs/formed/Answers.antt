@@ -1,10 +1,8 @@
 -- Of another length they have another form. Else each byte is held to the form. Invariant: what is left says what all says. The measure is what is left.
 use mathlib.Core.Path.{sym, ◌∙◌}
-use Prim.Native.Nat.{◌-◌}
 use native.Mathlib.Omega.{arith}
-use borrow.Author.Tests.{not-true, not-false}
 use Rattle.times.specs.Written.{form}
-use Rattle.times.proofs.FormLaws.{Forming, forming_begin, forming_more, forming_not, forming_end, other_length}
+use Rattle.times.proofs.FormLaws.{forming_begin, forming_more, forming_not, forming_end, other_length}
 use Rattle.times.proofs.formed.Goals as goal
 
 pub returns-then-bytes-ne19 : goal.returns-then-bytes-ne19

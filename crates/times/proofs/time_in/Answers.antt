@@ -1,6 +1,5 @@
 -- Bytes of another form, or of no real time, give the wrong time; others what they write.
 use mathlib.Core.Path.{sym, ap, ◌∙◌}
-use borrow.Author.Tests.{not-true, not-false}
 use Rattle.calendar.specs.Calendar.{real}
 use Rattle.times.specs.Written.{form}
 use Rattle.times.proofs.WrittenLaws.{formed-long}

@@ -1,5 +1,5 @@
 -- Every turn leaves one number less. Invariant: the output keeps its length.
-use Rattle.std.proofs.Common.{◌≡◌, ◌-◌, length, arith}
+use Rattle.std.proofs.Common.{arith}
 use Rattle.cases.proofs.calls.put_numbers.Goals as goal
 
 pub loop-i-init : goal.loop-i-init

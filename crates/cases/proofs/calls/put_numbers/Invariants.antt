@@ -1,5 +1,5 @@
 -- Every turn leaves one number less. Invariant: the output keeps its length.
-use Rattle.std.proofs.Common.{◌≡◌, ◌-◌, length, arith}
+use Rattle.std.proofs.Common.{◌≡◌, ◌-◌, length}
 use Rattle.cases.proofs.calls.put_numbers.Given as goal
 
 abbrev pub invariant-loop-i : goal.invariant-loop-i

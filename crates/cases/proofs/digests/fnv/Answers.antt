@@ -1,5 +1,5 @@
 -- Every turn leaves one byte less.
-use Rattle.std.proofs.Common.{◌-◌, length, arith}
+use Rattle.std.proofs.Common.{arith}
 use Rattle.cases.proofs.digests.fnv.Goals as goal
 
 pub bounds-bytes-i : goal.bounds-bytes-i

@@ -1,5 +1,5 @@
 -- Eight turns. Invariant: the row keeps its length.
-use Rattle.std.proofs.Common.{◌≡◌, ◌-◌, length, arith}
+use Rattle.std.proofs.Common.{arith}
 use Rattle.cases.proofs.generator.damage_row.Goals as goal
 
 pub loop-j-init : goal.loop-j-init

@@ -1,5 +1,5 @@
 -- Eight turns. Invariant: the row keeps its length.
-use Rattle.std.proofs.Common.{◌≡◌, ◌-◌, length, arith}
+use Rattle.std.proofs.Common.{◌≡◌, ◌-◌, length}
 use Rattle.cases.proofs.generator.damage_row.Given as goal
 
 abbrev pub invariant-loop-j : goal.invariant-loop-j

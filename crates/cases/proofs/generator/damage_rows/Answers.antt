@@ -1,5 +1,5 @@
 -- Every turn leaves one row less. Invariant: the payload keeps its length.
-use Rattle.std.proofs.Common.{◌≡◌, ◌-◌, length, arith, rules}
+use Rattle.std.proofs.Common.{arith}
 use Rattle.cases.proofs.generator.damage_rows.Goals as goal
 
 pub loop-k-init : goal.loop-k-init

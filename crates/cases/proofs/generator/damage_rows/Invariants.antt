@@ -1,5 +1,5 @@
 -- Every turn leaves one row less. Invariant: the payload keeps its length.
-use Rattle.std.proofs.Common.{◌≡◌, ◌-◌, length, arith, rules}
+use Rattle.std.proofs.Common.{◌≡◌, ◌-◌, length}
 use Rattle.cases.proofs.generator.damage_rows.Given as goal
 
 abbrev pub invariant-loop-k : goal.invariant-loop-k

@@ -1,5 +1,5 @@
 -- Every turn passes one line. Invariant: the position lies in the text.
-use Rattle.std.proofs.Common.{◌-◌, ◌≤◌, length, arith, rules}
+use Rattle.std.proofs.Common.{arith}
 use Rattle.cases.proofs.lines.start.Goals as goal
 
 pub loop-line-init : goal.loop-line-init

@@ -1,5 +1,5 @@
 -- Every turn passes one line. Invariant: the position lies in the text.
-use Rattle.std.proofs.Common.{◌-◌, ◌≤◌, length, arith, rules}
+use Rattle.std.proofs.Common.{◌-◌, ◌≤◌, length}
 use Rattle.cases.proofs.lines.start.Given as goal
 
 abbrev pub invariant-loop-line : goal.invariant-loop-line

@@ -1,5 +1,5 @@
 -- Every turn leaves one byte less of the source.
-use Rattle.std.proofs.Common.{◌≡◌, ◌-◌, length, arith, rules}
+use Rattle.std.proofs.Common.{arith}
 use Rattle.cases.proofs.memory.copy.Goals as goal
 
 pub loop-i-init : goal.loop-i-init

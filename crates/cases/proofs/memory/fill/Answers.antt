@@ -1,5 +1,5 @@
 -- Every turn leaves one byte less.
-use Rattle.std.proofs.Common.{◌≡◌, ◌-◌, length, arith, rules}
+use Rattle.std.proofs.Common.{arith}
 use Rattle.cases.proofs.memory.fill.Goals as goal
 
 pub loop-i-init : goal.loop-i-init

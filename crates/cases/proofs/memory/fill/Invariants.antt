@@ -1,5 +1,5 @@
 -- Every turn leaves one byte less.
-use Rattle.std.proofs.Common.{◌≡◌, ◌-◌, length, arith, rules}
+use Rattle.std.proofs.Common.{◌≡◌, ◌-◌, length}
 use Rattle.cases.proofs.memory.fill.Given as goal
 
 abbrev pub invariant-loop-i : goal.invariant-loop-i

@@ -1,5 +1,5 @@
 -- Every turn leaves one number less. Invariant: the bytes keep their length.
-use Rattle.std.proofs.Common.{◌≡◌, ◌-◌, length, arith}
+use Rattle.std.proofs.Common.{arith}
 use Rattle.cases.proofs.numbers.put.Goals as goal
 
 pub loop-i-init : goal.loop-i-init

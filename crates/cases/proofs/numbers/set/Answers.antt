@@ -1,5 +1,5 @@
 -- Thirty-two turns. Invariant: the bytes keep their length.
-use Rattle.std.proofs.Common.{◌≡◌, ◌-◌, length, arith}
+use Rattle.std.proofs.Common.{arith}
 use Rattle.cases.proofs.numbers.set.Goals as goal
 
 pub loop-j-init : goal.loop-j-init

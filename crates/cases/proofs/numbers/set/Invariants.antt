@@ -1,5 +1,5 @@
 -- Thirty-two turns. Invariant: the bytes keep their length.
-use Rattle.std.proofs.Common.{◌≡◌, ◌-◌, length, arith}
+use Rattle.std.proofs.Common.{◌≡◌, ◌-◌, length}
 use Rattle.cases.proofs.numbers.set.Given as goal
 
 abbrev pub invariant-loop-j : goal.invariant-loop-j

@@ -1,5 +1,5 @@
 -- Every turn takes one byte. Invariant: the numbers keep their length.
-use Rattle.std.proofs.Common.{◌≡◌, ◌-◌, ◌*◌, length, arith, rules}
+use Rattle.std.proofs.Common.{arith}
 use Rattle.cases.proofs.numbers.take.Goals as goal
 
 pub loop-i-init : goal.loop-i-init

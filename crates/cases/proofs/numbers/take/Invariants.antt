@@ -1,5 +1,5 @@
 -- Every turn takes one byte. Invariant: the numbers keep their length.
-use Rattle.std.proofs.Common.{◌≡◌, ◌-◌, ◌*◌, length, arith, rules}
+use Rattle.std.proofs.Common.{◌≡◌, ◌-◌, ◌*◌, length}
 use Rattle.cases.proofs.numbers.take.Given as goal
 
 abbrev pub invariant-loop-i : goal.invariant-loop-i

@@ -1,5 +1,5 @@
 -- Every turn leaves one turn less. Invariant: the store keeps its length.
-use Rattle.std.proofs.Common.{◌≡◌, ◌-◌, length, arith}
+use Rattle.std.proofs.Common.{arith}
 use Rattle.cases.proofs.transmission.send.Goals as goal
 
 pub loop-i-init : goal.loop-i-init

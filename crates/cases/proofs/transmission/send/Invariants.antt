@@ -1,5 +1,5 @@
 -- Every turn leaves one turn less. Invariant: the store keeps its length.
-use Rattle.std.proofs.Common.{◌≡◌, ◌-◌, length, arith}
+use Rattle.std.proofs.Common.{◌≡◌, ◌-◌, length}
 use Rattle.cases.proofs.transmission.send.Given as goal
 
 abbrev pub invariant-loop-i : goal.invariant-loop-i

@@ -1,5 +1,5 @@
 -- Every turn leaves one byte less of the text. Invariant: the position lies between the start and the end.
-use Rattle.std.proofs.Common.{◌-◌, ◌≤◌, length, arith, rules}
+use Rattle.std.proofs.Common.{arith}
 use Rattle.cases.proofs.words.next.Goals as goal
 
 pub bounds-text-i : goal.bounds-text-i

@@ -1,5 +1,5 @@
 -- Fifty turns.
-use Rattle.std.proofs.Common.{◌-◌, arith}
+use Rattle.std.proofs.Common.{arith}
 use Rattle.cases.proofs.words.order.Goals as goal
 
 pub overflow_add-k : goal.overflow_add-k

@@ -1,5 +1,5 @@
 -- Fifty turns.
-use Rattle.std.proofs.Common.{◌-◌, arith}
+use Rattle.std.proofs.Common.{◌-◌}
 use Rattle.cases.proofs.words.order.Given as goal
 
 abbrev pub invariant-loop-k : goal.invariant-loop-k

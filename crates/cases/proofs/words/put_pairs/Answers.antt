@@ -1,5 +1,5 @@
 -- Every turn leaves one pair less. Invariant: the output keeps its length.
-use Rattle.std.proofs.Common.{◌≡◌, ◌-◌, length, arith, rules}
+use Rattle.std.proofs.Common.{arith}
 use Rattle.cases.proofs.words.put_pairs.Goals as goal
 
 pub overflow_sub-line : goal.overflow_sub-line

@@ -1,5 +1,5 @@
 -- Every turn leaves one pair less. Invariant: the output keeps its length.
-use Rattle.std.proofs.Common.{◌≡◌, ◌-◌, length, arith, rules}
+use Rattle.std.proofs.Common.{◌≡◌, ◌-◌, length}
 use Rattle.cases.proofs.words.put_pairs.Given as goal
 
 abbrev pub invariant-loop-i : goal.invariant-loop-i

@@ -1,5 +1,5 @@
 -- Every turn passes one word. Invariant: the position lies in the line.
-use Rattle.std.proofs.Common.{◌≤◌, length, arith}
+use Rattle.std.proofs.Common.{arith}
 use Rattle.cases.proofs.words.start.Goals as goal
 
 pub loop-left-init : goal.loop-left-init

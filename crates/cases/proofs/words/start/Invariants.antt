@@ -1,5 +1,5 @@
 -- Every turn passes one word. Invariant: the position lies in the line.
-use Rattle.std.proofs.Common.{◌≤◌, length, arith}
+use Rattle.std.proofs.Common.{◌≤◌, length}
 use Rattle.cases.proofs.words.start.Given as goal
 
 abbrev pub invariant-loop-left : goal.invariant-loop-left

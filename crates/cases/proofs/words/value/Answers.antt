@@ -1,5 +1,5 @@
 -- Every turn leaves one byte less of the word.
-use Rattle.std.proofs.Common.{◌-◌, length, arith}
+use Rattle.std.proofs.Common.{arith}
 use Rattle.cases.proofs.words.value.Goals as goal
 
 pub bounds-word-i : goal.bounds-word-i

@@ -1,5 +1,5 @@
 -- Every turn leaves one byte less of the word.
-use Rattle.std.proofs.Common.{◌-◌, length, arith}
+use Rattle.std.proofs.Common.{◌-◌, length}
 use Rattle.cases.proofs.words.value.Given as goal
 
 abbrev pub invariant-loop-i : goal.invariant-loop-i

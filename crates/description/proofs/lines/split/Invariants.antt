@@ -1,9 +1,7 @@
 -- Line by line, until one is missing or all fifteen are there. Invariant: what was found stands before what is still found (`Splitting`). The measure is the lines left.
 -- Assumes nothing.
 use Prim.Native.Nat.{◌-◌}
-use native.Mathlib.Omega.{arith}
-use borrow.Author.Tests.{not-true, not-false}
-use Rattle.description.proofs.SplitLaws.{Splitting, splitting_begin, splitting_end, splitting_stop, splitting_more}
+use Rattle.description.proofs.SplitLaws.{Splitting}
 use Rattle.description.proofs.lines.split.Given as goal
 
 abbrev pub invariant-loop-k : goal.invariant-loop-k

@@ -1,7 +1,5 @@
 -- `register::checks` feeds the register word by word. The invariant: what is left to feed gives what the whole gives (`Feeding`).
 -- Assumes nothing.
-use Prim.Native.Nat.{◌-◌}
-use Rattle.encoding.specs.InnerRegister.{both, Feeding}
 use Rattle.encoding.proofs.Feeding.{feeding_done}
 use native.Mathlib.Omega.{arith}
 use Rattle.encoding.proofs.register.checks.Goals as goal

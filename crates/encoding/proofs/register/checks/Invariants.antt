@@ -2,8 +2,6 @@
 -- Assumes nothing.
 use Prim.Native.Nat.{◌-◌}
 use Rattle.encoding.specs.InnerRegister.{both, Feeding}
-use Rattle.encoding.proofs.Feeding.{feeding_done}
-use native.Mathlib.Omega.{arith}
 use Rattle.encoding.proofs.register.checks.Given as goal
 
 abbrev pub invariant-loop-k : goal.invariant-loop-k

@@ -1,7 +1,6 @@
 -- `register::put_word` writes the bytes of a word, the top one first. The invariant: what is left to write makes what the whole makes (`Unpacking`).
 -- Assumes nothing.
-use native.Mathlib.Omega.{arith}
-use Rattle.encoding.proofs.Bytes.{Unpacking, unpacking_start, unpacking_more, unpacking_done}
+use Rattle.encoding.proofs.Bytes.{Unpacking}
 use Rattle.encoding.proofs.register.put_word.Given as goal
 
 abbrev pub invariant-loop-k : goal.invariant-loop-k

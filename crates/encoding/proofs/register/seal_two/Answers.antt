@@ -2,10 +2,10 @@
 -- (`Feeding`). Assumes nothing.
 use mathlib.Core.Path.{ap, ap₂, ◌∙◌}
 use mathlib.Core.List.{List}
-use Prim.Native.Nat.{ℕ, ◌+◌, ◌-◌}
+use Prim.Native.Nat.{ℕ, ◌+◌}
 use native.Mathlib.Omega.{arith}
 use lib.Seq.{sets}
-use Rattle.encoding.specs.InnerRegister.{both, sealed, Feeding}
+use Rattle.encoding.specs.InnerRegister.{sealed}
 use Rattle.encoding.proofs.Feeding.{feeding_done}
 use Rattle.encoding.proofs.register.seal_two.Goals as goal
 

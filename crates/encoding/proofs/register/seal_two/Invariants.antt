@@ -1,12 +1,7 @@
 -- `register::seal_two` feeds two registers, each as `checks` feeds one, and writes what they hold. The invariant: what is left to feed gives what the whole gives, in both
 -- (`Feeding`). Assumes nothing.
-use mathlib.Core.Path.{ap, ap₂, ◌∙◌}
-use mathlib.Core.List.{List}
-use Prim.Native.Nat.{ℕ, ◌+◌, ◌-◌}
-use native.Mathlib.Omega.{arith}
-use lib.Seq.{sets}
-use Rattle.encoding.specs.InnerRegister.{both, sealed, Feeding}
-use Rattle.encoding.proofs.Feeding.{feeding_done}
+use Prim.Native.Nat.{◌-◌}
+use Rattle.encoding.specs.InnerRegister.{both, Feeding}
 use Rattle.encoding.proofs.register.seal_two.Given as goal
 
 abbrev pub invariant-loop-k : goal.invariant-loop-k

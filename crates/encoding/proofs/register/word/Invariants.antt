@@ -1,8 +1,7 @@
 -- `register::word` puts one byte after the other below those before it. The invariant: the word so far has the bytes so far, and no more (`Packing`).
 -- Assumes nothing.
 use Prim.Native.Nat.{◌-◌}
-use native.Mathlib.Omega.{arith}
-use Rattle.encoding.proofs.Bytes.{Packing, packing_start, packing-room, packing-more, packing-done}
+use Rattle.encoding.proofs.Bytes.{Packing}
 use Rattle.encoding.proofs.register.word.Given as goal
 
 abbrev pub invariant-loop-n : goal.invariant-loop-n

@@ -2,7 +2,6 @@
 use mathlib.Core.Path.{sym, ap, ◌∙◌}
 use Prim.Native.Nat.{ℕ, ◌/◌}
 use native.Mathlib.Omega.{arith}
-use borrow.Author.Tests.{not-true, not-false}
 use Rattle.layout.proofs.Spans.{start_most}
 use Rattle.handing.proofs.HandCases.{rows_shape, rows-size, rows_padding, rows-output, rows-file}
 use Rattle.handing.proofs.hand.hand_rows.Goals as goal

@@ -1,11 +1,10 @@
 -- One slot a turn, to the first whose rows hold another byte than 0 beyond the file's end. Invariant, `Looking`: the walk stands at slot k, the slots before it
 -- hold q rows, and these hold 0 there. The measure is how many slots are left.
-use Prim.Native.Nat.{◌*◌, ◌-◌}
+use Prim.Native.Nat.{◌*◌}
 use native.Mathlib.Omega.{arith}
 use borrow.Author.Count.{falls}
-use borrow.Author.Tests.{not-true, not-false}
 use Rattle.handing.proofs.WalkLaws.{Turn, turn}
-use Rattle.handing.proofs.PassLaws.{Looking, looking_first, looking_next, looking_not, looking_end, rows_at}
+use Rattle.handing.proofs.PassLaws.{looking_first, looking_next, looking_not, looking_end, rows_at}
 use Rattle.handing.proofs.hand.padding_ends.Goals as goal
 
 pub overflow_cast-m : goal.overflow_cast-m

@@ -1,9 +1,8 @@
 -- One slot a turn. Invariant, `Joining`: the walk stands at slot k, and the o bytes of the payloads before it are written. The measure is how many slots are left.
-use Prim.Native.Nat.{◌-◌}
 use native.Mathlib.Omega.{arith}
 use borrow.Author.Count.{falls}
 use Rattle.handing.proofs.WalkLaws.{Turn, turn}
-use Rattle.handing.proofs.PassLaws.{Joining, joining_first, joining_next, joining_end}
+use Rattle.handing.proofs.PassLaws.{joining_first, joining_next, joining_end}
 use Rattle.handing.proofs.hand.write_plain.Goals as goal
 
 pub overflow_cast-width : goal.overflow_cast-width

@@ -1,10 +1,10 @@
 -- One slot a turn, its rows to where they belong. Invariant, `Laying`: the walk stands at slot k, the slots before it hold q rows, and these are written. The
 -- measure is how many slots are left.
-use Prim.Native.Nat.{◌*◌, ◌-◌}
+use Prim.Native.Nat.{◌*◌}
 use native.Mathlib.Omega.{arith}
 use borrow.Author.Count.{falls}
 use Rattle.handing.proofs.WalkLaws.{Turn, turn}
-use Rattle.handing.proofs.PassLaws.{Laying, laying_first, laying_long, laying_next, laying_end, rows_at}
+use Rattle.handing.proofs.PassLaws.{laying_first, laying_long, laying_next, laying_end, rows_at}
 use Rattle.handing.proofs.hand.write_rows.Goals as goal
 
 pub overflow_cast-m : goal.overflow_cast-m

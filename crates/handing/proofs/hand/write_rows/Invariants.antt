@@ -1,10 +1,7 @@
 -- One slot a turn, its rows to where they belong. Invariant, `Laying`: the walk stands at slot k, the slots before it hold q rows, and these are written. The
 -- measure is how many slots are left.
-use Prim.Native.Nat.{◌*◌, ◌-◌}
-use native.Mathlib.Omega.{arith}
-use borrow.Author.Count.{falls}
-use Rattle.handing.proofs.WalkLaws.{Turn, turn}
-use Rattle.handing.proofs.PassLaws.{Laying, laying_first, laying_long, laying_next, laying_end, rows_at}
+use Prim.Native.Nat.{◌-◌}
+use Rattle.handing.proofs.PassLaws.{Laying}
 use Rattle.handing.proofs.hand.write_rows.Given as goal
 
 abbrev pub invariant-loop-k : goal.invariant-loop-k

@@ -1,9 +1,8 @@
 -- The bytes are looked at one after the other, to the first that is not 0. Invariant, `Zeroing`: those that are left say what all say. The measure is how many are left.
-use Prim.Native.Nat.{◌-◌}
 use native.Mathlib.Omega.{arith}
 use borrow.Author.Count.{falls}
 use Rattle.handing.proofs.TableLaws.{one_on}
-use Rattle.columns.proofs.ZeroLaws.{Zeroing, zeroing_first, zeroing_end, zeroing_next, zeroing_not}
+use Rattle.columns.proofs.ZeroLaws.{zeroing_first, zeroing_end, zeroing_next, zeroing_not}
 use Rattle.handing.proofs.tables.is_zero.Goals as goal
 
 pub loop-i-init : goal.loop-i-init

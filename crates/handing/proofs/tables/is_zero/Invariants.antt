@@ -1,9 +1,6 @@
 -- The bytes are looked at one after the other, to the first that is not 0. Invariant, `Zeroing`: those that are left say what all say. The measure is how many are left.
 use Prim.Native.Nat.{◌-◌}
-use native.Mathlib.Omega.{arith}
-use borrow.Author.Count.{falls}
-use Rattle.handing.proofs.TableLaws.{one_on}
-use Rattle.columns.proofs.ZeroLaws.{Zeroing, zeroing_first, zeroing_end, zeroing_next, zeroing_not}
+use Rattle.columns.proofs.ZeroLaws.{Zeroing}
 use Rattle.handing.proofs.tables.is_zero.Given as goal
 
 abbrev pub invariant-loop-i : goal.invariant-loop-i

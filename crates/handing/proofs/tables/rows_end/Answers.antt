@@ -1,12 +1,10 @@
 -- One row a turn, to the first that holds another byte than 0 beyond the file's end. Invariant, `Clearing`: the j rows before hold 0 there. The measure is how
 -- many rows are left.
 use mathlib.Core.Path.{sym, ◌∙◌}
-use Prim.Native.Nat.{◌-◌}
 use native.Mathlib.Omega.{arith}
 use borrow.Author.Count.{falls}
-use borrow.Author.Tests.{not-true, not-false}
 use Rattle.handing.proofs.TableLaws.{one_on}
-use Rattle.handing.proofs.RowLaws.{Clearing, clearing_first, clearing_end, clearing_next, clearing_not}
+use Rattle.handing.proofs.RowLaws.{clearing_first, clearing_end, clearing_next, clearing_not}
 use Rattle.handing.proofs.tables.rows_end.Goals as goal
 
 pub loop-j-init : goal.loop-j-init

@@ -1,9 +1,8 @@
 -- The bytes are written m apart. Invariant, `RowWriting`: c bytes are written, and for every n below which exactly the first k bytes stand, those that are
 -- left make what the whole row makes. The measure is how many of the k are left.
-use Prim.Native.Nat.{◌-◌}
 use native.Mathlib.Omega.{arith}
 use borrow.Author.Count.{falls}
-use Rattle.handing.proofs.TableLaws.{one_on, RowWriting, writing_first, writing_room, writing_next, writing_end}
+use Rattle.handing.proofs.TableLaws.{one_on, writing_first, writing_room, writing_next, writing_end}
 use Rattle.handing.proofs.tables.scatter_row.Goals as goal
 
 pub loop-c-init : goal.loop-c-init

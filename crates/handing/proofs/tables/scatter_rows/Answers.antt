@@ -1,10 +1,9 @@
 -- One row a turn, to where it belongs. Invariant, `Scattering`: j rows are written, so that of any rows of which these are rows q and on, and of which the
 -- first q were written, the first q + j are written now. The measure is how many rows are left.
-use Prim.Native.Nat.{◌-◌}
 use native.Mathlib.Omega.{arith}
 use borrow.Author.Count.{falls}
 use Rattle.handing.proofs.TableLaws.{one_on}
-use Rattle.handing.proofs.RowLaws.{Scattering, scattering_first, scattering_next, scattering_end}
+use Rattle.handing.proofs.RowLaws.{scattering_first, scattering_next, scattering_end}
 use Rattle.handing.proofs.tables.scatter_rows.Goals as goal
 
 pub loop-j-init : goal.loop-j-init

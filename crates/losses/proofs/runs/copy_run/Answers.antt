@@ -1,8 +1,7 @@
 -- The columns are copied m bytes apart. Invariant, `Copying`: the walk stands at column x, byte j, and the row holds what it held and the bytes before. The measure is how many
 -- columns of the row are left.
-use Prim.Native.Nat.{◌-◌}
 use native.Mathlib.Omega.{arith}
-use Rattle.losses.proofs.Walking.{walk_times, walk_low, going_below, going_low, going_less, Copying, copying_first, copying_next, copying_end}
+use Rattle.losses.proofs.Walking.{walk_times, walk_low, going_below, going_low, going_less, copying_first, copying_next, copying_end}
 use Rattle.losses.proofs.runs.copy_run.Goals as goal
 
 pub overflow_mul-j : goal.overflow_mul-j

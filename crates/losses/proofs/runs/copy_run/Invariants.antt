@@ -1,8 +1,7 @@
 -- The columns are copied m bytes apart. Invariant, `Copying`: the walk stands at column x, byte j, and the row holds what it held and the bytes before. The measure is how many
 -- columns of the row are left.
 use Prim.Native.Nat.{◌-◌}
-use native.Mathlib.Omega.{arith}
-use Rattle.losses.proofs.Walking.{walk_times, walk_low, going_below, going_low, going_less, Copying, copying_first, copying_next, copying_end}
+use Rattle.losses.proofs.Walking.{Copying}
 use Rattle.losses.proofs.runs.copy_run.Given as goal
 
 abbrev pub invariant-loop-j : goal.invariant-loop-j

@@ -1,5 +1,5 @@
 -- The tests are those of `length_fits`, in its order.
-use borrow.Author.Tests.{le-leb, lt-leb, not-true, not-false}
+use borrow.Author.Tests.{le-leb, lt-leb}
 use Rattle.losses.proofs.runs.may_hold.Goals as goal
 
 pub returns-then-size-n : goal.returns-then-size-n

@@ -1,8 +1,7 @@
 -- The columns are noted m bytes apart. Invariant, `NotingRun`: the walk stands at column x, byte j, and all columns before it are told. The measure is how many columns of the row
 -- are left.
-use Prim.Native.Nat.{◌-◌}
 use native.Mathlib.Omega.{arith}
-use Rattle.losses.proofs.Walking.{walk_times, walk_low, going_below, going_low, going_less, NotingRun, noting_first, noting_next, noting_end}
+use Rattle.losses.proofs.Walking.{walk_times, walk_low, going_below, going_low, going_less, noting_first, noting_next, noting_end}
 use Rattle.losses.proofs.runs.note_run.Goals as goal
 
 pub overflow_mul-j : goal.overflow_mul-j

@@ -1,7 +1,6 @@
 -- The columns are counted m bytes apart. Invariant, `Going`: the walk stands at column x, byte j. The measure is how many columns of the row are left.
-use Prim.Native.Nat.{◌-◌}
 use native.Mathlib.Omega.{arith}
-use Rattle.losses.proofs.Walking.{walk_times, walk_low, Going, going_first, going_below, going_low, going_less, going_next, going_end}
+use Rattle.losses.proofs.Walking.{walk_times, walk_low, going_first, going_below, going_low, going_less, going_next, going_end}
 use Rattle.losses.proofs.runs.pass_run.Goals as goal
 
 pub overflow_mul-j : goal.overflow_mul-j

@@ -1,8 +1,6 @@
 -- One column a turn. Invariant: all columns before c are gathered, and s is where column c stands. The measure is how many columns are left.
-use Prim.Native.Nat.{◌-◌}
 use native.Mathlib.Nat.{mod-lt, div-le_self}
 use native.Mathlib.Omega.{arith}
-use Rattle.losses.specs.InnerRuns.{Stands}
 use Rattle.losses.proofs.Gathering.{gathered-few}
 use Rattle.losses.proofs.Stepping.{stands_first, stands_low, stands_next, stands_end}
 use Rattle.losses.proofs.runs.take_columns.Goals as goal

@@ -1,7 +1,6 @@
 -- One run a turn. Invariant: all columns before c are gathered, and k is a number that times the size stays far below 64 bits. The measure is how many columns are left.
 use Prim.Native.Nat.{◌-◌}
-use native.Mathlib.Omega.{arith}
-use Rattle.losses.proofs.Gathering.{Onward, onward_first, onward_times, onward_slot, onward_next, onward_end}
+use Rattle.losses.proofs.Gathering.{Onward}
 use Rattle.losses.proofs.runs.take_runs.Given as goal
 
 abbrev pub invariant-loop-c : goal.invariant-loop-c

@@ -1,8 +1,7 @@
 -- One place a turn. Invariant: the values of the first k places are put in. The measure is how many are left.
 -- Assumes nothing.
 use Prim.Native.Nat.{◌-◌}
-use native.Mathlib.Omega.{arith}
-use Rattle.columns.proofs.Putting.{Puts, puts_first, puts-more, puts_end}
+use Rattle.columns.proofs.Putting.{Puts}
 use Rattle.restoring.proofs.lost.put_lost.Given as goal
 
 abbrev pub invariant-loop-k : goal.invariant-loop-k

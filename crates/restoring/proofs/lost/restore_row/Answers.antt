@@ -1,7 +1,6 @@
 -- Nothing is lost of the row; or what is lost of it is restored, and put where it belongs.
 -- Assumes nothing.
 use native.Mathlib.Omega.{arith}
-use borrow.Author.Rules.{rules}
 use Rattle.layout.proofs.Spans.{start_is}
 use Rattle.columns.proofs.Standings.{start_few, base_few}
 use Rattle.columns.proofs.Recovering.{came_few, came_below, row-whole, row_done}

@@ -1,11 +1,7 @@
 -- Invariant: the sum of the first i bytes is these bytes as a row at 1. The measure is how many are left.
 -- Assumes nothing.
-use mathlib.Core.Path.{◌≡◌}
-use Prim.Native.Nat.{◌-◌}
 use native.Mathlib.Omega.{arith}
-use lib.ListN.{length, take}
 use Rattle.ground.specs.Bits.{sum}
-use Rattle.code.specs.Value.{value}
 use Rattle.columns.proofs.Missing.{sum_first, sum_more, sum-last}
 use Rattle.restoring.proofs.lost.sum_of.Goals as goal
 

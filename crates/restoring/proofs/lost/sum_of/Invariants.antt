@@ -2,11 +2,8 @@
 -- Assumes nothing.
 use mathlib.Core.Path.{◌≡◌}
 use Prim.Native.Nat.{◌-◌}
-use native.Mathlib.Omega.{arith}
 use lib.ListN.{length, take}
-use Rattle.ground.specs.Bits.{sum}
 use Rattle.code.specs.Value.{value}
-use Rattle.columns.proofs.Missing.{sum_first, sum_more, sum-last}
 use Rattle.restoring.proofs.lost.sum_of.Given as goal
 
 abbrev pub invariant-loop-i : goal.invariant-loop-i

@@ -1,8 +1,7 @@
 -- One chunk a turn. Invariant, `Copying`: what came of the first f bytes is written. The measure is how many bytes are left.
 -- Assumes nothing.
-use Prim.Native.Nat.{◌-◌}
 use native.Mathlib.Omega.{arith}
-use Rattle.columns.proofs.Coming.{chunk_room, Copying, copying_first, copying_next, copying_end}
+use Rattle.columns.proofs.Coming.{chunk_room, copying_first, copying_next, copying_end}
 use Rattle.restoring.proofs.write.write_known.Goals as goal
 
 pub loop-f-init : goal.loop-f-init

@@ -2,15 +2,11 @@
 -- places gives the same answer.
 -- Assumes nothing.
 use mathlib.Core.Path.{◌≡◌, sym, ◌∙◌}
-use mathlib.Core.Bool.{◌&&◌}
-use Prim.Native.Nat.{◌+◌, ◌-◌}
+use Prim.Native.Nat.{◌+◌}
 use native.Mathlib.Omega.{arith}
 use borrow.Author.Rules.{rules}
-use borrow.Author.Tests.{le-leb, lt-leb, not-true, not-false}
-use lib.Dec.{leb}
-use lib.ListN.{length, drop}
-use Rattle.places.specs.Places.{all}
-use Rattle.places.specs.Room.{clear}
+use borrow.Author.Tests.{le-leb, lt-leb}
+use lib.ListN.{length}
 use Rattle.places.proofs.Steps.{mapped_length, all_yes, all-no, all_end}
 use Rattle.room.proofs.free.is_free.Goals as goal
 

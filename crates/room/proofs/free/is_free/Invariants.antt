@@ -1,17 +1,13 @@
 -- `room::free::is_free` meets its contract: bytes that pass the end are not free; of the others, at every turn what is left of the
 -- places gives the same answer.
 -- Assumes nothing.
-use mathlib.Core.Path.{◌≡◌, sym, ◌∙◌}
+use mathlib.Core.Path.{◌≡◌}
 use mathlib.Core.Bool.{◌&&◌}
 use Prim.Native.Nat.{◌+◌, ◌-◌}
-use native.Mathlib.Omega.{arith}
-use borrow.Author.Rules.{rules}
-use borrow.Author.Tests.{le-leb, lt-leb, not-true, not-false}
 use lib.Dec.{leb}
-use lib.ListN.{length, drop}
+use lib.ListN.{drop}
 use Rattle.places.specs.Places.{all}
 use Rattle.places.specs.Room.{clear}
-use Rattle.places.proofs.Steps.{mapped_length, all_yes, all-no, all_end}
 use Rattle.room.proofs.free.is_free.Given as goal
 
 abbrev pub invariant-loop-i : goal.invariant-loop-i

@@ -1,9 +1,7 @@
 -- `roots::products::move_on` moves one coefficient after the other (`Moving`).
 -- Assumes nothing.
 use Prim.Native.Nat.{◌-◌, ◌≤◌}
-use native.Mathlib.Omega.{arith}
-use Rattle.roots.proofs.Making.{words_fewer}
-use Rattle.roots.proofs.Moving.{Moving, moving_start, moving_more, moving_end, moving_byte, seventh}
+use Rattle.roots.proofs.Moving.{Moving}
 use Rattle.roots.proofs.products.move_on.Given as goal
 
 abbrev pub invariant-loop-i : goal.invariant-loop-i

@@ -1,8 +1,6 @@
 -- `roots::products::put_block` puts one word after the other (`Added`).
 -- Assumes nothing.
-use Prim.Native.Nat.{◌-◌, ◌≤◌}
 use native.Mathlib.Omega.{arith}
-use Rattle.roots.specs.InnerWords.{Added}
 use Rattle.roots.proofs.Making.{added_none, added_more, added-all}
 use Rattle.roots.proofs.products.put_block.Goals as goal
 

@@ -1,9 +1,7 @@
 -- `roots::products::put_block` puts one word after the other (`Added`).
 -- Assumes nothing.
 use Prim.Native.Nat.{◌-◌, ◌≤◌}
-use native.Mathlib.Omega.{arith}
 use Rattle.roots.specs.InnerWords.{Added}
-use Rattle.roots.proofs.Making.{added_none, added_more, added-all}
 use Rattle.roots.proofs.products.put_block.Given as goal
 
 abbrev pub invariant-loop-j : goal.invariant-loop-j

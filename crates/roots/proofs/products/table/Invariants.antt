@@ -1,14 +1,8 @@
 -- `roots::products::table` puts the words of one coefficient after the other (`Making`), from the constant, whose rule is computed.
 -- Assumes nothing.
-use mathlib.Core.Path.{refl}
 use Prim.Native.Nat.{◌-◌, ◌≤◌}
-use native.Mathlib.Omega.{arith}
-use Rattle.ground.specs.Bits.{sum}
-use Rattle.field.specs.Field.{carryless, reduce, product, expo}
-use Rattle.words.specs.Words.{byte_at}
 use Rattle.roots.specs.InnerWords.{Words}
-use Rattle.roots.proofs.Constant.{Points, rule}
-use Rattle.roots.proofs.Making.{words-none, words_fewer, words_more}
+use Rattle.roots.proofs.Constant.{Points}
 use Rattle.roots.proofs.products.table.Given as goal
 
 abbrev pub invariant-loop-i : goal.invariant-loop-i

@@ -1,10 +1,9 @@
 -- `roots::products::wide` copies one coefficient after the other (`Copied`).
 -- Assumes nothing.
 use mathlib.Core.Path.{refl}
-use Prim.Native.Nat.{◌-◌}
 use native.Mathlib.Nat.{not-suc-le-zero}
 use native.Mathlib.Omega.{arith}
-use Rattle.roots.proofs.Moving.{Copied, copied_more, copied_end}
+use Rattle.roots.proofs.Moving.{copied_more, copied_end}
 use borrow.Author.Rules.{rules}
 use Rattle.roots.proofs.products.wide.Goals as goal
 

@@ -2,7 +2,6 @@
 -- Assumes nothing.
 use native.Mathlib.Omega.{arith}
 use Rattle.roots.proofs.Holding.{looking_none}
-use borrow.Author.Rules.{rules}
 use Rattle.roots.proofs.search.look.Goals as goal
 
 pub returns-then-has_none : goal.returns-then-has_none

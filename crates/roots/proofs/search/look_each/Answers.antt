@@ -1,8 +1,7 @@
 -- `roots::search::look_each` looks at one byte after the other (`Looking`).
 -- Assumes nothing.
-use Prim.Native.Nat.{◌-◌}
 use native.Mathlib.Omega.{arith}
-use Rattle.roots.proofs.Holding.{Looking, looking_start, looking_more, looking_end}
+use Rattle.roots.proofs.Holding.{looking_start, looking_more, looking_end}
 use Rattle.roots.proofs.search.look_each.Goals as goal
 
 pub loop-k-init : goal.loop-k-init

@@ -1,10 +1,8 @@
 -- `kernel::entries` writes the bytes of the first word from the front, and behind them the lowest one of the second.
 -- Assumes nothing.
-use mathlib.Core.Path.{◌≡◌, refl}
-use Prim.Native.Nat.{◌-◌}
+use mathlib.Core.Path.{refl}
 use native.Mathlib.Omega.{arith}
-use Rattle.words.specs.Words.{byte_at}
-use Rattle.terms.proofs.Stores.{Front, front_start, front-more}
+use Rattle.terms.proofs.Stores.{front_start, front-more}
 use Rattle.errata.proofs.Vectors.{nine-written}
 use Rattle.solving.proofs.kernel.entries.Goals as goal
 

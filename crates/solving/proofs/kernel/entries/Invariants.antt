@@ -1,11 +1,9 @@
 -- `kernel::entries` writes the bytes of the first word from the front, and behind them the lowest one of the second.
 -- Assumes nothing.
-use mathlib.Core.Path.{◌≡◌, refl}
+use mathlib.Core.Path.{◌≡◌}
 use Prim.Native.Nat.{◌-◌}
-use native.Mathlib.Omega.{arith}
 use Rattle.words.specs.Words.{byte_at}
-use Rattle.terms.proofs.Stores.{Front, front_start, front-more}
-use Rattle.errata.proofs.Vectors.{nine-written}
+use Rattle.terms.proofs.Stores.{Front}
 use Rattle.solving.proofs.kernel.entries.Given as goal
 
 abbrev pub invariant-loop-k : goal.invariant-loop-k

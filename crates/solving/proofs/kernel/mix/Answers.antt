@@ -1,8 +1,7 @@
 -- `kernel::mix`: in each of the four words the factors are, after each turn, those of the bits that have been taken (`blended_more`).
 -- Assumes nothing.
-use Prim.Native.Nat.{ℕ, ◌/◌, ◌^◌, ◌≤◌, ◌<◌}
+use Prim.Native.Nat.{ℕ, ◌<◌}
 use native.Mathlib.Omega.{arith}
-use Rattle.errata.specs.InnerNull.{Blended}
 use Rattle.errata.proofs.Blending.{blended_start, blended_more, blended_end}
 use Rattle.solving.proofs.kernel.mix.Goals as goal
 

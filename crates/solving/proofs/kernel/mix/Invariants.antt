@@ -1,9 +1,7 @@
 -- `kernel::mix`: in each of the four words the factors are, after each turn, those of the bits that have been taken (`blended_more`).
 -- Assumes nothing.
-use Prim.Native.Nat.{ℕ, ◌/◌, ◌^◌, ◌≤◌, ◌<◌}
-use native.Mathlib.Omega.{arith}
+use Prim.Native.Nat.{◌/◌, ◌^◌, ◌≤◌}
 use Rattle.errata.specs.InnerNull.{Blended}
-use Rattle.errata.proofs.Blending.{blended_start, blended_more, blended_end}
 use Rattle.solving.proofs.kernel.mix.Given as goal
 
 abbrev pub invariant-loop-i : goal.invariant-loop-i

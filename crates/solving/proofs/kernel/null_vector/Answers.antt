@@ -2,13 +2,9 @@
 -- goes one run on, or one vector more is kept and the next begins one run before.
 -- Assumes nothing.
 use mathlib.Core.Path.{◌≡◌, refl, ◌∙◌}
-use mathlib.Core.Logic.{⊎_elim}
-use Prim.Native.Nat.{ℕ, ◌+◌, ◌-◌, ◌*◌, ◌<◌}
+use Prim.Native.Nat.{ℕ, ◌-◌, ◌<◌}
 use native.Mathlib.Omega.{arith}
-use Rattle.ground.specs.Lists.{listed}
-use Rattle.field.specs.Words.{entry}
-use Rattle.errata.specs.InnerNull.{in_two}
-use Rattle.solving.proofs.Turns.{Keeping, keeping_start, keeping_skip, keeping_more, keeping_mixed, keeping_end, few}
+use Rattle.solving.proofs.Turns.{keeping_start, keeping_skip, keeping_more, keeping_mixed, keeping_end, few}
 use Rattle.errata.specs.InnerValues.{list_of}
 use Rattle.solving.proofs.kernel.null_vector.Goals.{then-i-eq0, else-i-eq0}
 use Rattle.solving.proofs.kernel.null_vector.Goals as goal
@@ -48,11 +44,11 @@ pub loop-i-smaller-then-p-eq0 : goal.loop-i-smaller-then-p-eq0
 loop-i-smaller-then-p-eq0 c =
     let back : c.if-i-eq0.i ≡ c.loop-i.i - 1 = let i : ℕ = c.loop-i.i in
     elim c.if-i-eq0.branch [
-      then-i-eq0 w ↦
-        let z : i ≡ 0 = w.if-i-eq0.true in
-        let e : ◌≡◌ {A = ℕ} 0 (i - 1) = omega arith in
-        w.i-is ∙ e
-    | else-i-eq0 w ↦ w.i-is
+      | then-i-eq0 w ↦
+          let z : i ≡ 0 = w.if-i-eq0.true in
+          let e : ◌≡◌ {A = ℕ} 0 (i - 1) = omega arith in
+          w.i-is ∙ e
+      | else-i-eq0 w ↦ w.i-is
     ] in
     omega (arith, few c.loop-i.invariant, back)
 
@@ -60,11 +56,11 @@ pub loop-i-preserved-then-p-eq0 : goal.loop-i-preserved-then-p-eq0
 loop-i-preserved-then-p-eq0 c =
     let back : c.if-i-eq0.i ≡ c.loop-i.i - 1 = let i : ℕ = c.loop-i.i in
     elim c.if-i-eq0.branch [
-      then-i-eq0 w ↦
-        let z : i ≡ 0 = w.if-i-eq0.true in
-        let e : ◌≡◌ {A = ℕ} 0 (i - 1) = omega arith in
-        w.i-is ∙ e
-    | else-i-eq0 w ↦ w.i-is
+      | then-i-eq0 w ↦
+          let z : i ≡ 0 = w.if-i-eq0.true in
+          let e : ◌≡◌ {A = ℕ} 0 (i - 1) = omega arith in
+          w.i-is ∙ e
+      | else-i-eq0 w ↦ w.i-is
     ] in
     let turn : c.loop-i.i < 8 = omega arith in
     keeping_more c.loop-i.invariant turn c.byte-d.ensures refl c.if-d-eq0.false c.if-p-eq0.true c.shift-next.ensures back

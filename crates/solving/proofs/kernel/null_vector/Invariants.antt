@@ -1,15 +1,11 @@
 -- `kernel::null_vector` keeps each vector at a run of its own, which does not annihilate it; there are eight runs, so that one of nine passes them all. Each turn a vector
 -- goes one run on, or one vector more is kept and the next begins one run before.
 -- Assumes nothing.
-use mathlib.Core.Path.{◌≡◌, refl, ◌∙◌}
-use mathlib.Core.Logic.{⊎_elim}
-use Prim.Native.Nat.{ℕ, ◌+◌, ◌-◌, ◌*◌, ◌<◌}
-use native.Mathlib.Omega.{arith}
+use Prim.Native.Nat.{◌+◌, ◌-◌, ◌*◌}
 use Rattle.ground.specs.Lists.{listed}
 use Rattle.field.specs.Words.{entry}
 use Rattle.errata.specs.InnerNull.{in_two}
-use Rattle.solving.proofs.Turns.{Keeping, keeping_start, keeping_skip, keeping_more, keeping_mixed, keeping_end, few}
-use Rattle.errata.specs.InnerValues.{list_of}
+use Rattle.solving.proofs.Turns.{Keeping}
 use Rattle.solving.proofs.kernel.null_vector.Given as goal
 
 abbrev pub invariant-loop-i : goal.invariant-loop-i

@@ -1,10 +1,8 @@
 -- `lanes::bytes` writes one entry after the other.
 -- Assumes nothing.
-use mathlib.Core.Path.{◌≡◌, refl}
-use Prim.Native.Nat.{ℕ, ◌-◌, ◌≤◌}
+use mathlib.Core.Path.{refl}
 use native.Mathlib.Omega.{arith}
-use Rattle.field.specs.Words.{entry}
-use Rattle.terms.proofs.Stores.{Front, front_start, front-more}
+use Rattle.terms.proofs.Stores.{front_start, front-more}
 use Rattle.errata.proofs.Entries.{list_is}
 use Rattle.solving.proofs.lanes.bytes.Goals as goal
 

@@ -1,11 +1,9 @@
 -- `lanes::bytes` writes one entry after the other.
 -- Assumes nothing.
-use mathlib.Core.Path.{◌≡◌, refl}
+use mathlib.Core.Path.{◌≡◌}
 use Prim.Native.Nat.{ℕ, ◌-◌, ◌≤◌}
-use native.Mathlib.Omega.{arith}
 use Rattle.field.specs.Words.{entry}
-use Rattle.terms.proofs.Stores.{Front, front_start, front-more}
-use Rattle.errata.proofs.Entries.{list_is}
+use Rattle.terms.proofs.Stores.{Front}
 use Rattle.solving.proofs.lanes.bytes.Given as goal
 
 abbrev pub invariant-loop-k : goal.invariant-loop-k

@@ -1,8 +1,7 @@
 -- `losses::falling` looks at one place after the other: those before place k fell, and `last` is the one before it.
 -- Assumes nothing.
-use Prim.Native.Nat.{◌-◌}
 use native.Mathlib.Omega.{arith}
-use Rattle.errata.proofs.Places.{Descending, descending_start, descending_more, descending_end, descending_not, too_many}
+use Rattle.errata.proofs.Places.{descending_start, descending_more, descending_end, descending_not, too_many}
 use Rattle.solving.proofs.losses.falling.Goals as goal
 
 pub returns-then-n-gt16 : goal.returns-then-n-gt16

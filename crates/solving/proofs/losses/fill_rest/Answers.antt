@@ -7,7 +7,6 @@ use mathlib.Core.Bool.{true}
 use mathlib.Core.List.{List}
 use Prim.Native.Nat.{ℕ, ◌<◌}
 use lib.ListN.{length, get_or}
-use borrow.Author.Tests.{not-true, not-false}
 use Rattle.code.specs.Code.{Bytes}
 use Rattle.code.proofs.Lists.{bytes_of}
 use Rattle.errata.specs.Restoring.{falling_to, filling_of}

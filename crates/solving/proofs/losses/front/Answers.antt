@@ -1,8 +1,7 @@
 -- `losses::front` clears one entry after the other behind the first n.
 -- Assumes nothing.
-use Prim.Native.Nat.{◌-◌}
 use native.Mathlib.Omega.{arith}
-use Rattle.errata.proofs.Fronts.{Clearing, clearing_start, clearing_more, clearing_end}
+use Rattle.errata.proofs.Fronts.{clearing_start, clearing_more, clearing_end}
 use Rattle.solving.proofs.losses.front.Goals as goal
 
 pub loop-k-init : goal.loop-k-init

@@ -1,8 +1,7 @@
 -- `losses::front` clears one entry after the other behind the first n.
 -- Assumes nothing.
 use Prim.Native.Nat.{◌-◌}
-use native.Mathlib.Omega.{arith}
-use Rattle.errata.proofs.Fronts.{Clearing, clearing_start, clearing_more, clearing_end}
+use Rattle.errata.proofs.Fronts.{Clearing}
 use Rattle.solving.proofs.losses.front.Given as goal
 
 abbrev pub invariant-loop-k : goal.invariant-loop-k

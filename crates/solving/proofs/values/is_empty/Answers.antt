@@ -1,11 +1,9 @@
 -- `values::is_empty` looks at one entry after the other: those before j are 0.
 -- Assumes nothing.
-use mathlib.Core.Path.{◌≡◌, sym, subst, ◌∙◌}
-use Prim.Native.Nat.{ℕ, ◌-◌, ◌≤◌, ◌<◌}
+use mathlib.Core.Path.{sym, subst, ◌∙◌}
 use native.Mathlib.Omega.{arith}
 use borrow.Author.Count.{below_more}
 use lib.Dec.{T}
-use Rattle.field.specs.Words.{entry}
 use Rattle.solving.proofs.values.is_empty.Goals as goal
 
 pub loop-j-init : goal.loop-j-init

@@ -1,10 +1,7 @@
 -- `values::is_empty` looks at one entry after the other: those before j are 0.
 -- Assumes nothing.
-use mathlib.Core.Path.{◌≡◌, sym, subst, ◌∙◌}
+use mathlib.Core.Path.{◌≡◌}
 use Prim.Native.Nat.{ℕ, ◌-◌, ◌≤◌, ◌<◌}
-use native.Mathlib.Omega.{arith}
-use borrow.Author.Count.{below_more}
-use lib.Dec.{T}
 use Rattle.field.specs.Words.{entry}
 use Rattle.solving.proofs.values.is_empty.Given as goal
 

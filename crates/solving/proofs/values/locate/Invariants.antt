@@ -1,10 +1,6 @@
 -- `values::locate` puts one locator after the other below those before it, the last one first.
 -- Assumes nothing.
-use mathlib.Core.Path.{ap, ◌∙◌}
-use Prim.Native.Nat.{◌-◌}
-use native.Mathlib.Omega.{arith}
-use Rattle.field.specs.Field.{power}
-use Rattle.solving.proofs.Places.{Locating, locating_start, locating_more, locating_end}
+use Rattle.solving.proofs.Places.{Locating}
 use Rattle.solving.proofs.values.locate.Given as goal
 
 abbrev pub invariant-loop-m : goal.invariant-loop-m

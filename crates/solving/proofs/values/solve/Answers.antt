@@ -1,12 +1,10 @@
 -- `values::solve`: each turn shifts one place out (`Turning`); what was gathered over the gaps gives the first syndromes, and what is left tells of the others.
 -- Assumes nothing.
 use mathlib.Core.Path.{◌≡◌, ◌∙◌}
-use mathlib.Core.List.{List}
-use Prim.Native.Nat.{ℕ, ◌-◌, ◌≤◌, ◌<◌}
+use Prim.Native.Nat.{◌<◌}
 use native.Mathlib.Omega.{arith}
 use Rattle.terms.proofs.Stores.{next-within, next_nearer}
-use Rattle.errata.specs.InnerValues.{Located}
-use Rattle.solving.proofs.Turning.{Turning, turning_start, turning_more, turning_end, turned_solved, turned-agrees}
+use Rattle.solving.proofs.Turning.{turning_start, turning_more, turning_end, turned_solved, turned-agrees}
 use Rattle.solving.proofs.values.solve.Goals as goal
 
 pub loop-j-init : goal.loop-j-init

@@ -29,13 +29,12 @@ pub row_ends-requires : goal.row_ends-requires
 row_ends-requires c =
     let bytes : Bytes c.gather-came.result.row = let fit : (i : ℕ) → mir.Val.Fits mir.Syntax.w8 (get_or c.gather-came.result.row i 0) = λ i. search rules in
     bytes_of _ (λ i. (fit i).fits) in
-    let few : c.gather-came.result.lost ≤ 16 = omega (arith, c.if-missing-gt16.false) in
-    (
-  row-placed _ _ c.requires.fits _ _ c.gather-came.ensures few bytes _ c.fill-e.ensures,
-  c.requires.rows,
-  omega arith,
-  omega arith,
-)
+    let few : c.gather-came.result.lost ≤ 16 = omega (arith, c.if-missing-gt16.false) in (
+      row-placed _ _ c.requires.fits _ _ c.gather-came.ensures few bytes _ c.fill-e.ensures,
+      c.requires.rows,
+      omega arith,
+      omega arith,
+    )
 
 pub returns-then-not-row_ends : goal.returns-then-not-row_ends
 returns-then-not-row_ends c =

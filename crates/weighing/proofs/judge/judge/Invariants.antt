@@ -1,10 +1,8 @@
 -- One row a turn, to the first that lacks more than sixteen bytes. Invariant, `Judging`: what was found, and what the rows from q on say, is what all say. The measure is how
 -- many rows are left.
 use Prim.Native.Nat.{◌-◌}
-use native.Mathlib.Omega.{arith}
-use borrow.Author.Count.{falls}
 use Rattle.contents.specs.Contents.{contents}
-use Rattle.weighing.proofs.JudgeLaws.{Judging, judging_first, judging_end, judging_lacks, judging_next}
+use Rattle.weighing.proofs.JudgeLaws.{Judging}
 use Rattle.weighing.proofs.judge.judge.Given as goal
 
 abbrev pub invariant-loop-q : goal.invariant-loop-q

@@ -1,7 +1,6 @@
 -- One value after the other is added. Invariant: those before k were.
 -- Assumes nothing.
 use mathlib.Core.Path.{◌≡◌, ap, ◌∙◌}
-use Prim.Native.Nat.{◌-◌, ◌≤◌}
 use native.Mathlib.Nat.{lt_of_lt_of_le}
 use native.Mathlib.Omega.{arith}
 use Rattle.ground.specs.Bits.{sum}

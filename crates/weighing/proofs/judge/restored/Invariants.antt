@@ -1,13 +1,8 @@
 -- One value after the other is added. Invariant: those before k were.
 -- Assumes nothing.
-use mathlib.Core.Path.{◌≡◌, ap, ◌∙◌}
+use mathlib.Core.Path.{◌≡◌}
 use Prim.Native.Nat.{◌-◌, ◌≤◌}
-use native.Mathlib.Nat.{lt_of_lt_of_le}
-use native.Mathlib.Omega.{arith}
-use Rattle.ground.specs.Bits.{sum}
-use Rattle.terms.proofs.Stores.{next-within, next_nearer, next_fits}
 use Rattle.errata.specs.InnerErrata.{entries, mended_by}
-use Rattle.errata.proofs.Mending.{mended_start, mended-more}
 use Rattle.weighing.proofs.judge.restored.Given as goal
 
 abbrev pub invariant-loop-k : goal.invariant-loop-k

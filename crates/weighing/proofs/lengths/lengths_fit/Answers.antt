@@ -1,12 +1,11 @@
 -- One slot a turn, to the first that is filled and has another length than it should. Invariant, `Fitting`: the walk stands at slot k, and those from there on say what all
 -- say. The measure is how many slots are left.
-use Prim.Native.Nat.{◌+◌, ◌-◌, ◌≤◌}
+use Prim.Native.Nat.{◌+◌, ◌≤◌}
 use native.Mathlib.Omega.{arith}
 use borrow.Author.Count.{falls}
 use lib.ListN.{length}
 use Rattle.standing.proofs.StandLaws.{stands_room}
-use Rattle.columns.specs.Columns.{sent_length}
-use Rattle.columns.proofs.LengthLaws.{rows_sent_lem, Fitting, fitting_first, fitting_end, fitting_not, fitting_next}
+use Rattle.columns.proofs.LengthLaws.{rows_sent_lem, fitting_first, fitting_end, fitting_not, fitting_next}
 use Rattle.weighing.proofs.lengths.lengths_fit.Goals as goal
 
 pub overflow_cast-size : goal.overflow_cast-size

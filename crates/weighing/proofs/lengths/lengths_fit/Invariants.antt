@@ -1,12 +1,8 @@
 -- One slot a turn, to the first that is filled and has another length than it should. Invariant, `Fitting`: the walk stands at slot k, and those from there on say what all
 -- say. The measure is how many slots are left.
-use Prim.Native.Nat.{◌+◌, ◌-◌, ◌≤◌}
-use native.Mathlib.Omega.{arith}
-use borrow.Author.Count.{falls}
-use lib.ListN.{length}
-use Rattle.standing.proofs.StandLaws.{stands_room}
+use Prim.Native.Nat.{◌-◌}
 use Rattle.columns.specs.Columns.{sent_length}
-use Rattle.columns.proofs.LengthLaws.{rows_sent_lem, Fitting, fitting_first, fitting_end, fitting_not, fitting_next}
+use Rattle.columns.proofs.LengthLaws.{Fitting}
 use Rattle.weighing.proofs.lengths.lengths_fit.Given as goal
 
 abbrev pub invariant-loop-k : goal.invariant-loop-k
