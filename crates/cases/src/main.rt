@@ -2,7 +2,7 @@
 #![tactic(auto)]
 
 use calls::Answer;
-use judging::Tally;
+use judgement::Tally;
 use setting::Lengths;
 use settings::Settings;
 
@@ -10,7 +10,7 @@ mod calls;
 mod commands;
 mod digests;
 mod generator;
-mod judging;
+mod judgement;
 mod lines;
 mod memory;
 mod numbers;
@@ -133,7 +133,7 @@ fn judge(
     let n = memory::fit(l.store, store);
     let b = memory::fit(l.bytes, bytes);
     let o = memory::fit(l.out, out);
-    judging::judge(
+    judgement::judge(
         command,
         line,
         &file[..f],

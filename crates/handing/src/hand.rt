@@ -111,7 +111,8 @@ pub(crate) fn hand_usable(p: Place, store: &[u8], n: usize, out: &mut [u8]) -> V
     if p.protection != 0 {
         return hand_rows(p, store, bytes, n, out);
     }
-    if n != bytes {
+    let differs = n != bytes;
+    if differs {
         return Verdict::Refused(Refusal::Size);
     }
     if out.len() < bytes {

@@ -165,7 +165,8 @@ fn take_run(
     let last = first + 255 * m;
     let end = least(begin + size, last);
     let n = held(p, store, k);
-    if n == 0 {
+    let empty = n == 0;
+    if empty {
         let column = note_run(at, lost, c, first, m, end);
         return Run {
             column,

@@ -44,14 +44,14 @@ returns-then-p-ne0 c =
     ≡ hand_joined c.args.p (joined (contents c.args.p c.args.store.now)) n out = λ n out. let t = tallied in contents-full _ _ n out t.right c.requires.by_rows (t.none c.if-seen-p.false) in
     comes_from (full _ _ ∙ joined-rows _ _ _ _ c.if-p-ne0.true) c.hand_rows.ensures
 
-pub returns-then-n-bytes : goal.returns-then-n-bytes
-returns-then-n-bytes c =
+pub returns-then-differs : goal.returns-then-differs
+returns-then-differs c =
     let seen : Sees c.args.p (contents c.args.p c.args.store.now) c.survey-seen.result = sees _ _ c.requires.ends _ c.survey-seen.ensures in
     let tallied : Tallied c.args.p (contents c.args.p c.args.store.now) c.survey-seen.result = seen.sound (not-false _ c.if-not-seen.false) in
     let full : (n : ℕ) (out : List ℕ)
     → hand_contents c.args.p (contents c.args.p c.args.store.now) n out
     ≡ hand_joined c.args.p (joined (contents c.args.p c.args.store.now)) n out = λ n out. let t = tallied in contents-full _ _ n out t.right c.requires.by_rows (t.none c.if-seen-p.false) in
-    comes_from (full _ _) (plain_size _ _ _ _ c.if-p-ne0.false (λ e. c.if-n-bytes.true (e ∙ sym tallied.bytes)))
+    comes_from (full _ _) (plain_size _ _ _ _ c.if-p-ne0.false (λ e. c.if-differs.true (e ∙ sym tallied.bytes)))
 
 pub returns-then-out-bytes : goal.returns-then-out-bytes
 returns-then-out-bytes c =
@@ -61,7 +61,7 @@ returns-then-out-bytes c =
     → hand_contents c.args.p (contents c.args.p c.args.store.now) n out
     ≡ hand_joined c.args.p (joined (contents c.args.p c.args.store.now)) n out = λ n out. let t = tallied in contents-full _ _ n out t.right c.requires.by_rows (t.none c.if-seen-p.false) in
     let l = tallied.bytes in
-    comes_from (full _ _) (plain-output _ _ _ _ c.if-p-ne0.false (c.if-n-bytes.false ∙ l) _ l c.if-out-bytes.true)
+    comes_from (full _ _) (plain-output _ _ _ _ c.if-p-ne0.false (c.if-differs.false ∙ l) _ l c.if-out-bytes.true)
 
 pub write_plain-requires : goal.write_plain-requires
 write_plain-requires c =
@@ -81,4 +81,4 @@ returns c =
     → hand_contents c.args.p (contents c.args.p c.args.store.now) n out
     ≡ hand_joined c.args.p (joined (contents c.args.p c.args.store.now)) n out = λ n out. let t = tallied in contents-full _ _ n out t.right c.requires.by_rows (t.none c.if-seen-p.false) in
     let l = tallied.bytes in
-    comes_from (full _ _) (plain-file _ _ _ _ c.if-p-ne0.false (c.if-n-bytes.false ∙ l) _ l c.if-out-bytes.false _ c.write_plain.ensures)
+    comes_from (full _ _) (plain-file _ _ _ _ c.if-p-ne0.false (c.if-differs.false ∙ l) _ l c.if-out-bytes.false _ c.write_plain.ensures)

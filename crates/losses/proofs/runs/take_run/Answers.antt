@@ -35,9 +35,9 @@ overflow_sub-result c = omega (arith, c.note_run-column.ensures.reached.on)
 pub overflow_add-result : goal.overflow_add-result
 overflow_add-result c = omega (arith, gathered-few c.requires.gathered, c.note_run-column.ensures.reached.within)
 
-pub returns-then-n-eq0 : goal.returns-then-n-eq0
-returns-then-n-eq0 c =
-    run-lost c.requires c.held-n.ensures c.least-end.ensures (omega (arith, c.if-n-eq0.true)) _ _ c.note_run-column.ensures
+pub returns-then-empty : goal.returns-then-empty
+returns-then-empty c =
+    run-lost c.requires c.held-n.ensures c.least-end.ensures (omega (arith, c.if-empty.true)) _ _ c.note_run-column.ensures
 
 pub overflow_cast-d : goal.overflow_cast-d
 overflow_cast-d c = omega arith
@@ -59,7 +59,7 @@ copy_run-behind-requires c =
     let b = c.requires in (
       b.gathered.part.sized,
       begins_walk b (omega arith) _ c.least.ensures.right,
-      run_inside b c.held-n.ensures c.least-end.ensures c.if-n-eq0.false c.least.ensures,
+      run_inside b c.held-n.ensures c.least-end.ensures c.if-empty.false c.least.ensures,
     )
 
 pub pass_run-column-requires : goal.pass_run-column-requires
@@ -75,5 +75,5 @@ pass_run-column-requires c =
 
 pub returns : goal.returns
 returns c =
-    run_came c.requires c.held-n.ensures c.least-end.ensures c.if-n-eq0.false c.least.ensures
+    run_came c.requires c.held-n.ensures c.least-end.ensures c.if-empty.false c.least.ensures
     _ _ c.copy_run-behind.ensures _ c.pass_run-column.ensures

@@ -1,6 +1,6 @@
 -- Every turn leaves one byte less.
 use Rattle.std.proofs.Common.{◌-◌, length}
-use Rattle.cases.proofs.judging.print_pairs.Given as goal
+use Rattle.cases.proofs.judgement.print_pairs.Given as goal
 
 abbrev pub invariant-loop-i : goal.invariant-loop-i
 invariant-loop-i l = Unit {0}

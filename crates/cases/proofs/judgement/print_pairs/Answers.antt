@@ -1,6 +1,6 @@
 -- Every turn leaves one byte less.
 use Rattle.std.proofs.Common.{arith}
-use Rattle.cases.proofs.judging.print_pairs.Goals as goal
+use Rattle.cases.proofs.judgement.print_pairs.Goals as goal
 
 pub bounds-bytes-i : goal.bounds-bytes-i
 bounds-bytes-i c = omega arith
