@@ -1,5 +1,5 @@
 // The calls of the library, and whether a refused one changed what it was lent.
-use crate::{commands, digests, memory, numbers, transmission, words};
+use crate::{commands, digests, memory, numbers, tokens, transmission};
 use refusals::Refusal;
 use settings::Settings;
 
@@ -55,7 +55,7 @@ fn fields_of(command: u8, bytes: &[u8], fields: &mut [u32]) -> u64 {
 
 // These, into as many of these numbers as word 1 says.
 fn read(command: u8, line: &[u8], bytes: &[u8], fields: &mut [u32], out: &mut [u8]) -> u64 {
-    let room = memory::least(words::number(line, 1) as usize, fields.len());
+    let room = memory::least(tokens::number(line, 1) as usize, fields.len());
     let answer = fields_of(command, bytes, &mut fields[0..room]);
     if answer == 0 {
         put_numbers(fields, out);
@@ -65,7 +65,7 @@ fn read(command: u8, line: &[u8], bytes: &[u8], fields: &mut [u32], out: &mut [u
 
 // A description's attributes, into as many of these numbers as word 1 says.
 fn attributes(line: &[u8], bytes: &[u8], values: &mut [u64]) -> u64 {
-    let room = memory::least(words::number(line, 1) as usize, values.len());
+    let room = memory::least(tokens::number(line, 1) as usize, values.len());
     brithelva::bh_read_description(bytes, &mut values[0..room])
 }
 
@@ -81,7 +81,7 @@ fn describe(line: &[u8], bytes: &[u8], out: &mut [u8]) -> u64 {
 // Writes the description of as many of the file's numbers as word 1 says.
 fn compose(line: &[u8], file: &[u8], bytes: &[u8], out: &mut [u8]) -> u64 {
     let mut values = [0u64; 32];
-    let count = memory::least(words::number(line, 1) as usize, 32);
+    let count = memory::least(tokens::number(line, 1) as usize, 32);
     numbers::take(file, &mut values);
     brithelva::bh_write_description(&values[0..count], bytes, out)
 }
@@ -98,7 +98,7 @@ fn pack_as(line: &[u8], file: &[u8], s: Settings, out: &mut [u8]) -> u64 {
         s.size,
         s.edition,
         s.order,
-        words::number32(line, 1),
+        tokens::number32(line, 1),
         out,
     )
 }
@@ -113,7 +113,7 @@ fn pack(line: &[u8], file: &[u8], s: Settings, out: &mut [u8]) -> u64 {
         s.protection,
         s.rows,
         s.size,
-        words::number32(line, 1),
+        tokens::number32(line, 1),
         out,
     )
 }
@@ -152,7 +152,7 @@ fn call_plain(
     if command == commands::PACK_AS {
         return pack_as(line, file, s, out);
     }
-    let n = words::number32(line, 1);
+    let n = tokens::number32(line, 1);
     brithelva::bh_pack_house(file, s.resource, s.kind, s.update, n, out)
 }
 
@@ -164,7 +164,7 @@ fn open_as(line: &[u8], held: &mut [u8], store: &mut [u8], s: Settings) -> u64 {
         s.resource,
         s.kind,
         s.update,
-        words::number32(line, 1),
+        tokens::number32(line, 1),
         s.protection,
         s.rows,
         s.size,
@@ -181,7 +181,7 @@ fn open(line: &[u8], held: &mut [u8], store: &mut [u8], s: Settings) -> u64 {
         s.resource,
         s.kind,
         s.update,
-        words::number32(line, 1),
+        tokens::number32(line, 1),
         s.protection,
         s.rows,
         s.size,
@@ -205,19 +205,19 @@ fn call_record(
         return open_as(line, held, store, s);
     }
     if command == commands::OPEN_HOUSE {
-        let count = words::number32(line, 1);
+        let count = tokens::number32(line, 1);
         return brithelva::bh_open_house(held, store, s.resource, s.kind, s.update, count);
     }
     if command == commands::OFFER {
         return brithelva::bh_offer(held, store, bytes);
     }
-    let resource = words::number16(line, 1);
-    let kind = words::number8(line, 2);
+    let resource = tokens::number16(line, 1);
+    let kind = tokens::number8(line, 2);
     if command == commands::STATUS {
         return brithelva::bh_status(held, store, resource, kind);
     }
     if command == commands::HAND {
-        return brithelva::bh_hand_out(held, store, resource, kind, words::number(line, 3), out);
+        return brithelva::bh_hand_out(held, store, resource, kind, tokens::number(line, 3), out);
     }
     brithelva::bh_close(held, store, resource, kind)
 }

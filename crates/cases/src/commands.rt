@@ -1,5 +1,5 @@
 // The commands by number: reference/README.md says what each does. Those of one kind stand together, so that a range of numbers names the kind.
-use crate::words;
+use crate::tokens;
 
 pub(crate) const FILE: u8 = 0;
 
@@ -97,8 +97,8 @@ pub(crate) const CASE: u8 = 46;
 
 // The command that a line names; a number above all of these if it names none.
 pub(crate) fn command_of(line: &[u8]) -> u8 {
-    words::order(
-        words::word(line, 0),
+    tokens::order(
+        tokens::word(line, 0),
         b"file file-put value bytes random fill put flip cut grow take append seal damage line insert drop swap out store poke held place settings edition order show-held show-store crc encode repair read read-header describe compose pack pack-as pack-house open open-as open-house offer status hand close send case",
     )
 }

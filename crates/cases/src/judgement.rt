@@ -1,7 +1,7 @@
 // The cases: each compares what is got with what is expected, writes one line, and counts.
 use crate::calls::Answer;
 use crate::digests::Digest;
-use crate::{commands, digests, memory, words};
+use crate::{commands, digests, memory, tokens};
 
 // The kinds of cases.
 const ACCEPTED: u8 = 0;
@@ -22,8 +22,8 @@ const FILE: u8 = 7;
 
 // The kind of case that a line names; a number above all of these if it names none.
 fn kind_of(line: &[u8]) -> u8 {
-    words::order(
-        words::word(line, 2),
+    tokens::order(
+        tokens::word(line, 2),
         b"accepted refused bytes out store held packet file",
     )
 }
@@ -38,7 +38,7 @@ pub(crate) struct Tally {
 // A line up to what is expected.
 fn begin(line: &[u8]) {
     io::write_all(1, b"case ");
-    io::write_all(1, words::word(line, 1));
+    io::write_all(1, tokens::word(line, 1));
     io::write_all(1, b": expected ");
 }
 
@@ -110,8 +110,8 @@ fn print_pairs(bytes: &[u8]) {
 // The pairs from word 4 on, of which there are at most 8,192, with as many bytes of the output, from the position in word 3 on.
 fn judge_bytes(line: &[u8], out: &[u8], tally: Tally) -> Tally {
     let mut expected = [0u8; 8192];
-    let n = memory::fit(words::put_pairs(line, 4, &mut expected), &expected);
-    let from = memory::fit(words::number(line, 3) as usize, out);
+    let n = memory::fit(tokens::put_pairs(line, 4, &mut expected), &expected);
+    let from = memory::fit(tokens::number(line, 3) as usize, out);
     let to = from + memory::least(n, out.len() - from);
     begin(line);
     print_pairs(&expected[..n]);
@@ -123,9 +123,9 @@ fn judge_bytes(line: &[u8], out: &[u8], tally: Tally) -> Tally {
 // The digests in the words from 3 on.
 fn expected(line: &[u8]) -> Digest {
     Digest {
-        length: words::number(line, 3),
-        crc: words::hexadecimal(line, 4),
-        fnv: words::hexadecimal(line, 5),
+        length: tokens::number(line, 3),
+        crc: tokens::hexadecimal(line, 4),
+        fnv: tokens::hexadecimal(line, 5),
     }
 }
 
@@ -186,15 +186,15 @@ pub(crate) fn judge(
     if kind == ACCEPTED {
         let expected = Answer {
             number: 0,
-            value: words::number(line, 3),
+            value: tokens::number(line, 3),
             changed: false,
         };
         return judge_answer(line, expected, got, tally);
     }
     if kind == REFUSED {
         let expected = Answer {
-            number: words::number(line, 3),
-            value: words::number(line, 4),
+            number: tokens::number(line, 3),
+            value: tokens::number(line, 4),
             changed: false,
         };
         return judge_answer(line, expected, got, tally);

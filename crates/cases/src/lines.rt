@@ -1,7 +1,7 @@
 // Lines of the bytes at hand: put in, taken away, exchanged. They are counted from 1, and 0 is taken as 1.
 ghost use Rattle.std.specs.Prelude.{◌≤◌, length};
 
-use crate::{commands, memory, words};
+use crate::{commands, memory, tokens};
 
 // Where line k begins; the end if there are fewer.
 fn start(text: &[u8], k: u64) -> usize
@@ -10,8 +10,8 @@ fn start(text: &[u8], k: u64) -> usize
     let mut at: usize = 0;
     let mut line: u64 = 1;
     while line < k && at < text.len() {
-        let end = words::next(text, at, b'\n');
-        at = words::after(text, at, end);
+        let end = tokens::next(text, at, b'\n');
+        at = tokens::after(text, at, end);
         line += 1;
     }
     at
@@ -49,12 +49,12 @@ fn take_away(bytes: &mut [u8], length: usize, k: u64) -> usize {
 fn put_in(line: &[u8], bytes: &mut [u8], length: usize, k: u64) -> usize {
     let n = memory::fit(length, bytes);
     let at = start(&bytes[..n], k);
-    insert(words::rest(line, 1), bytes, n, at)
+    insert(tokens::rest(line, 1), bytes, n, at)
 }
 
 // Takes a line away, puts one in, or both, and answers the length.
 pub(crate) fn edit(command: u8, line: &[u8], bytes: &mut [u8], length: usize) -> usize {
-    let k = words::number(line, 1);
+    let k = tokens::number(line, 1);
     if command == commands::INSERT {
         return put_in(line, bytes, length, k);
     }

@@ -15,8 +15,8 @@ mod lines;
 mod memory;
 mod numbers;
 mod setting;
+mod tokens;
 mod transmission;
-mod words;
 
 // What stays from line to line, beside the bytes.
 #[derive(Clone, Copy)]
@@ -195,9 +195,9 @@ fn run(
     let mut state = start();
     let mut at: usize = 0;
     while at < lines.len() {
-        let end = words::next(lines, at, b'\n');
+        let end = tokens::next(lines, at, b'\n');
         let from = at;
-        at = words::after(lines, at, end);
+        at = tokens::after(lines, at, end);
         state = obey(&lines[from..end], file, held, store, bytes, out, state);
     }
     state.tally

@@ -1,7 +1,7 @@
 // Numbers of 64 bits in bytes, eight bytes each, most significant first: those of description files.
 ghost use Rattle.std.specs.Prelude.{◌<◌, ◌≤◌};
 
-use crate::{digests, memory, words};
+use crate::{digests, memory, tokens};
 
 // As many whole numbers as there are in the bytes and fit.
 pub(crate) fn take(bytes: &[u8], numbers: &mut [u64]) {
@@ -27,9 +27,9 @@ pub(crate) fn put(numbers: &[u64], bytes: &mut [u8]) {
 fn set_one(line: &[u8], j: u8, from: usize, bytes: &mut [u8])
     requires { (j < 32) × (from ≤ 32) }
 {
-    if words::start(line, j + 2) < line.len() {
+    if tokens::start(line, j + 2) < line.len() {
         memory::put(
-            &memory::eight(words::number(line, j + 2)),
+            &memory::eight(tokens::number(line, j + 2)),
             bytes,
             8 * (from + j as usize),
         );
@@ -38,7 +38,7 @@ fn set_one(line: &[u8], j: u8, from: usize, bytes: &mut [u8])
 
 // The numbers from word 2 on, from the number in word 1 on, which is taken as 32 where it is more; beyond the end nothing.
 pub(crate) fn set(line: &[u8], bytes: &mut [u8]) {
-    let from = memory::least(words::number(line, 1) as usize, 32);
+    let from = memory::least(tokens::number(line, 1) as usize, 32);
     let mut j: u8 = 0;
     while j < 32 {
         set_one(line, j, from, bytes);

@@ -1,5 +1,5 @@
 // The commands that set what is at hand. Each `set_` function knows the commands for one thing, leaves it alone under any other, and answers its length.
-use crate::{commands, generator, lines, memory, numbers, words};
+use crate::{commands, generator, lines, memory, numbers, tokens};
 use settings::Settings;
 
 // How many bytes of each buffer are at hand.
@@ -15,33 +15,33 @@ pub(crate) struct Lengths {
 // Pairs from word 2 on, from the position in word 1 on; what falls beyond the end is dropped.
 fn overwrite(line: &[u8], out: &mut [u8], length: usize) {
     let end = memory::fit(length, out);
-    let at = words::number(line, 1) as usize;
+    let at = tokens::number(line, 1) as usize;
     if at < end {
-        words::put_pairs(line, 2, &mut out[at..end]);
+        tokens::put_pairs(line, 2, &mut out[at..end]);
     }
 }
 
 // As many bytes as word 2 says, each that of word 1.
 fn fill(line: &[u8], out: &mut [u8]) -> usize {
-    let n = memory::fit(words::number(line, 2) as usize, out);
-    memory::fill(&mut out[..n], words::number8(line, 1));
+    let n = memory::fit(tokens::number(line, 2) as usize, out);
+    memory::fill(&mut out[..n], tokens::number8(line, 1));
     n
 }
 
 // As many bytes as word 2 says, from the seed in word 1.
 fn generate(line: &[u8], out: &mut [u8]) -> usize {
-    let n = memory::fit(words::number(line, 2) as usize, out);
-    generator::generate(&mut out[..n], words::number32(line, 1));
+    let n = memory::fit(tokens::number(line, 2) as usize, out);
+    generator::generate(&mut out[..n], tokens::number32(line, 1));
     n
 }
 
 // The bytes from the position in word 1 on, as many as word 2 says, there are and fit.
 fn show(line: &[u8], source: &[u8], out: &mut [u8]) -> usize {
-    let from = words::number(line, 1) as usize;
+    let from = tokens::number(line, 1) as usize;
     if source.len() <= from {
         return 0;
     }
-    let n = memory::fit(words::number(line, 2) as usize, out);
+    let n = memory::fit(tokens::number(line, 2) as usize, out);
     memory::copy(&source[from..], &mut out[..n])
 }
 
@@ -73,23 +73,23 @@ pub(crate) fn set_store(command: u8, line: &[u8], store: &mut [u8], length: usiz
 
 // The twenty bytes of a place.
 fn place(line: &[u8]) -> [u8; 20] {
-    let count = memory::four(words::number32(line, 5));
-    let start = memory::four(words::number32(line, 9));
-    let resource = words::number16(line, 2);
-    let slot = words::number16(line, 8);
-    let edition = words::number16(line, 10);
-    let order = words::number16(line, 11);
+    let count = memory::four(tokens::number32(line, 5));
+    let start = memory::four(tokens::number32(line, 9));
+    let resource = tokens::number16(line, 2);
+    let slot = tokens::number16(line, 8);
+    let edition = tokens::number16(line, 10);
+    let order = tokens::number16(line, 11);
     [
         (resource % 256) as u8,
         (resource / 256) as u8,
-        words::number8(line, 3),
-        words::number8(line, 4),
+        tokens::number8(line, 3),
+        tokens::number8(line, 4),
         count[3],
         count[2],
         count[1],
         count[0],
-        words::number8(line, 6),
-        words::number8(line, 7),
+        tokens::number8(line, 6),
+        tokens::number8(line, 7),
         (slot % 256) as u8,
         (slot / 256) as u8,
         start[3],
@@ -105,13 +105,13 @@ fn place(line: &[u8]) -> [u8; 20] {
 
 pub(crate) fn set_held(command: u8, line: &[u8], held: &mut [u8], length: usize) -> usize {
     if command == commands::HELD {
-        let n = memory::fit(words::number(line, 1) as usize, held);
+        let n = memory::fit(tokens::number(line, 1) as usize, held);
         memory::fill(&mut held[..n], 0);
         return n;
     }
     if command == commands::PLACE {
         let end = memory::fit(length, held);
-        let i = words::number(line, 1);
+        let i = tokens::number(line, 1);
         if i < 8 {
             let at = i as usize * 20;
             if at < end {
@@ -147,7 +147,7 @@ pub(crate) fn set_out(
 // Zeros behind, up to the length in word 1.
 fn grow(line: &[u8], bytes: &mut [u8], length: usize) -> usize {
     let from = memory::fit(length, bytes);
-    let to = memory::fit(words::number(line, 1) as usize, bytes);
+    let to = memory::fit(tokens::number(line, 1) as usize, bytes);
     if to <= from {
         return from;
     }
@@ -157,7 +157,7 @@ fn grow(line: &[u8], bytes: &mut [u8], length: usize) -> usize {
 
 // The first bytes of the output, as many as word 1 says, behind those that are there.
 fn append(line: &[u8], bytes: &mut [u8], length: usize, out: &[u8], size: usize) -> usize {
-    let n = memory::fit(memory::least(words::number(line, 1) as usize, size), out);
+    let n = memory::fit(memory::least(tokens::number(line, 1) as usize, size), out);
     memory::put(&out[..n], bytes, length)
 }
 
@@ -181,8 +181,8 @@ fn alter(command: u8, line: &[u8], bytes: &mut [u8]) {
     if command == commands::FLIP {
         memory::flip(
             bytes,
-            words::number(line, 1) as usize,
-            words::number8(line, 2),
+            tokens::number(line, 1) as usize,
+            tokens::number8(line, 2),
         );
         return;
     }
@@ -191,7 +191,7 @@ fn alter(command: u8, line: &[u8], bytes: &mut [u8]) {
         return;
     }
     if command == commands::DAMAGE {
-        generator::damage(bytes, words::number(line, 1), words::number32(line, 2));
+        generator::damage(bytes, tokens::number(line, 1), tokens::number32(line, 2));
     }
 }
 
@@ -203,7 +203,7 @@ pub(crate) fn set_bytes(
     l: Lengths,
 ) -> usize {
     if command == commands::BYTES {
-        return words::put_pairs(line, 1, bytes);
+        return tokens::put_pairs(line, 1, bytes);
     }
     if command == commands::RANDOM {
         return generate(line, bytes);
@@ -212,7 +212,7 @@ pub(crate) fn set_bytes(
         return fill(line, bytes);
     }
     if command == commands::CUT {
-        return memory::least(l.bytes, words::number(line, 1) as usize);
+        return memory::least(l.bytes, tokens::number(line, 1) as usize);
     }
     if command == commands::GROW {
         return grow(line, bytes, l.bytes);
@@ -224,7 +224,7 @@ pub(crate) fn set_bytes(
         return append(line, bytes, l.bytes, out, l.out);
     }
     if command == commands::LINE {
-        return lines::insert(words::rest(line, 0), bytes, l.bytes, l.bytes);
+        return lines::insert(tokens::rest(line, 0), bytes, l.bytes, l.bytes);
     }
     if commands::LINE < command && command <= commands::SWAP {
         return lines::edit(command, line, bytes, l.bytes);
@@ -237,24 +237,24 @@ pub(crate) fn set_bytes(
 pub(crate) fn set_settings(command: u8, line: &[u8], settings: Settings) -> Settings {
     if command == commands::SETTINGS {
         return Settings {
-            resource: words::number16(line, 1),
-            kind: words::number8(line, 2),
-            update: words::number8(line, 3),
-            protection: words::number8(line, 4),
-            rows: words::number8(line, 5),
-            size: words::number16(line, 6),
+            resource: tokens::number16(line, 1),
+            kind: tokens::number8(line, 2),
+            update: tokens::number8(line, 3),
+            protection: tokens::number8(line, 4),
+            rows: tokens::number8(line, 5),
+            size: tokens::number16(line, 6),
             edition: settings.edition,
             order: settings.order,
         };
     }
     if command == commands::EDITION {
         let mut next = settings;
-        next.edition = words::number16(line, 1);
+        next.edition = tokens::number16(line, 1);
         return next;
     }
     if command == commands::ORDER {
         let mut next = settings;
-        next.order = words::number16(line, 1);
+        next.order = tokens::number16(line, 1);
         return next;
     }
     settings

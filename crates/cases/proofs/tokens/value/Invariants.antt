@@ -1,6 +1,6 @@
 -- Every turn leaves one byte less of the word.
 use Rattle.std.proofs.Common.{◌-◌, length}
-use Rattle.cases.proofs.words.value.Given as goal
+use Rattle.cases.proofs.tokens.value.Given as goal
 
 abbrev pub invariant-loop-i : goal.invariant-loop-i
 invariant-loop-i l = Unit {0}

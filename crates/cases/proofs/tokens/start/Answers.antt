@@ -1,6 +1,6 @@
 -- Every turn passes one word. Invariant: the position lies in the line.
 use Rattle.std.proofs.Common.{arith}
-use Rattle.cases.proofs.words.start.Goals as goal
+use Rattle.cases.proofs.tokens.start.Goals as goal
 
 pub loop-left-init : goal.loop-left-init
 loop-left-init c = omega arith

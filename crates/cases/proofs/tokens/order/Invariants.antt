@@ -1,6 +1,6 @@
 -- Fifty turns.
 use Rattle.std.proofs.Common.{◌-◌}
-use Rattle.cases.proofs.words.order.Given as goal
+use Rattle.cases.proofs.tokens.order.Given as goal
 
 abbrev pub invariant-loop-k : goal.invariant-loop-k
 invariant-loop-k l = Unit {0}

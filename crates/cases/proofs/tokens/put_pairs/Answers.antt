@@ -1,6 +1,6 @@
 -- Every turn leaves one pair less. Invariant: the output keeps its length.
 use Rattle.std.proofs.Common.{arith}
-use Rattle.cases.proofs.words.put_pairs.Goals as goal
+use Rattle.cases.proofs.tokens.put_pairs.Goals as goal
 
 pub overflow_sub-line : goal.overflow_sub-line
 overflow_sub-line c = omega arith

@@ -1,6 +1,6 @@
 -- Every turn leaves one byte less of the word.
 use Rattle.std.proofs.Common.{arith}
-use Rattle.cases.proofs.words.value.Goals as goal
+use Rattle.cases.proofs.tokens.value.Goals as goal
 
 pub bounds-word-i : goal.bounds-word-i
 bounds-word-i c = omega arith

@@ -1,6 +1,6 @@
 -- Fifty turns.
 use Rattle.std.proofs.Common.{arith}
-use Rattle.cases.proofs.words.order.Goals as goal
+use Rattle.cases.proofs.tokens.order.Goals as goal
 
 pub overflow_add-k : goal.overflow_add-k
 overflow_add-k c = omega arith

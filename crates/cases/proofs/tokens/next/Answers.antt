@@ -1,6 +1,6 @@
 -- Every turn leaves one byte less of the text. Invariant: the position lies between the start and the end.
 use Rattle.std.proofs.Common.{arith}
-use Rattle.cases.proofs.words.next.Goals as goal
+use Rattle.cases.proofs.tokens.next.Goals as goal
 
 pub bounds-text-i : goal.bounds-text-i
 bounds-text-i c = omega arith
