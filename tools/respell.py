@@ -72,9 +72,12 @@ TYPES = {"lies": "Lies"}
 KEPT = {"and-true", "mul-one", "zero-add"}
 
 
-def respelled(name, words):
+def respelled(name, words, functions):
     if name in TYPES or name in KEPT:
         return TYPES.get(name, name)
+    # the law of one result of a function has the function's name as the source spells it
+    if name.endswith("-one") and snake(name[:-4]).replace("-", "_") in functions:
+        return snake(name).replace("-", "_")
     if "_" in name and not re.fullmatch("[A-Za-z]+", name[0]) or not re.search(r"[A-Za-z]", name):
         return name
     if name[0].isupper() and "-" not in name:
@@ -102,6 +105,7 @@ def main():
                 now[path] = f.read()
     found = declared(texts)
     words = WORDS | {snake(n) for n, spec in found.items() if spec and "-" not in n}
+    functions = {f for path, text in texts.items() if path.endswith(".rt") for f in re.findall(r"\bfn (\w+)", text)}
     present = set()
     for text in now.values():
         present.update(tokens(text))
@@ -122,7 +126,7 @@ def main():
     table = {}
     for name in found:
         # a library's name keeps the library's spelling
-        table[name] = ported[name] if ported[name] != name else respelled(name, words)
+        table[name] = ported[name] if ported[name] != name else respelled(name, words, functions)
     groups = collections.defaultdict(list)
     for name, new in table.items():
         groups[new.replace("-", "_")].append(name)
@@ -164,7 +168,7 @@ def main():
         def meant(t, at, whole):
             if t not in origin or (path.endswith(".rt") and not any(found[n] for n in origin[t])):
                 return t
-            if walked and at and whole[at - 1] == "." and "." not in whole[max(0, at - 2) : at - 1] and t in labels(whole, at):
+            if walked and is_step(whole, at):
                 return t
             if len(origin[t]) == 1:
                 return table[origin[t][0]]
@@ -172,12 +176,12 @@ def main():
                 return table[queues[t].pop(0)]
             return t
 
-        def labels(whole, at):
-            # a path that begins at a goal's argument is Rattle's up to the facts of a contract
+        def is_step(whole, at):
+            # behind a dot, on a path that begins at a goal's argument, stand names that Rattle makes
             start = at
             while start and not whole[start - 1].isspace() and whole[start - 1] not in "({[,;":
                 start -= 1
-            return {whole[at : at + len(m)] for m in [re.match(W, whole[at:]).group(0)]} if re.match(r"(c|d|b|s|w)\.before|c\.", whole[start:]) else set()
+            return start < at and whole[at - 1] == "." and re.match(r"[cdbsw]\.before|c\.", whole[start:])
 
         def turn(m):
             t = m.group(0)

@@ -10,8 +10,8 @@ use Rattle.encoding.proofs as encoding
 pub generator_one : OneResult (ended_of _ encoding.generator.Kinds.ps encoding.generator.Kinds.r) encoding.generator.Reads.Learnt
 generator_one κs a r s d e p q = (equation p q, refl)
 
-pub encode-row_one : OneResult (ended_of _ encoding.encode_row.Kinds.ps encoding.encode_row.Kinds.r) encoding.encode_row.Reads.Learnt
-encode-row_one κs a r s d e p q = (equation p q, refl)
+pub encode_row_one : OneResult (ended_of _ encoding.encode_row.Kinds.ps encoding.encode_row.Kinds.r) encoding.encode_row.Reads.Learnt
+encode_row_one κs a r s d e p q = (equation p q, refl)
 
 pub put_checks_one : OneResult (ended_of _ encoding.put_checks.Kinds.ps encoding.put_checks.Kinds.r) encoding.put_checks.Reads.Learnt
 put_checks_one κs a r s d e p q = (refl, lent (equation p q) refl)

@@ -10,5 +10,5 @@ use Rattle.pack.proofs as pack
 pub pack_one : OneResult (ended_of _ pack.pack.Kinds.ps pack.pack.Kinds.r) pack.pack.Reads.Learnt
 pack_one κs a r s d e p q = (equation p.answer q.answer, after 3 (lent (equation p.output q.output) refl))
 
-pub pack-house_one : OneResult (ended_of _ pack.pack_house.Kinds.ps pack.pack_house.Kinds.r) pack.pack_house.Reads.Learnt
-pack-house_one κs a r s d e p q = (equation p.answer q.answer, after 5 (lent (equation p.output q.output) refl))
+pub pack_house_one : OneResult (ended_of _ pack.pack_house.Kinds.ps pack.pack_house.Kinds.r) pack.pack_house.Reads.Learnt
+pack_house_one κs a r s d e p q = (equation p.answer q.answer, after 5 (lent (equation p.output q.output) refl))

@@ -21,8 +21,8 @@ find_unused_one κs a r s d e p q = (equation p q, refl)
 pub cover_of_one : OneResult (ended_of _ places.cover_of.Kinds.ps places.cover_of.Kinds.r) places.cover_of.Reads.Learnt
 cover_of_one κs a r s d e p q = (equation p q, refl)
 
-pub count-fits_one : OneResult (ended_of _ places.count_fits.Kinds.ps places.count_fits.Kinds.r) places.count_fits.Reads.Learnt
-count-fits_one κs a r s d e p q = (equation p q, refl)
+pub count_fits_one : OneResult (ended_of _ places.count_fits.Kinds.ps places.count_fits.Kinds.r) places.count_fits.Reads.Learnt
+count_fits_one κs a r s d e p q = (equation p q, refl)
 
 pub place_of_one : OneResult (ended_of _ places.place_of.Kinds.ps places.place_of.Kinds.r) places.place_of.Reads.Learnt
 place_of_one κs a r s d e p q = (equation p q, refl)

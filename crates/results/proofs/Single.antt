@@ -9,5 +9,5 @@ use Rattle.single.proofs as single
 pub repair_one : OneResult (ended_of _ single.repair.Kinds.ps single.repair.Kinds.r) single.repair.Reads.Learnt
 repair_one κs a r s d e p q = (equation p q, refl)
 
-pub repair-row_one : OneResult (ended_of _ single.repair_row.Kinds.ps single.repair_row.Kinds.r) single.repair_row.Reads.Learnt
-repair-row_one κs a r s d e p q = (equation p q, refl)
+pub repair_row_one : OneResult (ended_of _ single.repair_row.Kinds.ps single.repair_row.Kinds.r) single.repair_row.Reads.Learnt
+repair_row_one κs a r s d e p q = (equation p q, refl)

@@ -2,7 +2,6 @@
 use Rattle.calendar.proofs.OrderLaws.{by_year, by_month, by_day, by_hour, by_minute, by_second}
 use Rattle.calendar.proofs.not_after.Goals as goal
 
--- `p5` is the place of the fifth test, and so on back to the first
 pub returns-then-a-b : goal.returns-then-a-b
 returns-then-a-b c =
     let t = c.args in

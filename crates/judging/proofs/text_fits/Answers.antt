@@ -31,7 +31,6 @@ slice_bounds-part-start c = omega arith
 pub slice_bounds-part-end : goal.slice_bounds-part-end
 slice_bounds-part-end c = omega arith
 
--- `s` is the place behind the three tests, `u` the one behind the call that looks for breaks
 pub returns-then-unbroken : goal.returns-then-unbroken
 returns-then-unbroken c =
     let a = c.args in
