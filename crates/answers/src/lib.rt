@@ -11,11 +11,8 @@ ghost use Rattle.standing.specs.Told.{standing_told};
 ghost use Rattle.face.specs.Face.{answer_of, valued, Says, puts_if};
 ghost use Rattle.answers.specs.Answers.{word_of};
 
-use attributes::Composed;
-use pack::Packed;
-use places::Found;
 use record::Offered;
-use refusals::{Refusal, Verdict};
+use refusals::Refusal;
 use standing::Standing;
 
 // A value goes into the bits above the number's eight, of which there are 56.
@@ -29,32 +26,32 @@ pub fn refused(r: Refusal) -> u64
 }
 
 // What is answered where nothing is handed over.
-pub fn verdict_of(verdict: Verdict) -> u64
+pub fn verdict_of(verdict: Result<(), Refusal>) -> u64
     ensures { result ≡ answer_of (verdict_told verdict) }
 {
     match verdict {
-        Verdict::Accepted => 0,
-        Verdict::Refused(r) => refused(r),
+        Ok(()) => 0,
+        Err(r) => refused(r),
     }
 }
 
 // What packing answers: a packet's length as the value.
-pub fn packed_as(packed: Packed) -> u64
+pub fn packed_as(packed: Result<usize, Refusal>) -> u64
     ensures { result ≡ word_of (answer_of (packed_told packed)) }
 {
     match packed {
-        Packed::Written(n) => 256 * (n as u64 % TOP),
-        Packed::Refused(r) => refused(r),
+        Ok(n) => 256 * (n as u64 % TOP),
+        Err(r) => refused(r),
     }
 }
 
 // What writing a description answers: its length as the value.
-pub fn composed_as(composed: Composed) -> u64
+pub fn composed_as(composed: Result<usize, Refusal>) -> u64
     ensures { result ≡ word_of (answer_of (composed_told composed)) }
 {
     match composed {
-        Composed::Text(n) => 256 * (n as u64 % TOP),
-        Composed::Refused(r) => refused(r),
+        Ok(n) => 256 * (n as u64 % TOP),
+        Err(r) => refused(r),
     }
 }
 
@@ -70,12 +67,12 @@ pub fn offered_as(offered: Offered) -> u64
 }
 
 // The filled slots, and the lowest empty one plus one in front of them where there is one.
-fn filled_as(n: u32, lowest: Found) -> u64
+fn filled_as(n: u32, lowest: Option<usize>) -> u64
     ensures { result ≡ word_of (answer_of (standing_told (Filled n lowest))) }
 {
     match lowest {
-        Found::At(i) => 256 * ((n as u64 + 16777216 * (i as u64 % 4294967296 + 1)) % TOP),
-        Found::Nothing => 256 * n as u64,
+        Some(i) => 256 * ((n as u64 + 16777216 * (i as u64 % 4294967296 + 1)) % TOP),
+        None => 256 * n as u64,
     }
 }
 
@@ -90,12 +87,12 @@ pub fn standing_as(standing: Standing) -> u64
 }
 
 // The bytes that go with a verdict.
-pub fn put_if(verdict: Verdict, bytes: &[u8], out: &mut [u8]) -> u64
+pub fn put_if(verdict: Result<(), Refusal>, bytes: &[u8], out: &mut [u8]) -> u64
     ensures { Says (puts_if (verdict_told verdict) bytes.now out.old) result out.new }
 {
     match verdict {
-        Verdict::Accepted => face::put(bytes, out),
-        Verdict::Refused(r) => refused(r),
+        Ok(()) => face::put(bytes, out),
+        Err(r) => refused(r),
     }
 }
 

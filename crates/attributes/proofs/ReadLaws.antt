@@ -13,14 +13,16 @@ use Rattle.ground.proofs.Listed.{le_or_lt}
 use Rattle.refusals.specs.declared.Refusal.TheVariants.{Line, Extra}
 use Rattle.attributes.specs.declared.Part.{Part}
 use Rattle.attributes.specs.declared.Description.{Description}
-use Rattle.attributes.specs.declared.Described.{Described}
-use Rattle.attributes.specs.declared.Described.TheVariants.{«Attributes», Refused}
 use Rattle.attributes.specs.Attributes.{attributes_of}
 use Rattle.attributes.specs.Rules.{rules_of, placed, rules, lowest}
 use Rattle.attributes.specs.Lines.{is_line, value_at, behind_line, alone, before, lines_from, lines_of}
 use Rattle.attributes.specs.Describe.{description_in, lower, fault_of, describe_of}
 use Rattle.attributes.specs.Statements.{ReadingInRange, SoundLine, LowestFault, ExtraLast, TellsFault, TellsExtra}
 use Rattle.attributes.proofs.RuleLaws.{lowest-some, lowest-before, lowest_not, both-all, sound-range}
+use Rattle.refusals.specs.declared.Refusal.{Refusal}
+use Rattle.std.specs.Prelude.{Result}
+use Rattle.std.specs.Prelude.{Err}
+use Rattle.std.specs.Prelude.{Ok}
 
 -- ---- the number of lines, and the number of the fault
 
@@ -96,28 +98,28 @@ fault_some t = lower_either (lowest (kept t)) (suc (length (found t))) (λ k. 1 
 
 -- ---- each answer with its reason
 
-pub data Reason (t : List ℕ) : Described → Type 0 where
-  at-line : fault_of t ≤ 15 → Reason t (Refused (Line (fault_of t)))
-  behind : 15 < fault_of t → (lines_of t).next < length t → Reason t (Refused Extra)
-  whole : 15 < fault_of t → length t ≤ (lines_of t).next → Reason t («Attributes» (description_in t (found t)))
+pub data Reason (t : List ℕ) : Result Description Refusal → Type 0 where
+  at-line : fault_of t ≤ 15 → Reason t (Err (Line (fault_of t)))
+  behind : 15 < fault_of t → (lines_of t).next < length t → Reason t (Err Extra)
+  whole : 15 < fault_of t → length t ≤ (lines_of t).next → Reason t (Ok (description_in t (found t)))
 
 pub reason : (t : List ℕ) → Reason t (describe_of t)
 unfolding describe_of
 reason t = by (leb (fault_of t) 15) refl (ltb (lines_of t).next (length t)) refl
   where
     by : (b : Bool) → leb (fault_of t) 15 ≡ b → (c : Bool) → ltb (lines_of t).next (length t) ≡ c
-        → Reason t (cond b (Refused (Line (fault_of t))) (cond c (Refused Extra) («Attributes» (description_in t (found t)))))
+        → Reason t (cond b (Err (Line (fault_of t))) (cond c (Err Extra) (Ok (description_in t (found t)))))
     by true e c f = at-line (leb-true (fault_of t) 15 e)
     by false e true f = behind (leb-false (fault_of t) 15 e) (ltb-true (lines_of t).next (length t) f)
     by false e false f = whole (leb-false (fault_of t) 15 e) (ltb-false (lines_of t).next (length t) f)
 
 -- the reader takes a text without a fault
-pub takes : (t : List ℕ) → 15 < fault_of t → length t ≤ (lines_of t).next → describe_of t ≡ «Attributes» (description_in t (found t))
+pub takes : (t : List ℕ) → 15 < fault_of t → length t ≤ (lines_of t).next → describe_of t ≡ Ok (description_in t (found t))
 unfolding describe_of
 takes t h e =
-    ap (λ (b : Bool). cond b (Refused (Line (fault_of t))) (cond (ltb (lines_of t).next (length t)) (Refused Extra) («Attributes» (description_in t (found t)))))
+    ap (λ (b : Bool). cond b (Err (Line (fault_of t))) (cond (ltb (lines_of t).next (length t)) (Err Extra) (Ok (description_in t (found t)))))
     (lt-leb (fault_of t) 15 h)
-    ∙ ap (λ (c : Bool). cond c (Refused Extra) («Attributes» (description_in t (found t)))) (le-ltb (lines_of t).next (length t) e)
+    ∙ ap (λ (c : Bool). cond c (Err Extra) (Ok (description_in t (found t)))) (le-ltb (lines_of t).next (length t) e)
 
 -- what is known of a text that it takes
 pub record Taken (t : List ℕ) (d : Description) : Type 0 where
@@ -126,10 +128,10 @@ pub record Taken (t : List ℕ) (d : Description) : Type 0 where
   pub end : length t ≤ (lines_of t).next
   pub rules-kept : (i : ℕ) → i < 15 → get_or (rules t d) i false ≡ true
 
-pub taken : (t : List ℕ) (d : Description) → describe_of t ≡ «Attributes» d → Taken t d
+pub taken : (t : List ℕ) (d : Description) → describe_of t ≡ Ok d → Taken t d
 taken t d e = by (describe_of t) (reason t) e
   where
-    by : (r : Described) → Reason t r → r ≡ «Attributes» d → Taken t d
+    by : (r : Result Description Refusal) → Reason t r → r ≡ Ok d → Taken t d
     by _ (at-line h) f = let z : ◌≡◌ {A = ℕ} 0 1 = cc in absurd (omega arith)
     by _ (behind h l) f = let z : ◌≡◌ {A = ℕ} 0 1 = cc in absurd (omega arith)
     by _ (whole h l) f =
@@ -151,7 +153,7 @@ reading_in_range t d e = sound-range (attributes_of t d) (λ i h. (both-all (pla
 pub lowest_fault : LowestFault describe_of
 lowest_fault t k e = by (describe_of t) (reason t) e
   where
-    by : (r : Described) → Reason t r → r ≡ Refused (Line k) → (1 ≤ k) × (k ≤ 15) × (SoundLine t k → ⊥) × ((j : ℕ) → 1 ≤ j → j < k → SoundLine t j)
+    by : (r : Result Description Refusal) → Reason t r → r ≡ Err (Line k) → (1 ≤ k) × (k ≤ 15) × (SoundLine t k → ⊥) × ((j : ℕ) → 1 ≤ j → j < k → SoundLine t j)
     by _ (at-line h) f =
         let s : fault_of t ≡ k = cc in
         let l = fault_some t in
@@ -162,7 +164,7 @@ lowest_fault t k e = by (describe_of t) (reason t) e
 pub extra_last : ExtraLast describe_of
 extra_last t e j l h = by (describe_of t) (reason t) e
   where
-    by : (r : Described) → Reason t r → r ≡ Refused Extra → SoundLine t j
+    by : (r : Result Description Refusal) → Reason t r → r ≡ Err Extra → SoundLine t j
     by _ (at-line m) f = let z : ◌≡◌ {A = ℕ} 0 1 = cc in absurd (omega arith)
     by _ (behind m o) f = sound-before t j l (omega arith)
     by _ (whole m o) f = let z : ◌≡◌ {A = ℕ} 0 1 = cc in absurd (omega arith)
@@ -181,15 +183,15 @@ tells_fault t k l m bad good = by (describe_of t) (reason t)
         near (inl a) (inr b) = absurd (bad (sound-before t k l b))
         near (inr a) b = absurd (not_sound t (good (fault_of t) (fault_some t) a))
 
-    by : (r : Described) → Reason t r → r ≡ Refused (Line k)
-    by _ (at-line h) = ap (λ (n : ℕ). Refused (Line n)) is_fault
+    by : (r : Result Description Refusal) → Reason t r → r ≡ Err (Line k)
+    by _ (at-line h) = ap (λ (n : ℕ). Err (Line n)) is_fault
     by _ (behind h n) = let e = is_fault in absurd (omega arith)
     by _ (whole h n) = let e = is_fault in absurd (omega arith)
 
 pub tells_extra : TellsExtra describe_of
 tells_extra t good more = by (describe_of t) (reason t)
   where
-    by : (r : Described) → Reason t r → r ≡ Refused Extra
+    by : (r : Result Description Refusal) → Reason t r → r ≡ Err Extra
     by _ (at-line h) = absurd (not_sound t (good (fault_of t) (fault_some t) h))
     by _ (behind h n) = refl
     by _ (whole h n) = absurd (omega arith)

@@ -12,7 +12,6 @@ use lib.Seq.{sets, take_at}
 use Rattle.ground.proofs.Writing.{sets-front}
 use Rattle.refusals.specs.declared.Refusal.TheVariants.{Line, Output}
 use Rattle.attributes.specs.declared.Description.{Description}
-use Rattle.attributes.specs.declared.Composed.TheVariants.{Text, Refused}
 use Rattle.attributes.specs.Attributes.{Attributes, attributes_of, values}
 use Rattle.attributes.specs.Rules.{rules_of, placed, rules, lowest}
 use Rattle.attributes.specs.Describe.{describe_of}
@@ -21,6 +20,7 @@ use Rattle.attributes.specs.Statements.{InRange, plain, ReadsBack}
 use Rattle.attributes.proofs.PlainLaws.{lines_own}
 use Rattle.attributes.proofs.RuleLaws.{lowest-before, both-all, sound-range, values-unbroken}
 use Rattle.attributes.proofs.TakesSound.{takes_sound}
+use Rattle.std.specs.Prelude.{Ok, Err}
 
 -- ---- an accepted writing
 
@@ -30,7 +30,7 @@ pub record Accepted (t : List ℕ) (d : Description) (out : List ℕ) (n : ℕ) 
   pub room : n ≤ length out
   pub written : (compose_of t d out).out ≡ sets out 0 (text_of (attributes_of t d))
 
-pub accepted : (t : List ℕ) (d : Description) (out : List ℕ) (n : ℕ) → (compose_of t d out).answer ≡ Text n → Accepted t d out n
+pub accepted : (t : List ℕ) (d : Description) (out : List ℕ) (n : ℕ) → (compose_of t d out).answer ≡ Ok n → Accepted t d out n
 unfolding compose_of
 accepted t d out n e = by (leb (lowest (rules t d)) 15) (ltb (length out) (length x)) refl refl refl
   where
@@ -39,8 +39,8 @@ accepted t d out n e = by (leb (lowest (rules t d)) 15) (ltb (length out) (lengt
 
     outcome : Bool → Bool → Writing
     outcome b c =
-        cond b (record { answer = Refused (Line (lowest (rules t d))); out = out })
-        (cond c (record { answer = Refused Output; out = out }) (record { answer = Text (length x); out = sets out 0 x }))
+        cond b (record { answer = Err (Line (lowest (rules t d))); out = out })
+        (cond c (record { answer = Err Output; out = out }) (record { answer = Ok (length x); out = sets out 0 x }))
 
     by : (b c : Bool) → leb (lowest (rules t d)) 15 ≡ b → ltb (length out) (length x) ≡ c → compose_of t d out ≡ outcome b c → Accepted t d out n
     by true c f g h = let z : ◌≡◌ {A = ℕ} 0 1 = cc in absurd (omega arith)

@@ -18,8 +18,6 @@ use Rattle.times.specs.Written.{time_text, time_at, time_in}
 use Rattle.refusals.specs.declared.Refusal.{Refusal}
 use Rattle.refusals.specs.declared.Refusal.TheVariants.{Line, Output}
 use Rattle.attributes.specs.declared.Description.{Description}
-use Rattle.attributes.specs.declared.Described.TheVariants as described
-use Rattle.attributes.specs.declared.Composed.TheVariants as composed
 use Rattle.attributes.specs.Attributes.{Attributes, attributes_of, no_charset, no_size, values}
 use Rattle.attributes.specs.Rules.{rules_of, placed, rules}
 use Rattle.attributes.specs.Lines.{lines_text, value_at, lines_of}
@@ -28,6 +26,7 @@ use Rattle.attributes.specs.Compose.{text_of, Writing}
 use Rattle.attributes.specs.Statements.{InRange, PartsInside, ReadingInRange, WritesSound, TakesSound, SoundLine, ExtraLast, TellsFault, SoundAttribute, TellsAttribute}
 use Rattle.attributes.specs.Wrong.{refusing_reader, refusing_writer, room_first, extra_first, one_fault, without_cr_lf, start_of, beginning, every_fourth}
 use Rattle.attributes.proofs.ReadsBack.{text_own}
+use Rattle.std.specs.Prelude.{Err}
 
 -- ---- the example
 
@@ -114,7 +113,7 @@ has_four (suc (suc (suc (suc (suc j))))) l h = absurd (omega arith)
 pub room-first-turned : TellsAttribute room_first → ⊥
 unfolding room_first text_of values digits
 room-first-turned p =
-    let e : composed.Refused Output ≡ composed.Refused (Line 5) = ap (λ (w : Writing). w.answer) (p [] shown [] 5 (omega arith) (omega arith) lacks-name has_four) in
+    let e : Err Output ≡ Err (Line 5) = ap (λ (w : Writing). w.answer) (p [] shown [] 5 (omega arith) (omega arith) lacks-name has_four) in
     let z : ◌≡◌ {A = ℕ} 0 1 = cc in
     omega arith
 
@@ -149,8 +148,8 @@ has_one (suc (suc j)) l h = absurd (omega arith)
 pub one_fault_turned : (why : Refusal) → TellsFault (one_fault why) → ⊥
 unfolding one_fault fault_of lines_of text_of values digits value_at rules placed rules_of description_in number_in is_number
 one_fault_turned why p =
-    let a : described.Refused why ≡ described.Refused (Line 1) = p [] 1 (omega arith) (omega arith) lacks_one (λ j l h. absurd (omega arith)) in
-    let b : described.Refused why ≡ described.Refused (Line 2) = p one_line 2 (omega arith) (omega arith) lacks-two has_one in
+    let a : Err why ≡ Err (Line 1) = p [] 1 (omega arith) (omega arith) lacks_one (λ j l h. absurd (omega arith)) in
+    let b : Err why ≡ Err (Line 2) = p one_line 2 (omega arith) (omega arith) lacks-two has_one in
     let z : ◌≡◌ {A = ℕ} 1 2 = cc in
     omega arith
 

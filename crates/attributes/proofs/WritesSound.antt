@@ -13,20 +13,20 @@ use lib.Seq.{sets}
 use Rattle.refusals.specs.declared.Refusal.{Refusal}
 use Rattle.refusals.specs.declared.Refusal.TheVariants.{Line, Output}
 use Rattle.attributes.specs.declared.Description.{Description}
-use Rattle.attributes.specs.declared.Composed.TheVariants.{Text, Refused}
 use Rattle.attributes.specs.Attributes.{attributes_of}
 use Rattle.attributes.specs.Rules.{rules_of, placed, rules, lowest}
 use Rattle.attributes.specs.Compose.{text_of, Writing, compose_of}
 use Rattle.attributes.specs.Statements.{WritesSound, TellsAttribute, TellsRoom}
 use Rattle.attributes.proofs.RuleLaws.{lowest_is, rules-sound}
+use Rattle.std.specs.Prelude.{Ok, Err}
 
 -- ---- the whole outcome, by the lowest fault and by the room
 
 abbrev refusing : List ℕ → Refusal → Writing
-refusing out why = record { answer = Refused why; out = out }
+refusing out why = record { answer = Err why; out = out }
 
 abbrev by_room : List ℕ → Description → List ℕ → Bool → Writing
-by_room t d out c = cond c (refusing out Output) (record { answer = Text (length (text_of (attributes_of t d))); out = sets out 0 (text_of (attributes_of t d)) })
+by_room t d out c = cond c (refusing out Output) (record { answer = Ok (length (text_of (attributes_of t d))); out = sets out 0 (text_of (attributes_of t d)) })
 
 abbrev by_fault : List ℕ → Description → List ℕ → ℕ → Writing
 by_fault t d out n = cond (leb n 15) (refusing out (Line n)) (by_room t d out (ltb (length out) (length (text_of (attributes_of t d)))))

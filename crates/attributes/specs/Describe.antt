@@ -8,11 +8,13 @@ use Rattle.refusals.specs.declared.Refusal.TheVariants.{Line, Extra}
 use Rattle.calendar.specs.Calendar.{no_time}
 use Rattle.attributes.specs.declared.Part.{Part}
 use Rattle.attributes.specs.declared.Description.{Description}
-use Rattle.attributes.specs.declared.Described.{Described}
-use Rattle.attributes.specs.declared.Described.TheVariants.{«Attributes», Refused}
 use Rattle.attributes.specs.Attributes.{no_charset, no_size, part_of}
 use Rattle.attributes.specs.Rules.{rules, lowest}
 use Rattle.attributes.specs.Lines.{lines_of}
+use Rattle.refusals.specs.declared.Refusal.{Refusal}
+use Rattle.std.specs.Prelude.{Result}
+use Rattle.std.specs.Prelude.{Err}
+use Rattle.std.specs.Prelude.{Ok}
 
 -- the part of a line that is not there
 abbrev pub nowhere : Part
@@ -54,7 +56,7 @@ lower a b = cond (leb a b) a b
 unfoldable pub fault_of : List ℕ → ℕ
 fault_of t = lower (lowest (rules t (description_in t (lines_of t).parts))) (suc (length (lines_of t).parts))
 
-unfoldable pub describe_of : List ℕ → Described
+unfoldable pub describe_of : List ℕ → Result Description Refusal
 describe_of t =
-    cond (leb (fault_of t) 15) (Refused (Line (fault_of t)))
-    (cond (ltb (lines_of t).next (length t)) (Refused Extra) («Attributes» (description_in t (lines_of t).parts)))
+    cond (leb (fault_of t) 15) (Err (Line (fault_of t)))
+    (cond (ltb (lines_of t).next (length t)) (Err Extra) (Ok (description_in t (lines_of t).parts)))

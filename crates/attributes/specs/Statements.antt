@@ -9,18 +9,18 @@ use Rattle.content.specs.Content.{content_of}
 use Rattle.calendar.specs.Calendar.{not_after, no_time}
 use Rattle.calendar.specs.Range.{RealTime}
 use Rattle.attributes.specs.declared.Description.{Description}
-use Rattle.attributes.specs.declared.Described.{Described}
-use Rattle.attributes.specs.declared.Described.TheVariants as described
-use Rattle.attributes.specs.declared.Composed.TheVariants as composed
 use Rattle.attributes.specs.Attributes.{Attributes, attributes_of, no_charset, no_size}
 use Rattle.attributes.specs.Rules.{is_text, inside, rules}
 use Rattle.attributes.specs.Lines.{lines_of}
 use Rattle.attributes.specs.Describe.{description_in}
 use Rattle.attributes.specs.Compose.{text_of, Writing}
+use Rattle.refusals.specs.declared.Refusal.{Refusal}
+use Rattle.std.specs.Prelude.{Result}
+use Rattle.std.specs.Prelude.{Ok, Err}
 
 -- what reads a text, and what writes a description whose texts are parts of a text into an output
 abbrev pub Reader : Type 0
-Reader = List ℕ → Described
+Reader = List ℕ → Result Description Refusal
 
 abbrev pub Writer : Type 0
 Writer = List ℕ → Description → List ℕ → Writing
@@ -48,14 +48,14 @@ pub record InRange (a : Attributes) : Type 0 where
 
 -- each attribute that a reading gives is in its range
 abbrev pub ReadingInRange : Reader → Type 0
-ReadingInRange read = (t : List ℕ) (d : Description) → read t ≡ described.«Attributes» d → InRange (attributes_of t d)
+ReadingInRange read = (t : List ℕ) (d : Description) → read t ≡ Ok d → InRange (attributes_of t d)
 
 -- ---- both directions
 
 -- the reader takes a text, and gives these attributes
 pub record TakenBack (read : Reader) (w : List ℕ) (a : Attributes) : Type 0 where
   pub found : Description
-  pub taken : read w ≡ described.«Attributes» found
+  pub taken : read w ≡ Ok found
   pub same : attributes_of w found ≡ a
 
 -- each text of a description is a part of t
@@ -70,12 +70,12 @@ pub record PartsInside (t : List ℕ) (d : Description) : Type 0 where
 abbrev pub WritesSound : Writer → Type 0
 WritesSound write =
     (t : List ℕ) (d : Description) (out : List ℕ) → InRange (attributes_of t d) → PartsInside t d → length (text_of (attributes_of t d)) ≤ length out
-    → write t d out ≡ record { answer = composed.Text (length (text_of (attributes_of t d))); out = sets out 0 (text_of (attributes_of t d)) }
+    → write t d out ≡ record { answer = Ok (length (text_of (attributes_of t d))); out = sets out 0 (text_of (attributes_of t d)) }
 
 -- what the writer writes at the start of an output, the reader takes, and gives the same attributes
 abbrev pub ReadsBack : Reader → Writer → Type 0
 ReadsBack read write =
-    (t : List ℕ) (d : Description) (out : List ℕ) (n : ℕ) → (write t d out).answer ≡ composed.Text n
+    (t : List ℕ) (d : Description) (out : List ℕ) (n : ℕ) → (write t d out).answer ≡ Ok n
     → TakenBack read (take n (write t d out).out) (attributes_of t d)
 
 -- whether LF is the first byte
@@ -94,7 +94,7 @@ TakesSound read = (t : List ℕ) (a : Attributes) → InRange a → plain t ≡ 
 
 -- a text that the reader takes is, with LF for CR LF, what the writer writes of its attributes
 abbrev pub WritesBack : Reader → Type 0
-WritesBack read = (t : List ℕ) (d : Description) → read t ≡ described.«Attributes» d → text_of (attributes_of t d) ≡ plain t
+WritesBack read = (t : List ℕ) (d : Description) → read t ≡ Ok d → text_of (attributes_of t d) ≡ plain t
 
 -- ---- which line the reader tells
 
@@ -106,21 +106,21 @@ SoundLine t k =
 -- 29 names a line from 1 to 15 that is not sound, and every line before it is
 abbrev pub LowestFault : Reader → Type 0
 LowestFault read =
-    (t : List ℕ) (k : ℕ) → read t ≡ described.Refused (Line k)
+    (t : List ℕ) (k : ℕ) → read t ≡ Err (Line k)
     → (1 ≤ k) × (k ≤ 15) × (SoundLine t k → ⊥) × ((j : ℕ) → 1 ≤ j → j < k → SoundLine t j)
 
 -- 30 comes only where all fifteen are
 abbrev pub ExtraLast : Reader → Type 0
-ExtraLast read = (t : List ℕ) → read t ≡ described.Refused Extra → (j : ℕ) → 1 ≤ j → j ≤ 15 → SoundLine t j
+ExtraLast read = (t : List ℕ) → read t ≡ Err Extra → (j : ℕ) → 1 ≤ j → j ≤ 15 → SoundLine t j
 
 -- and both are told wherever that is so
 abbrev pub TellsFault : Reader → Type 0
 TellsFault read =
-    (t : List ℕ) (k : ℕ) → 1 ≤ k → k ≤ 15 → (SoundLine t k → ⊥) → ((j : ℕ) → 1 ≤ j → j < k → SoundLine t j) → read t ≡ described.Refused (Line k)
+    (t : List ℕ) (k : ℕ) → 1 ≤ k → k ≤ 15 → (SoundLine t k → ⊥) → ((j : ℕ) → 1 ≤ j → j < k → SoundLine t j) → read t ≡ Err (Line k)
 
 abbrev pub TellsExtra : Reader → Type 0
 TellsExtra read =
-    (t : List ℕ) → ((j : ℕ) → 1 ≤ j → j ≤ 15 → SoundLine t j) → (lines_of t).next < length t → read t ≡ described.Refused Extra
+    (t : List ℕ) → ((j : ℕ) → 1 ≤ j → j ≤ 15 → SoundLine t j) → (lines_of t).next < length t → read t ≡ Err Extra
 
 -- ---- and the writer
 
@@ -132,10 +132,10 @@ SoundAttribute t d k = get_or (true ∷ rules t d) k false ≡ true
 abbrev pub TellsAttribute : Writer → Type 0
 TellsAttribute write =
     (t : List ℕ) (d : Description) (out : List ℕ) (k : ℕ) → 1 ≤ k → k ≤ 15 → (SoundAttribute t d k → ⊥) → ((j : ℕ) → 1 ≤ j → j < k → SoundAttribute t d j)
-    → write t d out ≡ record { answer = composed.Refused (Line k); out = out }
+    → write t d out ≡ record { answer = Err (Line k); out = out }
 
 -- and that there is no room, where all fifteen may
 abbrev pub TellsRoom : Writer → Type 0
 TellsRoom write =
     (t : List ℕ) (d : Description) (out : List ℕ) → ((j : ℕ) → 1 ≤ j → j ≤ 15 → SoundAttribute t d j) → length out < length (text_of (attributes_of t d))
-    → write t d out ≡ record { answer = composed.Refused Output; out = out }
+    → write t d out ≡ record { answer = Err Output; out = out }

@@ -3,10 +3,9 @@
 use Rattle.std.specs.Prelude.{List, [], ◌∷◌, ℕ}
 use Rattle.refusals.specs.Told.{Told, accepted_with, refused_as}
 use Rattle.attributes.specs.declared.Description.{Description}
-use Rattle.attributes.specs.declared.Described.{Described}
-use Rattle.attributes.specs.declared.Composed.{Composed}
-use Rattle.attributes.specs.declared.Described.TheVariants as described
-use Rattle.attributes.specs.declared.Composed.TheVariants as composed
+use Rattle.refusals.specs.declared.Refusal.{Refusal}
+use Rattle.std.specs.Prelude.{Result}
+use Rattle.std.specs.Prelude.{Ok, Err}
 
 abbrev pub description_list : Description → List ℕ
 description_list d =
@@ -17,11 +16,11 @@ description_list d =
     ∷ d.ends.year ∷ d.ends.month ∷ d.ends.day ∷ d.ends.hour ∷ d.ends.minute ∷ d.ends.second
     ∷ d.delete ∷ []
 
-abbrev pub described_told : Described → Told
-described_told (described.«Attributes» d) = accepted_with (description_list d)
-described_told (described.Refused r) = refused_as r
+abbrev pub described_told : Result Description Refusal → Told
+described_told (Ok d) = accepted_with (description_list d)
+described_told (Err r) = refused_as r
 
 -- the value is the length that was written
-abbrev pub composed_told : Composed → Told
-composed_told (composed.Text n) = accepted_with (n ∷ [])
-composed_told (composed.Refused r) = refused_as r
+abbrev pub composed_told : Result ℕ Refusal → Told
+composed_told (Ok n) = accepted_with (n ∷ [])
+composed_told (Err r) = refused_as r

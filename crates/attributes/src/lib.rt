@@ -3,7 +3,6 @@
 #![tactic(auto)]
 
 use calendar::Time;
-use refusals::Refusal;
 
 // A part of a lent text: where it begins, and how many bytes it has.
 #[derive(Clone, Copy)]
@@ -37,18 +36,4 @@ impl Description {
     pub const NO_CHARSET: u64 = 255;
     // A size that is not given.
     pub const NO_SIZE: u64 = 0;
-}
-
-// What reading a text answers.
-#[derive(Clone, Copy)]
-pub enum Described {
-    Attributes(Description),
-    Refused(Refusal),
-}
-
-// What writing one answers: how many bytes were written.
-#[derive(Clone, Copy)]
-pub enum Composed {
-    Text(usize),
-    Refused(Refusal),
 }

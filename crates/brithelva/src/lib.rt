@@ -10,9 +10,9 @@ ghost use Rattle.holding.specs.Layout.{record_length, record_bytes};
 ghost use Rattle.face.specs.Face.{answer_of, Says, Keeps, encode_says, repair_says, reading_says, read_says, pack_says, open_says, offer_says, status_says, hand_says, close_says};
 ghost use Rattle.listing.specs.Listing.{describe_says, compose_says};
 
-use attributes::Described;
 use opening::Kept;
-use packet::Reading;
+use packet::Packet;
+use refusals::Refusal;
 use settings::Settings;
 
 // Record's number, for bytes lent as a record that are not as many as it has.
@@ -62,12 +62,12 @@ pub fn bh_read_header(packet: &[u8], fields: &mut [u32]) -> u64
 }
 
 // What was read, at the start of `fields`.
-fn put_reading(reading: Reading, fields: &mut [u32]) -> u64
+fn put_reading(reading: Result<Packet, Refusal>, fields: &mut [u32]) -> u64
     ensures { Says (reading_says reading fields.old) result fields.new }
 {
     match reading {
-        Reading::Sent(f) => face::put_fields(f, fields),
-        Reading::Refused(r) => answers::refused(r),
+        Ok(f) => face::put_fields(f, fields),
+        Err(r) => answers::refused(r),
     }
 }
 
@@ -294,8 +294,8 @@ pub fn bh_read_description(text: &[u8], values: &mut [u64]) -> u64
     ensures { Says (describe_says text.now values.old) result values.new }
 {
     match description::read(text) {
-        Described::Attributes(d) => listing::put_numbers(d, values),
-        Described::Refused(r) => answers::refused(r),
+        Ok(d) => listing::put_numbers(d, values),
+        Err(r) => answers::refused(r),
     }
 }
 

@@ -8,11 +8,8 @@ use lib.ListN.{length}
 use Rattle.ground.proofs.Truth.{differ}
 use Rattle.refusals.specs.declared.Refusal.{Refusal}
 use Rattle.refusals.specs.declared.Refusal.TheVariants.{Slot, Shape, Size, Lost, Code, Padding}
-use Rattle.refusals.specs.declared.Verdict.{Verdict}
 use Rattle.layout.specs.Layout.{tables_of, undone}
 use Rattle.places.specs.declared.Place.{Place}
-use Rattle.places.specs.declared.Found.{Found}
-use Rattle.places.specs.declared.Found.TheVariants.{At, Nothing}
 use Rattle.places.specs.Room.{lowest_from}
 use Rattle.contents.specs.Contents.{contents, any_wrong}
 use Rattle.losses.specs.Losses.{tabled}
@@ -21,16 +18,19 @@ use Rattle.columns.specs.Columns.{sent_length, length_serves, misfits, lacks, un
 use Rattle.columns.specs.InnerJudge.{Serving, Shaped, is_nothing, hand_judged}
 use Rattle.columns.proofs.Lowest.{nothing_is}
 use Rattle.columns.proofs.LengthLaws.{serves-known, tabled-known}
+use Rattle.std.specs.Prelude.{Result}
+use Rattle.std.specs.Prelude.{Option}
+use Rattle.std.specs.Prelude.{Some, None}
 
 -- an answer and an output are those of h
-abbrev pub Comes : Handing → Verdict → List ℕ → Type 0
+abbrev pub Comes : Handing → Result (Unit {0}) Refusal → List ℕ → Type 0
 Comes h answer output = (answer ≡ h.answer) × (output ≡ h.output)
 
 pub comes : {h : Handing} (g : Handing) → h ≡ g → Comes h g.answer g.output
 comes g e = (ap (λ (x : Handing). x.answer) (sym e), ap (λ (x : Handing). x.output) (sym e))
 
 -- the same from another
-pub comes_from : {h g : Handing} {answer : Verdict} {output : List ℕ} → h ≡ g → Comes g answer output → Comes h answer output
+pub comes_from : {h g : Handing} {answer : (Result (Unit {0}) Refusal)} {output : List ℕ} → h ≡ g → Comes g answer output → Comes h answer output
 comes_from e c = (c.0 ∙ ap (λ (x : Handing). x.answer) (sym e), c.1 ∙ ap (λ (x : Handing). x.output) (sym e))
 
 -- ---- by the lengths
@@ -61,12 +61,12 @@ module _ (p : Place) (s : List ℕ) (n : ℕ) (out : List ℕ) where
         pub columns_shape : is_nothing (lowest_from (misfits p.slot (sent_length p.rows n) (contents p s)) 0 p.count) ≡ false → hand_columns_of p s n out ≡ refusing Shape out
         columns_shape e = by_shape ∙ by (lowest_from (misfits p.slot (sent_length p.rows n) (contents p s)) 0 p.count) e
           where
-            by : (o : Found) → is_nothing o ≡ false → hand_shaped p (contents p s) n out o ≡ refusing Shape out
-            by (At k) e = refl
-            by Nothing e = differ e
+            by : (o : Option ℕ) → is_nothing o ≡ false → hand_shaped p (contents p s) n out o ≡ refusing Shape out
+            by (Some k) e = refl
+            by None e = differ e
 
         module _ (e : is_nothing (lowest_from (misfits p.slot (sent_length p.rows n) (contents p s)) 0 p.count) ≡ true) where
-          none : lowest_from (misfits p.slot (sent_length p.rows n) (contents p s)) 0 p.count ≡ Nothing
+          none : lowest_from (misfits p.slot (sent_length p.rows n) (contents p s)) 0 p.count ≡ None
           none = nothing_is (lowest_from (misfits p.slot (sent_length p.rows n) (contents p s)) 0 p.count) e
 
           pub shaped : Shaped p s n
@@ -80,11 +80,11 @@ module _ (p : Place) (s : List ℕ) (n : ℕ) (out : List ℕ) where
 
 module _ (p : Place) (s : List ℕ) (n : ℕ) (out : List ℕ) where
   -- the first row that lacks more than sixteen bytes, whatever else is wrong
-  pub judged-lost : (q : ℕ) → lowest_from (lacks p.rows p.slot (contents p s)) 0 (p.rows * tables_of p.rows n) ≡ At q → hand_judged p s n out ≡ refusing (Lost q) out
+  pub judged-lost : (q : ℕ) → lowest_from (lacks p.rows p.slot (contents p s)) 0 (p.rows * tables_of p.rows n) ≡ Some q → hand_judged p s n out ≡ refusing (Lost q) out
   unfolding hand_judged
   judged-lost q e = ap (hand_full p (contents p s) n out) e
 
-  module _ (l : lowest_from (lacks p.rows p.slot (contents p s)) 0 (p.rows * tables_of p.rows n) ≡ Nothing) where
+  module _ (l : lowest_from (lacks p.rows p.slot (contents p s)) 0 (p.rows * tables_of p.rows n) ≡ None) where
     by_code : hand_judged p s n out ≡ hand_coded p (contents p s) n out (lowest_from (uncoded p.rows p.slot (contents p s)) 0 (p.rows * tables_of p.rows n))
     unfolding hand_judged
     by_code = ap (hand_full p (contents p s) n out) l
@@ -93,9 +93,9 @@ module _ (p : Place) (s : List ℕ) (n : ℕ) (out : List ℕ) where
     pub judged_code : is_nothing (lowest_from (uncoded p.rows p.slot (contents p s)) 0 (p.rows * tables_of p.rows n)) ≡ false → hand_judged p s n out ≡ refusing Code out
     judged_code e = by_code ∙ by (lowest_from (uncoded p.rows p.slot (contents p s)) 0 (p.rows * tables_of p.rows n)) e
       where
-        by : (o : Found) → is_nothing o ≡ false → hand_coded p (contents p s) n out o ≡ refusing Code out
-        by (At q) e = refl
-        by Nothing e = differ e
+        by : (o : Option ℕ) → is_nothing o ≡ false → hand_coded p (contents p s) n out o ≡ refusing Code out
+        by (Some q) e = refl
+        by None e = differ e
 
     module _ (u : is_nothing (lowest_from (uncoded p.rows p.slot (contents p s)) 0 (p.rows * tables_of p.rows n)) ≡ true) where
       abbrev sent : List ℕ

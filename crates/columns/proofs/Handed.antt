@@ -8,17 +8,17 @@ use borrow.Author.Tests.{lt-ltb, le-ltb, le-leb, ne_eqb}
 use lib.ListN.{length, drop, replicate}
 use Rattle.ground.proofs.Listed.{length-listed}
 use Rattle.refusals.specs.declared.Refusal.TheVariants.{Output}
-use Rattle.refusals.specs.declared.Verdict.TheVariants.{Accepted}
 use Rattle.layout.specs.Layout.{tables_of, coded_file, read_back, undone}
 use Rattle.layout.proofs.Coded.{tables_reach, undone-file, undone_padding}
 use Rattle.places.specs.declared.Place.{Place}
 use Rattle.places.specs.Places.{end_of}
 use Rattle.losses.specs.Losses.{tabled}
 use Rattle.columns.specs.Handing.{Handing, refusing, handed, all_zero, hand_tables}
+use Rattle.std.specs.Prelude.{Ok}
 
 -- accepted, with the file at the start of the output
 abbrev pub accepted : List ℕ → List ℕ → Handing
-accepted file out = record { answer = Accepted; output = file ++ drop (length file) out }
+accepted file out = record { answer = (Ok tt); output = file ++ drop (length file) out }
 
 module _ (file out : List ℕ) where
   pub handed-short : length out < length file → handed file out ≡ refusing Output out

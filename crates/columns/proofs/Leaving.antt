@@ -8,19 +8,19 @@ use lib.Dec.{ltb}
 use lib.ListN.{length}
 use Rattle.refusals.specs.declared.Refusal.{Refusal}
 use Rattle.refusals.specs.declared.Refusal.TheVariants.{Shape, Size, Padding, Output, Lost, Code}
-use Rattle.refusals.specs.declared.Verdict.TheVariants.{Refused}
 use Rattle.layout.specs.Layout.{tables_of, undone}
 use Rattle.places.specs.declared.Place.{Place}
-use Rattle.places.specs.declared.Found.{Found}
-use Rattle.places.specs.declared.Found.TheVariants.{At, Nothing}
 use Rattle.places.specs.Room.{lowest_from}
 use Rattle.contents.specs.Contents.{Slot as Content}
 use Rattle.columns.specs.Handing.{Handing, refusing, handed, all_zero, hand_tables}
 use Rattle.columns.specs.Columns.{sent_length, length_serves, misfits, lacks, uncoded, restored, hand_coded, hand_full, hand_shaped, hand_columns}
 use Rattle.columns.proofs.Handed.{accepted}
+use Rattle.std.specs.Prelude.{Option}
+use Rattle.std.specs.Prelude.{Err}
+use Rattle.std.specs.Prelude.{Some, None}
 
 abbrev pub Leaves : List ℕ → Handing → Type 0
-Leaves out h = (r : Refusal) → h.answer ≡ Refused r → h.output ≡ out
+Leaves out h = (r : Refusal) → h.answer ≡ Err r → h.output ≡ out
 
 module _ (out : List ℕ) where
   pub leaves_or : (b : Bool) (g h : Handing) → Leaves out g → Leaves out h → Leaves out (cond b g h)
@@ -41,17 +41,17 @@ module _ (out : List ℕ) where
       leaves_or (not (all_zero (undone order m sent (239 * m * tables_of m n - n) n))) _ _ (leaves-refusing Padding) (leaves-handed (undone order m sent n 0))
 
   module _ (p : Place) (c : List Content) (n : ℕ) where
-    leaves-coded : (w : Found) → Leaves out (hand_coded p c n out w)
-    leaves-coded (At q) = leaves-refusing Code
-    leaves-coded Nothing = leaves_tables 1 p.rows (restored p.rows p.slot c (sent_length p.rows n)) n
+    leaves-coded : (w : Option ℕ) → Leaves out (hand_coded p c n out w)
+    leaves-coded (Some q) = leaves-refusing Code
+    leaves-coded None = leaves_tables 1 p.rows (restored p.rows p.slot c (sent_length p.rows n)) n
 
-    leaves-full : (w : Found) → Leaves out (hand_full p c n out w)
-    leaves-full (At q) = leaves-refusing (Lost q)
-    leaves-full Nothing = leaves-coded (lowest_from (uncoded p.rows p.slot c) 0 (p.rows * tables_of p.rows n))
+    leaves-full : (w : Option ℕ) → Leaves out (hand_full p c n out w)
+    leaves-full (Some q) = leaves-refusing (Lost q)
+    leaves-full None = leaves-coded (lowest_from (uncoded p.rows p.slot c) 0 (p.rows * tables_of p.rows n))
 
-    leaves-shaped : (w : Found) → Leaves out (hand_shaped p c n out w)
-    leaves-shaped (At k) = leaves-refusing Shape
-    leaves-shaped Nothing = leaves-full (lowest_from (lacks p.rows p.slot c) 0 (p.rows * tables_of p.rows n))
+    leaves-shaped : (w : Option ℕ) → Leaves out (hand_shaped p c n out w)
+    leaves-shaped (Some k) = leaves-refusing Shape
+    leaves-shaped None = leaves-full (lowest_from (lacks p.rows p.slot c) 0 (p.rows * tables_of p.rows n))
 
     pub leaves_columns : Leaves out (hand_columns p c n out)
     unfolding hand_columns

@@ -13,7 +13,6 @@ use Rattle.ground.specs.Lists.{ceil}
 use Rattle.ground.proofs.Truth.{and_both}
 use Rattle.layout.specs.Layout.{tables_of}
 use Rattle.places.specs.declared.Place.{Place}
-use Rattle.places.specs.declared.Found.{Found}
 use Rattle.places.specs.Room.{lowest_from}
 use Rattle.contents.specs.Slots.{length_at}
 use Rattle.contents.specs.Contents.{Slot as Content, slot_at, length_fits, contents, any_wrong}
@@ -28,6 +27,7 @@ use Rattle.columns.specs.Columns.{sent_length, length_serves, misfits}
 use Rattle.columns.specs.InnerJudge.{Tabled, is_nothing}
 use Rattle.columns.proofs.Lowest.{lowest_left, left-first, left_end, left_here, left-next}
 use Rattle.columns.proofs.Standings.{rows_few as rows_short}
+use Rattle.std.specs.Prelude.{Option}
 
 -- ---- the place
 
@@ -107,7 +107,7 @@ pub record Fitting (p : Place) (s : List ℕ) (total at left k : ℕ) : Type 0 w
   pub rest : lowest_left (misfits p.slot total (contents p s)) p.count k ≡ lowest_from (misfits p.slot total (contents p s)) 0 p.count
 
 module _ (p : Place) (s : List ℕ) (total : ℕ) where
-  abbrev all : Found
+  abbrev all : Option ℕ
   all = lowest_from (misfits p.slot total (contents p s)) 0 p.count
 
   pub fitting_first : (left : ℕ) → left ≡ total → Fitting p s total p.start left 0

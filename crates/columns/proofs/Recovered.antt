@@ -23,24 +23,24 @@ use Rattle.layout.specs.Layout.{Spot, tables_of, sent_byte_at, sent_spot, row_of
 use Rattle.layout.proofs.Places.{sent_rule, table_below, byte-below}
 use Rattle.layout.proofs.Coded.{length-coded, row-coded}
 use Rattle.places.specs.declared.Place.{Place}
-use Rattle.places.specs.declared.Found.TheVariants.{Nothing}
 use Rattle.places.specs.Room.{lowest_from}
 use Rattle.contents.specs.Contents.{Slot as Content, wrong, holding}
 use Rattle.losses.specs.Losses.{payload_of, payload_at, came_at, lost_at, sent_at, row_came, lost_in}
 use Rattle.columns.specs.Columns.{sent_length, length_serves, misfits, lacks, row_restored, uncoded, is_none, row_in, restored, hand_columns}
 use Rattle.columns.proofs.Handed.{accepted, tables_coded}
+use Rattle.std.specs.Prelude.{None}
 
 and_not : (x : Bool) → (not x && false) ≡ false
 and_not true = refl
 and_not false = refl
 
 -- where no number passes
-none_from : (f : ℕ → Bool) (s n : ℕ) → ((k : ℕ) → s ≤ k → k < s + n → f k ≡ false) → lowest_from f s n ≡ Nothing
+none_from : (f : ℕ → Bool) (s n : ℕ) → ((k : ℕ) → s ≤ k → k < s + n → f k ≡ false) → lowest_from f s n ≡ None
 unfolding lowest_from
 none_from f s zero h = refl
 none_from f s (suc n) h = rw (h s (omega arith) (omega arith)) (none_from f (suc s) n (λ k a b. h k (omega arith) (omega arith)))
 
-none_below : (f : ℕ → Bool) (n : ℕ) → ((k : ℕ) → k < n → f k ≡ false) → lowest_from f 0 n ≡ Nothing
+none_below : (f : ℕ → Bool) (n : ℕ) → ((k : ℕ) → k < n → f k ≡ false) → lowest_from f 0 n ≡ None
 none_below f n h = none_from f 0 n (λ k a b. h k (omega arith))
 
 module _ (m size : ℕ) (some : 0 < m) (wide : 0 < size) (file : List ℕ) where

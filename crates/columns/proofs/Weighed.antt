@@ -10,12 +10,9 @@ use lib.ListN.{length, drop, replicate, length-replicate}
 use Rattle.ground.proofs.Listed.{length-listed}
 use Rattle.refusals.specs.declared.Refusal.{Refusal}
 use Rattle.refusals.specs.declared.Refusal.TheVariants.{Slot, Shape, Size, Lost, Code, Padding, Output}
-use Rattle.refusals.specs.declared.Verdict.TheVariants.{Accepted, Refused}
 use Rattle.code.specs.Restore.{lost_of}
 use Rattle.layout.specs.Layout.{tables_of, read_back, undone}
 use Rattle.places.specs.declared.Place.{Place}
-use Rattle.places.specs.declared.Found.{Found}
-use Rattle.places.specs.declared.Found.TheVariants.{At, Nothing}
 use Rattle.places.specs.Room.{lowest_from}
 use Rattle.contents.specs.Contents.{contents, any_wrong}
 use Rattle.losses.specs.Losses.{lost_in, tabled}
@@ -27,18 +24,19 @@ use Rattle.columns.proofs.Lowest.{none_passes}
 use Rattle.columns.proofs.LengthLaws.{serves-known}
 use Rattle.columns.proofs.Handed.{handed-short, handed-whole}
 use Rattle.columns.proofs.HandLaws.{Comes, comes, comes_from, columns_record, columns_slot, columns_size, columns_shape, shaped, columns_shaped, judged-lost, judged_code, judged_padding, judged-whole}
+use Rattle.std.specs.Prelude.{Option, Some, None, Result, Ok, Err}
 
-not_both : {X : Type 0} (r : Refusal) → Refused r ≡ Accepted → X
+not_both : {X : Type 0} (r : Refusal) → ◌≡◌ {A = Result (Unit {0}) Refusal} (Err r) (Ok tt) → X
 not_both r e = let d : ◌≡◌ {A = ℕ} 0 1 = cc in absurd (omega arith)
 
 module _ (p : Place) (s : List ℕ) (n : ℕ) where
-  abbrev lacking : Found
+  abbrev lacking : Option ℕ
   lacking = lowest_from (lacks p.rows p.slot (contents p s)) 0 (p.rows * tables_of p.rows n)
 
-  abbrev uncoded_ones : Found
+  abbrev uncoded_ones : Option ℕ
   uncoded_ones = lowest_from (uncoded p.rows p.slot (contents p s)) 0 (p.rows * tables_of p.rows n)
 
-  abbrev misfitting : Found
+  abbrev misfitting : Option ℕ
   misfitting = lowest_from (misfits p.slot (sent_length p.rows n) (contents p s)) 0 p.count
 
   abbrev sent : List ℕ
@@ -60,7 +58,7 @@ module _ (p : Place) (s : List ℕ) (n : ℕ) where
   unfolding lacks
   full-few q e = ltb-false 16 (lost_of (lost_in p.rows p.slot (contents p s) q) 255) e
 
-  writable : Shaped p s n → lacking ≡ Nothing → is_nothing uncoded_ones ≡ true → p.rows ≤ 255 → p.slot ≤ 65535 → Writable p s n
+  writable : Shaped p s n → lacking ≡ None → is_nothing uncoded_ones ≡ true → p.rows ≤ 255 → p.slot ≤ 65535 → Writable p s n
   writable v l u a b =
       let w = serves-known p n v.serving.serves in
       record {
@@ -79,17 +77,17 @@ module _ (p : Place) (s : List ℕ) (n : ℕ) where
       }
 
   module _ (v : Shaped p s n) (same : (out : List ℕ) → hand_columns_of p s n out ≡ hand_judged p s n out) where
-    by_padding : (l : lacking ≡ Nothing) (u : is_nothing uncoded_ones ≡ true) (b : Bool) → all_zero padding ≡ b → Weighs
+    by_padding : (l : lacking ≡ None) (u : is_nothing uncoded_ones ≡ true) (b : Bool) → all_zero padding ≡ b → Weighs
     by_padding l u false z = refuses Padding (λ out. same out ∙ judged_padding p s n out l u z)
     by_padding l u true z = passes (writable v l u) (λ out. same out ∙ judged-whole p s n out l u z)
 
-    by_code : (l : lacking ≡ Nothing) (b : Bool) → is_nothing uncoded_ones ≡ b → Weighs
+    by_code : (l : lacking ≡ None) (b : Bool) → is_nothing uncoded_ones ≡ b → Weighs
     by_code l false u = refuses Code (λ out. same out ∙ judged_code p s n out l u)
     by_code l true u = by_padding l u (all_zero padding) refl
 
-    by_rows : (o : Found) → lacking ≡ o → Weighs
-    by_rows (At q) e = refuses (Lost q) (λ out. same out ∙ judged-lost p s n out q e)
-    by_rows Nothing e = by_code e (is_nothing uncoded_ones) refl
+    by_rows : (o : Option ℕ) → lacking ≡ o → Weighs
+    by_rows (Some q) e = refuses (Lost q) (λ out. same out ∙ judged-lost p s n out q e)
+    by_rows None e = by_code e (is_nothing uncoded_ones) refl
 
   by_shape : (t : tabled p (length s) ≡ true) (w : any_wrong (contents p s) ≡ false) (l : length_serves p n ≡ true) (b : Bool) → is_nothing misfitting ≡ b → Weighs
   by_shape t w l false e = refuses Shape (λ out. columns_shape p s n out t w l e)
@@ -119,27 +117,27 @@ module _ (p : Place) (s : List ℕ) (n : ℕ) where
   weighed_as h e = ap (λ (x : Handing). x.answer) (sym e)
 
   -- which has room
-  whole_zeros : handed file_in (replicate n 0) ≡ record { answer = Accepted; output = file_in ++ drop (length file_in) (replicate n 0) }
+  whole_zeros : handed file_in (replicate n 0) ≡ record { answer = (Ok tt); output = file_in ++ drop (length file_in) (replicate n 0) }
   whole_zeros = handed-whole file_in (replicate n 0) (omega (arith, size, length-replicate {A = ℕ} n 0))
 
-  pub weighed_whole : hand_columns_of p s n (replicate n 0) ≡ handed file_in (replicate n 0) → Accepted ≡ weighed_of p s n
-  weighed_whole e = weighed_as (record { answer = Accepted; output = file_in ++ drop (length file_in) (replicate n 0) }) (e ∙ whole_zeros)
+  pub weighed_whole : hand_columns_of p s n (replicate n 0) ≡ handed file_in (replicate n 0) → (Ok tt) ≡ weighed_of p s n
+  weighed_whole e = weighed_as (record { answer = (Ok tt); output = file_in ++ drop (length file_in) (replicate n 0) }) (e ∙ whole_zeros)
 
   -- ---- refused
 
-  pub weighed_refused : (r : Refusal) → weighed_of p s n ≡ Refused r → (out : List ℕ) → Comes (hand_columns_of p s n out) (Refused r) out
+  pub weighed_refused : (r : Refusal) → weighed_of p s n ≡ Err r → (out : List ℕ) → Comes (hand_columns_of p s n out) (Err r) out
   weighed_refused r e out = comes (refusing r out) (by weighs)
     where
       by : Weighs → hand_columns_of p s n out ≡ refusing r out
       by (refuses x h) =
-          let z : Refused x ≡ Refused r = weighed_as (refusing x (replicate n 0)) (h (replicate n 0)) ∙ e in
+          let z : Err x ≡ Err r = weighed_as (refusing x (replicate n 0)) (h (replicate n 0)) ∙ e in
           let d : x ≡ r = cc in
           h out ∙ ap (λ (y : Refusal). refusing y out) d
       by (passes w h) = not_both r (sym (weighed_whole (h (replicate n 0)) ∙ e))
 
   -- ---- accepted
 
-  module _ (e : weighed_of p s n ≡ Accepted) where
+  module _ (e : weighed_of p s n ≡ (Ok tt)) where
     -- only the room is left
     by_room : (out : List ℕ) → hand_columns_of p s n out ≡ handed file_in out
     by_room out = by weighs
@@ -155,10 +153,10 @@ module _ (p : Place) (s : List ℕ) (n : ℕ) where
         by (refuses x h) = not_both x (weighed_as (refusing x (replicate n 0)) (h (replicate n 0)) ∙ e)
         by (passes w h) = w
 
-    pub weighed_short : (out : List ℕ) → length out < n → Comes (hand_columns_of p s n out) (Refused Output) out
+    pub weighed_short : (out : List ℕ) → length out < n → Comes (hand_columns_of p s n out) (Err Output) out
     weighed_short out l = comes (refusing Output out) (by_room out ∙ handed-short file_in out (omega (arith, size)))
 
-    pub weighed_file : (out : List ℕ) → n ≤ length out → (z : List ℕ) → z ≡ file_in ++ drop n out → Comes (hand_columns_of p s n out) Accepted z
+    pub weighed_file : (out : List ℕ) → n ≤ length out → (z : List ℕ) → z ≡ file_in ++ drop n out → Comes (hand_columns_of p s n out) (Ok tt) z
     weighed_file out l z q =
         comes_from (by_room out ∙ handed-whole file_in out (omega (arith, size)))
         (refl, q ∙ ap (λ (x : ℕ). file_in ++ drop x out) (sym size))

@@ -4,18 +4,18 @@ use Rattle.std.specs.Prelude.{Bool, true, false, cond, not, ◌&&◌, List, [], 
 use Rattle.ground.specs.Lists.{listed, ceil}
 use Rattle.refusals.specs.declared.Refusal.{Refusal}
 use Rattle.refusals.specs.declared.Refusal.TheVariants.{Slot, Shape, Size, Lost, Code}
-use Rattle.refusals.specs.declared.Verdict.{Verdict}
 use Rattle.code.specs.Search.{Repaired}
 use Rattle.code.specs.Search.Repaired.{found, none}
 use Rattle.code.specs.Restore.{lost_of, restore_of}
 use Rattle.layout.specs.Layout.{tables_of, sent_spot}
 use Rattle.places.specs.declared.Place.{Place}
-use Rattle.places.specs.declared.Found.{Found}
-use Rattle.places.specs.declared.Found.TheVariants.{At, Nothing}
 use Rattle.places.specs.Room.{lowest_from}
 use Rattle.contents.specs.Contents.{Slot as Content, contents, any_wrong}
 use Rattle.losses.specs.Losses.{payload_at, row_came, lost_in, tabled}
 use Rattle.columns.specs.Handing.{Handing, refusing, hand_tables}
+use Rattle.std.specs.Prelude.{Result}
+use Rattle.std.specs.Prelude.{Option}
+use Rattle.std.specs.Prelude.{Some, None}
 
 -- the bytes that were sent of a file of n bytes: all its tables
 abbrev pub sent_length : ℕ → ℕ → ℕ
@@ -56,19 +56,19 @@ restored m size c total =
 
 module _ (p : Place) (c : List Content) (n : ℕ) (out : List ℕ) where
   -- refusal 32 where some row's known bytes fit no coded row
-  abbrev pub hand_coded : Found → Handing
-  hand_coded (At q) = refusing Code out
-  hand_coded Nothing = hand_tables 1 p.rows (restored p.rows p.slot c (sent_length p.rows n)) n out
+  abbrev pub hand_coded : Option ℕ → Handing
+  hand_coded (Some q) = refusing Code out
+  hand_coded None = hand_tables 1 p.rows (restored p.rows p.slot c (sent_length p.rows n)) n out
 
   -- refusal 31 with the first row that lacks more than sixteen bytes
-  abbrev pub hand_full : Found → Handing
-  hand_full (At q) = refusing (Lost q) out
-  hand_full Nothing = hand_coded (lowest_from (uncoded p.rows p.slot c) 0 (p.rows * tables_of p.rows n))
+  abbrev pub hand_full : Option ℕ → Handing
+  hand_full (Some q) = refusing (Lost q) out
+  hand_full None = hand_coded (lowest_from (uncoded p.rows p.slot c) 0 (p.rows * tables_of p.rows n))
 
   -- refusal 22 where some filled slot has a wrong length
-  abbrev pub hand_shaped : Found → Handing
-  hand_shaped (At k) = refusing Shape out
-  hand_shaped Nothing = hand_full (lowest_from (lacks p.rows p.slot c) 0 (p.rows * tables_of p.rows n))
+  abbrev pub hand_shaped : Option ℕ → Handing
+  hand_shaped (Some k) = refusing Shape out
+  hand_shaped None = hand_full (lowest_from (lacks p.rows p.slot c) 0 (p.rows * tables_of p.rows n))
 
   -- refusal 23 where L is out of its range, or gives another count
   unfoldable pub hand_columns : Handing
@@ -80,5 +80,5 @@ hand_columns_of p s n out =
     cond (tabled p (length s)) (cond (any_wrong (contents p s)) (refusing Slot out) (hand_columns p (contents p s) n out)) (refusing Refusal.Record out)
 
 -- what is answered where the output has room: every refusal but 26
-unfoldable pub weighed_of : Place → List ℕ → ℕ → Verdict
+unfoldable pub weighed_of : Place → List ℕ → ℕ → Result (Unit {0}) Refusal
 weighed_of p s n = (hand_columns_of p s n (replicate n 0)).answer

@@ -3,22 +3,22 @@
 use Rattle.std.specs.Prelude.{Bool, true, cond, not, ◌&&◌, List, [], ◌∷◌, ◌++◌, ℕ, ◌-◌, ◌*◌, eqb, ltb, length, drop}
 use Rattle.refusals.specs.declared.Refusal.{Refusal}
 use Rattle.refusals.specs.declared.Refusal.TheVariants.{Padding, Output}
-use Rattle.refusals.specs.declared.Verdict.{Verdict}
-use Rattle.refusals.specs.declared.Verdict.TheVariants.{Accepted, Refused}
 use Rattle.layout.specs.Layout.{tables_of, undone}
+use Rattle.std.specs.Prelude.{Result}
+use Rattle.std.specs.Prelude.{Ok, Err}
 
 -- what is answered, and what the output then holds
 pub record Handing : Type 0 where
-  pub answer : Verdict
+  pub answer : Result (Unit {0}) Refusal
   pub output : List ℕ
 
 abbrev pub refusing : Refusal → List ℕ → Handing
-refusing r out = record { answer = Refused r; output = out }
+refusing r out = record { answer = Err r; output = out }
 
 -- a file at the start of the output, the rest of it unchanged
 abbrev pub handed : List ℕ → List ℕ → Handing
 handed file out =
-    cond (ltb (length out) (length file)) (refusing Output out) (record { answer = Accepted; output = file ++ drop (length file) out })
+    cond (ltb (length out) (length file)) (refusing Output out) (record { answer = (Ok tt); output = file ++ drop (length file) out })
 
 abbrev pub all_zero : List ℕ → Bool
 all_zero [] = true

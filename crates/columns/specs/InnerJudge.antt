@@ -5,14 +5,14 @@ use Rattle.ground.specs.Lists.{listed}
 use Rattle.layout.specs.Layout.{tables_of}
 use Rattle.layout.specs.Spread.{row_start}
 use Rattle.places.specs.declared.Place.{Place}
-use Rattle.places.specs.declared.Found.{Found}
-use Rattle.places.specs.declared.Found.TheVariants.{At, Nothing}
 use Rattle.places.specs.Places.{end_of}
 use Rattle.places.specs.Room.{lowest_from}
 use Rattle.contents.specs.Contents.{Slot as Content, contents, any_wrong}
 use Rattle.losses.specs.Losses.{tabled}
 use Rattle.columns.specs.Handing.{Handing, all_zero}
 use Rattle.columns.specs.Columns.{sent_length, length_serves, misfits, lacks, uncoded, row_restored, row_in, hand_full}
+use Rattle.std.specs.Prelude.{Option}
+use Rattle.std.specs.Prelude.{Some, None}
 
 -- ---- what is known of a place before each step
 
@@ -33,14 +33,14 @@ pub record Serving (p : Place) (s : List ℕ) (n : ℕ) : Type 0 where
 -- and every filled slot has its length
 pub record Shaped (p : Place) (s : List ℕ) (n : ℕ) : Type 0 where
   pub serving : Serving p s n
-  pub shaped : lowest_from (misfits p.slot (sent_length p.rows n) (contents p s)) 0 p.count ≡ Nothing
+  pub shaped : lowest_from (misfits p.slot (sent_length p.rows n) (contents p s)) 0 p.count ≡ None
 
 -- ---- what is found of it
 
 -- no number was found
-abbrev pub is_nothing : Found → Bool
-is_nothing (At k) = false
-is_nothing Nothing = true
+abbrev pub is_nothing : Option ℕ → Bool
+is_nothing (Some k) = false
+is_nothing None = true
 
 -- the information bytes of row q that stand beyond n bytes of the file, and 0 for each of the others
 unfoldable pub beyond_in : ℕ → ℕ → ℕ → List ℕ → List ℕ

@@ -14,7 +14,6 @@ use Rattle.ground.proofs.Truth.{and_both}
 use Rattle.refusals.specs.declared.Refusal.TheVariants.{Line, Output}
 use Rattle.attributes.specs.declared.Part.{Part}
 use Rattle.attributes.specs.declared.Description.{Description}
-use Rattle.attributes.specs.declared.Composed.TheVariants.{Text, Refused}
 use Rattle.attributes.specs.Attributes.{attributes_of, part_of, no_charset, no_size, optional_text, time_value, values}
 use Rattle.attributes.specs.Rules.{inside, placed, rules_of, rules, lowest}
 use Rattle.attributes.specs.Lines.{lines_text}
@@ -23,6 +22,7 @@ use Rattle.attributes.specs.Compose.{text_of, compose_of}
 use Rattle.attributes.proofs.RuleLaws.{both-all, lowest-before}
 use Rattle.composing.specs.Inner.{Piece, own, pieces, piece_of, line_of, size_of, lines_by, size_by, Lies, Placed}
 use Rattle.composing.proofs.LineLaws.{fifteen, line-long}
+use Rattle.std.specs.Prelude.{Ok, Err}
 
 -- ---- where all fifteen rules are kept, the parts lie in the text
 
@@ -89,7 +89,7 @@ text_long t d h = ap length (text_pieces t d) ∙ lines_long t 0 (pieces d) (λ 
 -- ---- what writing answers
 
 module _ (t : List ℕ) (d : Description) (out : List ℕ) (fault : ℕ) (told : fault ≡ lowest (rules t d)) where
-  pub fault_first : fault ≤ 15 → (Refused (Line fault) ≡ (compose_of t d out).answer) × (out ≡ (compose_of t d out).out)
+  pub fault_first : fault ≤ 15 → (Err (Line fault) ≡ (compose_of t d out).answer) × (out ≡ (compose_of t d out).out)
   unfolding compose_of
   fault_first h =
       let b : leb (lowest (rules t d)) 15 ≡ true = le-leb (lowest (rules t d)) 15 (omega arith) in
@@ -105,12 +105,12 @@ module _ (t : List ℕ) (d : Description) (out : List ℕ) (fault : ℕ) (told :
     room_test : ltb (length out) (length (text_of (attributes_of t d))) ≡ short
     room_test = ap (ltb (length out)) (text_long t d parts-placed) ∙ sym test
 
-    pub room_next : short ≡ true → (Refused Output ≡ (compose_of t d out).answer) × (out ≡ (compose_of t d out).out)
+    pub room_next : short ≡ true → (Err Output ≡ (compose_of t d out).answer) × (out ≡ (compose_of t d out).out)
     unfolding compose_of
     room_next e = (simp (sound_test, room_test, e), simp (sound_test, room_test, e))
 
     pub lines_last : short ≡ false → (n : ℕ) (o : List ℕ) → n ≡ size_by (pieces d) → o ≡ sets out 0 (lines_by t 0 (pieces d))
-        → (Text n ≡ (compose_of t d out).answer) × (o ≡ (compose_of t d out).out)
+        → (Ok n ≡ (compose_of t d out).answer) × (o ≡ (compose_of t d out).out)
     unfolding compose_of
     lines_last e n o f g =
         let z : n ≡ length (text_of (attributes_of t d)) = f ∙ sym (text_long t d parts-placed) in

@@ -9,7 +9,7 @@ ghost use Rattle.attributes.specs.Lines.{label};
 ghost use Rattle.attributes.specs.Compose.{compose_of};
 ghost use Rattle.composing.specs.Inner.{own, lent, pieces, piece_of, piece_in, Holds, line_of, lines_by, size_by, Lies, Placed};
 
-use attributes::{Composed, Description, Part};
+use attributes::{Description, Part};
 use calendar::{Time, not_given};
 use decimal::digits_of;
 use judging::lowest_fault;
@@ -165,15 +165,15 @@ fn put_lines(text: &[u8], d: Description, out: &mut [u8]) -> usize
 
 // The fifteen lines of a description whose texts are parts of `text`, at the start of `out`; the answer is how many bytes were written. An attribute that cannot stand in its
 // line is refused with the lowest such line, an output that is too short behind that; then nothing is written.
-pub fn write(text: &[u8], d: Description, out: &mut [u8]) -> Composed
+pub fn write(text: &[u8], d: Description, out: &mut [u8]) -> Result<usize, Refusal>
     ensures { (result ≡ (compose_of text.now d out.old).answer) × (out.new ≡ (compose_of text.now d out.old).out) }
 {
     let fault = lowest_fault(text, d);
     if fault <= 15 {
-        return Composed::Refused(Refusal::Line(fault as u32));
+        return Err(Refusal::Line(fault as u32));
     }
     if lacks_room(d, out.len()) {
-        return Composed::Refused(Refusal::Output);
+        return Err(Refusal::Output);
     }
-    Composed::Text(put_lines(text, d, out))
+    Ok(put_lines(text, d, out))
 }

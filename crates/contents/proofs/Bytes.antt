@@ -13,10 +13,10 @@ use lib.Dec.{leb, ltb}
 use lib.ListN.{length, get_or, set, take, drop, length-set, get_or-eq_default}
 use lib.Seq.{sets, set_comm, get_or-set_same, get_or-set_other, length-sets}
 use Rattle.ground.proofs.Listed.{length-listed, listed_ext, listed-part}
-use Rattle.refusals.specs.declared.Verdict.TheVariants.{Accepted, Refused}
 use Rattle.refusals.specs.declared.Refusal.TheVariants.{Output}
 use Rattle.contents.specs.Slots.{length_at, cleared, stored, room_for, slot_verdict, stored_within}
 use Rattle.contents.specs.Contents.{bytes_at}
+use Rattle.std.specs.Prelude.{Ok, Err}
 
 -- ---- the n bytes from at on
 
@@ -85,11 +85,11 @@ module _ (size at n : ℕ) where
       either true = refl
       either false = refl
 
-  pub slot_served : room_for size at n ≡ true → Accepted ≡ slot_verdict size at n
+  pub slot_served : room_for size at n ≡ true → (Ok tt) ≡ slot_verdict size at n
   unfolding slot_verdict
   slot_served e = rw e refl
 
-  pub slot-refused : room_for size at n ≡ false → Refused Output ≡ slot_verdict size at n
+  pub slot-refused : room_for size at n ≡ false → Err Output ≡ slot_verdict size at n
   unfolding slot_verdict
   slot-refused e = rw e refl
 

@@ -10,8 +10,8 @@ use lib.ListN.{length, get_or, set, take, drop, replicate}
 use lib.Seq.{drop-drop, ext_get_or, set_split, take-add, take_all}
 use Rattle.ground.specs.Lists.{listed}
 use Rattle.ground.proofs.Listed.{length-listed, get_or-listed_0}
-use Rattle.places.specs.declared.Found.TheVariants.{At, Nothing}
 use Rattle.contents.specs.Contents.{Slot, wrong, holding, any_wrong, filled, lowest_empty, joined}
+use Rattle.std.specs.Prelude.{Some, None}
 
 -- a slot that is empty
 abbrev pub Empty : Slot → Type 0
@@ -84,7 +84,7 @@ Found-from c i n = (k : ℕ) × ((n ≡ i + k) × Lowest c k)
 found-later : (x : Slot) (c : List Slot) (i n : ℕ) → (Empty x → ⊥) → Found-from c (suc i) n → Found-from (x ∷ c) i n
 found-later x c i n d f = (suc f.0, (omega (arith, f.1.0), lowest-later x c f.0 d f.1.1))
 
-lowest_from_lem : (c : List Slot) (i n : ℕ) → lowest_empty c i ≡ At n → Found-from c i n
+lowest_from_lem : (c : List Slot) (i n : ℕ) → lowest_empty c i ≡ Some n → Found-from c i n
 lowest_from_lem [] i n e = let z : ◌≡◌ {A = ℕ} 0 1 = cc in absurd (omega arith)
 lowest_from_lem (wrong ∷ c) i n e = found-later wrong c i n not_wrong (lowest_from_lem c (suc i) n e)
 lowest_from_lem (holding [] ∷ c) i n e =
@@ -92,7 +92,7 @@ lowest_from_lem (holding [] ∷ c) i n e =
     (0, (omega arith, record { below = omega arith; empty = refl; first = λ j h x. absurd (omega arith) }))
 lowest_from_lem (holding (x ∷ b) ∷ c) i n e = found-later (holding (x ∷ b)) c i n (not_full x b) (lowest_from_lem c (suc i) n e)
 
-pub lowest-found : (c : List Slot) (k : ℕ) → lowest_empty c 0 ≡ At k → Lowest c k
+pub lowest-found : (c : List Slot) (k : ℕ) → lowest_empty c 0 ≡ Some k → Lowest c k
 lowest-found c k e =
     let f = lowest_from_lem c 0 k e in
     let z : f.0 ≡ k = omega (arith, f.1.0) in
@@ -105,16 +105,16 @@ lowest_rest x c k l = record { below = omega (arith, l.below); empty = l.empty; 
 one_on : (i k : ℕ) → suc i + k ≡ i + suc k
 one_on i k = omega arith
 
-pub lowest_is : (c : List Slot) (i k : ℕ) → Lowest c k → lowest_empty c i ≡ At (i + k)
+pub lowest_is : (c : List Slot) (i k : ℕ) → Lowest c k → lowest_empty c i ≡ Some (i + k)
 lowest_is [] i k l = absurd (omega (arith, l.below))
 lowest_is (wrong ∷ c) i zero l = absurd (not_wrong l.empty)
-lowest_is (wrong ∷ c) i (suc k) l = lowest_is c (suc i) k (lowest_rest wrong c k l) ∙ ap At (one_on i k)
-lowest_is (holding [] ∷ c) i zero l = ap At (sym (add-zero i))
+lowest_is (wrong ∷ c) i (suc k) l = lowest_is c (suc i) k (lowest_rest wrong c k l) ∙ ap Some (one_on i k)
+lowest_is (holding [] ∷ c) i zero l = ap Some (sym (add-zero i))
 lowest_is (holding [] ∷ c) i (suc k) l = absurd (l.first 0 (omega arith) refl)
 lowest_is (holding (x ∷ b) ∷ c) i zero l = absurd (not_full x b l.empty)
-lowest_is (holding (x ∷ b) ∷ c) i (suc k) l = lowest_is c (suc i) k (lowest_rest (holding (x ∷ b)) c k l) ∙ ap At (one_on i k)
+lowest_is (holding (x ∷ b) ∷ c) i (suc k) l = lowest_is c (suc i) k (lowest_rest (holding (x ∷ b)) c k l) ∙ ap Some (one_on i k)
 
-pub lowest-nothing : (c : List Slot) (i : ℕ) → lowest_empty c i ≡ Nothing → (k : ℕ) → k < length c → Empty (get_or c k wrong) → ⊥
+pub lowest-nothing : (c : List Slot) (i : ℕ) → lowest_empty c i ≡ None → (k : ℕ) → k < length c → Empty (get_or c k wrong) → ⊥
 lowest-nothing [] i e k h x = absurd (omega arith)
 lowest-nothing (wrong ∷ c) i e zero h x = not_wrong x
 lowest-nothing (wrong ∷ c) i e (suc k) h x = lowest-nothing c (suc i) e k (omega arith) x
@@ -122,14 +122,14 @@ lowest-nothing (holding [] ∷ c) i e k h x = let z : ◌≡◌ {A = ℕ} 0 1 = 
 lowest-nothing (holding (y ∷ b) ∷ c) i e zero h x = not_full y b x
 lowest-nothing (holding (y ∷ b) ∷ c) i e (suc k) h x = lowest-nothing c (suc i) e k (omega arith) x
 
-pub nothing_is : (c : List Slot) (i : ℕ) → ((k : ℕ) → k < length c → Empty (get_or c k wrong) → ⊥) → lowest_empty c i ≡ Nothing
+pub nothing_is : (c : List Slot) (i : ℕ) → ((k : ℕ) → k < length c → Empty (get_or c k wrong) → ⊥) → lowest_empty c i ≡ None
 nothing_is [] i f = refl
 nothing_is (wrong ∷ c) i f = nothing_is c (suc i) (λ k h. f (suc k) (omega arith))
 nothing_is (holding [] ∷ c) i f = absurd (f 0 (omega arith) refl)
 nothing_is (holding (y ∷ b) ∷ c) i f = nothing_is c (suc i) (λ k h. f (suc k) (omega arith))
 
 -- a payload put into another slot than the lowest empty one
-pub lowest-set-other : (c : List Slot) (i n k x : ℕ) (b : List ℕ) → lowest_empty c i ≡ At n → (n ≡ i + k → ⊥) → lowest_empty (set c k (holding (x ∷ b))) i ≡ At n
+pub lowest-set-other : (c : List Slot) (i n k x : ℕ) (b : List ℕ) → lowest_empty c i ≡ Some n → (n ≡ i + k → ⊥) → lowest_empty (set c k (holding (x ∷ b))) i ≡ Some n
 lowest-set-other [] i n k x b e d = e
 lowest-set-other (wrong ∷ c) i n zero x b e d = e
 lowest-set-other (wrong ∷ c) i n (suc k) x b e d = lowest-set-other c (suc i) n k x b e (λ z. d (omega arith))
@@ -148,7 +148,7 @@ lowest-set-own (holding [] ∷ c) i (suc k) x b l = absurd (l.first 0 (omega ari
 lowest-set-own (holding (y ∷ a) ∷ c) i (suc k) x b l =
     lowest-set-own c (suc i) k x b (lowest_rest (holding (y ∷ a)) c k l) ∙ ap (λ (n : ℕ). lowest_empty (drop (suc k) c) (suc n)) (one_on i k)
 
-pub lowest-set-nothing : (c : List Slot) (i k x : ℕ) (b : List ℕ) → lowest_empty c i ≡ Nothing → lowest_empty (set c k (holding (x ∷ b))) i ≡ Nothing
+pub lowest-set-nothing : (c : List Slot) (i k x : ℕ) (b : List ℕ) → lowest_empty c i ≡ None → lowest_empty (set c k (holding (x ∷ b))) i ≡ None
 lowest-set-nothing [] i k x b e = e
 lowest-set-nothing (wrong ∷ c) i zero x b e = e
 lowest-set-nothing (wrong ∷ c) i (suc k) x b e = lowest-set-nothing c (suc i) k x b e
@@ -157,13 +157,13 @@ lowest-set-nothing (holding (y ∷ a) ∷ c) i zero x b e = e
 lowest-set-nothing (holding (y ∷ a) ∷ c) i (suc k) x b e = lowest-set-nothing c (suc i) k x b e
 
 -- where no slot is wrong, all are filled exactly if none is empty
-pub all-filled : (c : List Slot) (i : ℕ) → any_wrong c ≡ false → lowest_empty c i ≡ Nothing → filled c ≡ length c
+pub all-filled : (c : List Slot) (i : ℕ) → any_wrong c ≡ false → lowest_empty c i ≡ None → filled c ≡ length c
 all-filled [] i w e = refl
 all-filled (wrong ∷ c) i w e = absurd (true≢false w)
 all-filled (holding [] ∷ c) i w e = let z : ◌≡◌ {A = ℕ} 0 1 = cc in absurd (omega arith)
 all-filled (holding (x ∷ b) ∷ c) i w e = ap suc (all-filled c (suc i) w e)
 
-pub filled-all : (c : List Slot) (i : ℕ) → filled c ≡ length c → (any_wrong c ≡ false) × (lowest_empty c i ≡ Nothing)
+pub filled-all : (c : List Slot) (i : ℕ) → filled c ≡ length c → (any_wrong c ≡ false) × (lowest_empty c i ≡ None)
 filled-all [] i e = (refl, refl)
 filled-all (wrong ∷ c) i e = absurd (omega (arith, filled-most c))
 filled-all (holding [] ∷ c) i e = absurd (omega (arith, filled-most c))
@@ -189,7 +189,7 @@ pub empty-filled : (n : ℕ) → filled (replicate n (holding [])) ≡ 0
 empty-filled zero = refl
 empty-filled (suc n) = empty-filled n
 
-pub empty-lowest : (n i : ℕ) → 0 < n → lowest_empty (replicate n (holding [])) i ≡ At i
+pub empty-lowest : (n i : ℕ) → 0 < n → lowest_empty (replicate n (holding [])) i ≡ Some i
 empty-lowest zero i h = absurd (omega arith)
 empty-lowest (suc n) i h = refl
 
@@ -214,7 +214,7 @@ module _ (f : ℕ → List ℕ) where
       more [] c h e = absurd (omega arith)
       more (x ∷ b) c h e = ap suc e
 
-  pub holding-lowest : (n i : ℕ) → ((k : ℕ) → i ≤ k → k < i + n → 0 < length (f k)) → lowest_empty (listed (λ k. holding (f k)) n i) i ≡ Nothing
+  pub holding-lowest : (n i : ℕ) → ((k : ℕ) → i ≤ k → k < i + n → 0 < length (f k)) → lowest_empty (listed (λ k. holding (f k)) n i) i ≡ None
   holding-lowest n i e =
       (filled-all (listed (λ k. holding (f k)) n i) i (holding-filled n i e ∙ sym (length-listed (λ k. holding (f k)) n i))).1
 

@@ -3,10 +3,10 @@
 use Rattle.std.specs.Prelude.{Bool, true, false, cond, not, ◌&&◌, ◌||◌, List, [], ◌∷◌, ◌++◌, ℕ, suc, ◌+◌, ◌*◌, ◌%◌, eqb, leb, get_or}
 use Rattle.ground.specs.Lists.{listed}
 use Rattle.places.specs.declared.Place.{Place}
-use Rattle.places.specs.declared.Found.{Found}
-use Rattle.places.specs.declared.Found.TheVariants.{At, Nothing}
 use Rattle.places.specs.Places.{in_rows}
 use Rattle.contents.specs.Slots.{length_at}
+use Rattle.std.specs.Prelude.{Option}
+use Rattle.std.specs.Prelude.{Some, None}
 
 -- a slot holds a payload, [] where it is empty; or its length is wrong
 pub data Slot : Type 0 where
@@ -47,10 +47,10 @@ filled (holding [] ∷ c) = filled c
 filled (holding (x ∷ b) ∷ c) = suc (filled c)
 
 -- the lowest empty one, the first being number i
-abbrev pub lowest_empty : List Slot → ℕ → Found
-lowest_empty [] i = Nothing
+abbrev pub lowest_empty : List Slot → ℕ → Option ℕ
+lowest_empty [] i = None
 lowest_empty (wrong ∷ c) i = lowest_empty c (suc i)
-lowest_empty (holding [] ∷ c) i = At i
+lowest_empty (holding [] ∷ c) i = Some i
 lowest_empty (holding (x ∷ b) ∷ c) i = lowest_empty c (suc i)
 
 -- the payloads, joined in the order of their numbers

@@ -2,9 +2,10 @@
 -- Assumes nothing.
 use Rattle.std.specs.Prelude.{Bool, cond, ◌&&◌, List, ◌∷◌, ℕ, zero, suc, ◌+◌, ◌*◌, ◌/◌, ◌%◌, leb, ltb, length, get_or, set}
 use Rattle.std.proofs.lemmas.List.Edits.{sets}
-use Rattle.refusals.specs.declared.Verdict.{Verdict}
-use Rattle.refusals.specs.declared.Verdict.TheVariants.{Accepted, Refused}
 use Rattle.refusals.specs.declared.Refusal.TheVariants.{Output}
+use Rattle.refusals.specs.declared.Refusal.{Refusal}
+use Rattle.std.specs.Prelude.{Result}
+use Rattle.std.specs.Prelude.{Ok, Err}
 
 -- the length that stands in the slot at at
 abbrev pub length_at : List ℕ → ℕ → ℕ
@@ -24,8 +25,8 @@ abbrev pub room_for : ℕ → ℕ → ℕ → Bool
 room_for size at n = ltb n 65536 && leb (at + 2 + n) size
 
 -- refusal 26 where there is none
-unfoldable pub slot_verdict : ℕ → ℕ → ℕ → Verdict
-slot_verdict size at n = cond (room_for size at n) Accepted (Refused Output)
+unfoldable pub slot_verdict : ℕ → ℕ → ℕ → Result (Unit {0}) Refusal
+slot_verdict size at n = cond (room_for size at n) (Ok tt) (Err Output)
 
 -- a payload in the slot at at; beside a refusal no byte changes
 unfoldable pub stored_within : List ℕ → ℕ → List ℕ → List ℕ

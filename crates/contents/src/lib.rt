@@ -7,7 +7,7 @@ ghost use Rattle.contents.specs.Slots.{length_at, room_for, slot_verdict, stored
 ghost use Rattle.contents.specs.Contents.{length_fits};
 
 use places::Place;
-use refusals::{Refusal, Verdict};
+use refusals::Refusal;
 
 // The length that stands in the slot at `at`.
 pub fn slot_length(store: &[u8], at: usize) -> usize
@@ -46,17 +46,17 @@ pub fn length_fits(p: Place, n: usize) -> bool
 
 // Puts a payload into the slot at `at`. Its length is written last: a process that is killed before leaves the slot empty. Refused, and nothing written: 26 where
 // there is no room for it.
-pub fn put_slot(store: &mut [u8], at: usize, payload: &[u8]) -> Verdict
+pub fn put_slot(store: &mut [u8], at: usize, payload: &[u8]) -> Result<(), Refusal>
     ensures { (result ≡ slot_verdict (length store.old) at (length payload.now)) × (store.new ≡ stored_within store.old at payload.now) }
 {
     let n = payload.len();
     if !has_room(store.len(), at, n) {
-        return Verdict::Refused(Refusal::Output);
+        return Err(Refusal::Output);
     }
     slices::copy_in(store, at + 2, payload);
     store[at] = (n % 256) as u8;
     store[at + 1] = (n / 256) as u8;
-    Verdict::Accepted
+    Ok(())
 }
 
 // Whether a slot at `at` in a store of `size` bytes has room for `n`.

@@ -10,10 +10,11 @@ use lib.Dec.{leb, ltb}
 use lib.ListN.{length}
 use Rattle.refusals.specs.declared.Refusal.TheVariants.{Line, Extra}
 use Rattle.attributes.specs.declared.Description.{Description}
-use Rattle.attributes.specs.declared.Described.TheVariants.{«Attributes», Refused}
 use Rattle.attributes.specs.Rules.{rules, lowest}
 use Rattle.attributes.specs.Lines.{lines_of}
 use Rattle.attributes.specs.Describe.{description_in, lower, fault_of, describe_of}
+use Rattle.std.specs.Prelude.{Err}
+use Rattle.std.specs.Prelude.{Ok}
 
 pub lower-first : (a b : ℕ) → a ≤ b → a ≡ lower a b
 lower-first a b h = sym (ap (λ (c : Bool). cond c a b) (le-leb a b h))
@@ -30,18 +31,18 @@ module _ (t : List ℕ) (d : Description) (low count next fault : ℕ) (attribut
       let one : count + 1 ≡ suc (length (lines_of t).parts) = omega arith in
       lowered ∙ ap₂ lower (judged ∙ ap (λ (x : Description). lowest (rules t x)) attributes) one
 
-  says : (b c : Bool) → leb fault 15 ≡ b → ltb next (length t) ≡ c → cond b (Refused (Line fault)) (cond c (Refused Extra) («Attributes» d)) ≡ describe_of t
+  says : (b c : Bool) → leb fault 15 ≡ b → ltb next (length t) ≡ c → cond b (Err (Line fault)) (cond c (Err Extra) (Ok d)) ≡ describe_of t
   unfolding describe_of
   says b c e f =
-      ap₂ (λ (x y : Bool). cond x (Refused (Line fault)) (cond y (Refused Extra) («Attributes» d))) (sym e) (sym f)
-      ∙ (λ i. cond (leb (is_fault i) 15) (Refused (Line (is_fault i))) (cond (ltb (ended i) (length t)) (Refused Extra) («Attributes» (attributes i))))
+      ap₂ (λ (x y : Bool). cond x (Err (Line fault)) (cond y (Err Extra) (Ok d))) (sym e) (sym f)
+      ∙ (λ i. cond (leb (is_fault i) 15) (Err (Line (is_fault i))) (cond (ltb (ended i) (length t)) (Err Extra) (Ok (attributes i))))
 
-  pub says_line : fault ≤ 15 → Refused (Line fault) ≡ describe_of t
+  pub says_line : fault ≤ 15 → Err (Line fault) ≡ describe_of t
   says_line h = says _ _ (le-leb fault 15 h) refl
 
   module _ (h : 15 < fault) where
-    pub says_extra : next < length t → Refused Extra ≡ describe_of t
+    pub says_extra : next < length t → Err Extra ≡ describe_of t
     says_extra l = says _ _ (lt-leb fault 15 h) (lt-ltb next (length t) l)
 
-    pub says_attributes : length t ≤ next → «Attributes» d ≡ describe_of t
+    pub says_attributes : length t ≤ next → Ok d ≡ describe_of t
     says_attributes l = says _ _ (lt-leb fault 15 h) (le-ltb next (length t) l)

@@ -8,7 +8,7 @@ ghost use Rattle.description.specs.Inner.{ReadOf, Within};
 
 mod lines;
 
-use attributes::{Described, Description, Part};
+use attributes::{Description, Part};
 use calendar::Time;
 use refusals::Refusal;
 
@@ -104,7 +104,7 @@ fn lower(a: u64, b: u64) -> u64
 
 // The attributes of a description file, its texts as parts of `text`. A line that is missing or has a fault is refused with the number of the lowest such line, bytes behind
 // line 15 after that.
-pub fn read(text: &[u8]) -> Described
+pub fn read(text: &[u8]) -> Result<Description, Refusal>
     ensures { result ≡ describe_of text.now }
 {
     let found = lines::split(text);
@@ -113,10 +113,10 @@ pub fn read(text: &[u8]) -> Described
     let d = attributes_in(text, starts, lengths);
     let fault = lower(judging::lowest_fault(text, d), found.count as u64 + 1);
     if fault <= 15 {
-        return Described::Refused(Refusal::Line(fault as u32));
+        return Err(Refusal::Line(fault as u32));
     }
     if found.next < text.len() {
-        return Described::Refused(Refusal::Extra);
+        return Err(Refusal::Extra);
     }
-    Described::Attributes(d)
+    Ok(d)
 }

@@ -3,19 +3,19 @@
 use Rattle.std.specs.Prelude.{cond, ℕ, ◌*◌, ◌/◌, min, eqb, length, get_or, replicate}
 use mathlib.Core.List.{List, ◌++◌, flatten}
 use Rattle.std.proofs.lemmas.List.Edits.{sets}
-use Rattle.refusals.specs.declared.Verdict.TheVariants.{Accepted, Refused}
 use Rattle.refusals.specs.declared.Refusal.TheVariants.{Short}
 use Rattle.ground.specs.Lists.{listed}
 use Rattle.code.specs.Search.{remainder}
 use Rattle.code.specs.Repair.{checks_of}
 use Rattle.encoding.specs.declared.Encoded.{Encoded}
+use Rattle.std.specs.Prelude.{Ok, Err}
 
 -- the sixteen checks of 239 bytes; refusal 1 for another length
 unfoldable pub encode_of : List ℕ → Encoded
 encode_of info =
     cond (eqb (length info) 239)
-    (record { verdict = Accepted; checks = checks_of info })
-    (record { verdict = Refused Short; checks = replicate 16 0 })
+    (record { verdict = (Ok tt); checks = checks_of info })
+    (record { verdict = Err Short; checks = replicate 16 0 })
 
 -- a row: its information bytes, and their checks behind them
 unfoldable pub coded_row : List ℕ → List ℕ

@@ -8,12 +8,12 @@ ghost use Rattle.encoding.specs.Encode.{encode_of, checked_of, remainders_of};
 mod halves;
 mod register;
 
-use refusals::{Refusal, Verdict};
+use refusals::Refusal;
 
 // The sixteen checks of a row; zeros beside a refusal.
 #[derive(Clone, Copy)]
 pub struct Encoded {
-    pub verdict: Verdict,
+    pub verdict: Result<(), Refusal>,
     pub checks: [u8; 16],
 }
 
@@ -35,12 +35,12 @@ pub fn encode_row(info: &[u8]) -> Encoded
 {
     if info.len() != 239 {
         return Encoded {
-            verdict: Verdict::Refused(Refusal::Short),
+            verdict: Err(Refusal::Short),
             checks: [0u8; 16],
         };
     }
     Encoded {
-        verdict: Verdict::Accepted,
+        verdict: Ok(()),
         checks: register::row_checks(info),
     }
 }

@@ -12,12 +12,9 @@ use Rattle.ground.proofs.Listed.{length-listed, get_or-listed_0}
 use Rattle.code.specs.Code.{Bytes}
 use Rattle.code.proofs.Lists.{bytes_at_lem}
 use Rattle.refusals.specs.declared.Refusal.{Refusal}
-use Rattle.refusals.specs.declared.Verdict.TheVariants.{Refused}
 use Rattle.settings.specs.declared.Settings.{Settings}
 use Rattle.places.specs.declared.Place.{Place}
 use Rattle.places.specs.declared.Record.{Record}
-use Rattle.places.specs.declared.Found.{Found}
-use Rattle.places.specs.declared.Found.TheVariants.{At, Nothing}
 use Rattle.places.specs.Places.{Name, settings_name, unused, place_of, good, place_named}
 use Rattle.places.proofs.Facts.{PlaceFacts, named_facts, end_sum}
 use Rattle.places.proofs.Keeping.{at_set}
@@ -28,6 +25,9 @@ use Rattle.holding.specs.Layout.{place_length, record_length, two, four, place_i
 use Rattle.face.specs.Face.{open_says, close_says}
 use Rattle.face.specs.Statements.{RecordsFollow}
 use Rattle.holding.proofs.LayoutLaws.{Typed, record-again}
+use Rattle.std.specs.Prelude.{Option}
+use Rattle.std.specs.Prelude.{Err}
+use Rattle.std.specs.Prelude.{Some, None}
 
 -- ---- places whose fields fit
 
@@ -116,10 +116,10 @@ close_eight : (h : Record) (s : List ℕ) (x : Name) → Eight h.places → Eigh
 unfolding close_of
 close_eight h s x e = by (not (good (length s) h.places)) (place_named h.places x)
   where
-    by : (b : Bool) (f : Found) → Eight (cond b (record { «record» = h; verdict = Refused Refusal.Record }) (closed_at h f)).«record».places
+    by : (b : Bool) (f : Option ℕ) → Eight (cond b (record { «record» = h; verdict = Err Refusal.Record }) (closed_at h f)).«record».places
     by true f = e
-    by false Nothing = e
-    by false (At i) = eight_set h.places i unused e unused_typed
+    by false None = e
+    by false (Some i) = eight_set h.places i unused e unused_typed
 
 -- ---- through the bytes
 

@@ -11,7 +11,6 @@ use Rattle.settings.specs.declared.Settings.{Settings}
 use Rattle.places.specs.declared.Record.{Record}
 use Rattle.places.specs.Places.{Name}
 use Rattle.opening.specs.declared.Kept.{Kept}
-use Rattle.refusals.specs.declared.Verdict.{Verdict}
 use Rattle.record.specs.declared.Offered.{Offered}
 use Rattle.opening.specs.Open.{open_of, Opens, close_of}
 use Rattle.refusals.specs.Told.{verdict_told}
@@ -20,6 +19,8 @@ use Rattle.record.specs.Told.{offered_told}
 use Rattle.handing.specs.Hand.{hand_out_of}
 use Rattle.holding.specs.Layout.{record_length, record_in, record_bytes}
 use Rattle.face.specs.Face.{answer_of, Says, Keeps, bad_record, open_says, close_says, offer_says, hand_says}
+use Rattle.refusals.specs.declared.Refusal.{Refusal}
+use Rattle.std.specs.Prelude.{Result}
 
 module _ (h s : List ℕ) where
   module _ (g : Settings) (count : ℕ) (r : ℕ) where
@@ -83,12 +84,12 @@ module _ (h s : List ℕ) where
     unfolding hand_says
     hand_bad d e = let t : eqb (length h) record_length ≡ false = ne_eqb (length h) record_length d in record { answers = rw t e; leaves = rw t }
 
-    pub hand_says_lem : (held : Record) (v : Verdict) (out' : List ℕ) → length h ≡ record_length → held ≡ record_in h → v ≡ (hand_out_of held s x n out).answer
+    pub hand_says_lem : (held : Record) (v : Result (Unit {0}) Refusal) (out' : List ℕ) → length h ≡ record_length → held ≡ record_in h → v ≡ (hand_out_of held s x n out).answer
         → out' ≡ (hand_out_of held s x n out).output → r ≡ answer_of (verdict_told v) → Says (hand_says h s x n out) r out'
     unfolding hand_says
     hand_says_lem held v out' k e a l d =
         let t : eqb (length h) record_length ≡ true = eq-eqb (length h) record_length k in
         record {
-          answers = rw t (d ∙ ap (λ (y : Verdict). answer_of (verdict_told y)) (a ∙ ap (λ (y : Record). (hand_out_of y s x n out).answer) e));
+          answers = rw t (d ∙ ap (λ (y : Result (Unit {0}) Refusal). answer_of (verdict_told y)) (a ∙ ap (λ (y : Record). (hand_out_of y s x n out).answer) e));
           leaves = rw t (l ∙ ap (λ (y : Record). (hand_out_of y s x n out).output) e);
         }

@@ -12,12 +12,13 @@ use Rattle.refusals.specs.declared.Refusal.TheVariants.{Field, Size, Count, Numb
 use Rattle.settings.specs.declared.Settings.{Settings}
 use Rattle.settings.specs.Settings.{settings_fit}
 use Rattle.settings.proofs.Laws.{settings_facts}
-use Rattle.pack.specs.declared.Packed.{Packed}
-use Rattle.pack.specs.declared.Packed.TheVariants.{Written}
 use Rattle.pack.specs.Told.{packed_told}
 use Rattle.pack.specs.Pack.{largest_file, count_of, packet_of, refusing, written, pack_of, Packs}
 use Rattle.pack.proofs.Laws.{length_packet, length_payload}
 use Rattle.face.specs.Face.{answer_of, Says, pack_says}
+use Rattle.refusals.specs.declared.Refusal.{Refusal}
+use Rattle.std.specs.Prelude.{Result}
+use Rattle.std.specs.Prelude.{Ok}
 
 module _ (file : List ℕ) (g : Settings) (n : ℕ) (out : List ℕ) where
   packet_short : settings_fit g ≡ true → length (packet_of g file n) ≤ 4095
@@ -33,7 +34,7 @@ module _ (file : List ℕ) (g : Settings) (n : ℕ) (out : List ℕ) where
     where
       go : (a b c d e : Bool) → not (settings_fit g) ≡ a
           → answer_of (packed_told (cond a (refusing Field out) (cond b (refusing Size out) (cond c (refusing Count out) (cond d (refusing Number out)
-          (cond e (refusing Output out) (record { answer = Written (length (packet_of g file n)); output = packet_of g file n ++ drop (length (packet_of g file n)) out })))))
+          (cond e (refusing Output out) (record { answer = Ok (length (packet_of g file n)); output = packet_of g file n ++ drop (length (packet_of g file n)) out })))))
           ).answer) < 18446744073709551616
       go true b c d e t = omega arith
       go false true c d e t = omega arith
@@ -42,10 +43,10 @@ module _ (file : List ℕ) (g : Settings) (n : ℕ) (out : List ℕ) where
       go false false false false true t = omega arith
       go false false false false false t = omega (arith, packet_short (not-false (settings_fit g) t))
 
-  module _ (p : Packed) (x : List ℕ) (h : Packs (pack_of file g n out) p x) where
+  module _ (p : Result ℕ Refusal) (x : List ℕ) (h : Packs (pack_of file g n out) p x) where
     pub packed_fits : answer_of (packed_told p) < 18446744073709551616
-    packed_fits = subst (λ (y : Packed). answer_of (packed_told y) < 18446744073709551616) (sym h.answer) answer-short
+    packed_fits = subst (λ (y : Result ℕ Refusal). answer_of (packed_told y) < 18446744073709551616) (sym h.answer) answer-short
 
     pub pack_says_lem : (r : ℕ) → r ≡ answer_of (packed_told p) → Says (pack_says file g n out) r x
     unfolding pack_says
-    pack_says_lem r e = record { answers = e ∙ ap (λ (y : Packed). answer_of (packed_told y)) h.answer; leaves = h.output }
+    pack_says_lem r e = record { answers = e ∙ ap (λ (y : Result ℕ Refusal). answer_of (packed_told y)) h.answer; leaves = h.output }

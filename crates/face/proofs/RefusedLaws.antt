@@ -10,22 +10,16 @@ use lib.Dec.{eqb, ltb}
 use lib.ListN.{length, drop}
 use Rattle.refusals.specs.declared.Refusal.{Refusal}
 use Rattle.refusals.specs.declared.Refusal.TheVariants.{Output}
-use Rattle.refusals.specs.declared.Verdict.{Verdict}
-use Rattle.refusals.specs.declared.Verdict.TheVariants.{Accepted, Refused}
 use Rattle.refusals.specs.Told.{Told, refused_as, verdict_told}
 use Rattle.encoding.specs.Encode.{encode_of}
 use Rattle.single.specs.Single.{repair_row_of}
 use Rattle.settings.specs.declared.Settings.{Settings}
 use Rattle.packet.specs.Packet.{read_by}
 use Rattle.packet.specs.Told.{reading_told}
-use Rattle.pack.specs.declared.Packed.{Packed}
-use Rattle.pack.specs.declared.Packed.TheVariants.{Written}
 use Rattle.pack.specs.Pack.{pack_of}
 use Rattle.pack.specs.Told.{packed_told}
 use Rattle.pack.proofs.Plans.{pack-refused}
 use Rattle.places.specs.declared.Record.{Record}
-use Rattle.places.specs.declared.Found.{Found}
-use Rattle.places.specs.declared.Found.TheVariants.{At, Nothing}
 use Rattle.places.specs.Places.{Name, good, place_named}
 use Rattle.record.specs.declared.Offered.{Offered}
 use Rattle.record.specs.declared.Offered.TheVariants.{Stored, Repeat}
@@ -41,6 +35,10 @@ use Rattle.holding.specs.Layout.{record_length, record_in, record_bytes}
 use Rattle.face.specs.Face.{Said, Kept, answer_of, bad_record, puts, puts_if, valued, with_value, encode_says, repair_says, read_says, pack_says, open_says, close_says, offer_says, hand_says}
 use Rattle.face.specs.Statements.{number_in, OutputKept, RecordKept, RefusalsChangeNothing}
 use Rattle.holding.proofs.LayoutLaws.{bytes-again}
+use Rattle.std.specs.Prelude.{Result}
+use Rattle.std.specs.Prelude.{Option}
+use Rattle.std.specs.Prelude.{Ok, Err}
+use Rattle.std.specs.Prelude.{Some, None}
 
 -- ---- what is said of the definitions is said of every result that a contract allows
 
@@ -104,23 +102,23 @@ pub pack-refused_keeps : (file : List ℕ) (g : Settings) (n : ℕ) (out : List 
 unfolding pack_says
 pack-refused_keeps file g n out = by (pack_of file g n out).answer refl
   where
-    by : (a : Packed) → (pack_of file g n out).answer ≡ a → (number_in (answer_of (packed_told a)) ≡ 0 → ⊥) → (pack_of file g n out).output ≡ out
-    by (Written k) e d = absurd (d (omega arith))
-    by (Packed.Refused r) e d = pack-refused file g n out r e
+    by : (a : Result ℕ Refusal) → (pack_of file g n out).answer ≡ a → (number_in (answer_of (packed_told a)) ≡ 0 → ⊥) → (pack_of file g n out).output ≡ out
+    by (Ok k) e d = absurd (d (omega arith))
+    by (Err r) e d = pack-refused file g n out r e
 
 -- ---- the record
 
 -- bytes that are no record stay; else a refused verdict stands beside the record in them, and beside the store as lent
-module _ (h s : List ℕ) (v : Verdict) (k : Record) (left : List ℕ) where
-  put_back_kept : Bytes h → ((r : Refusal) → v ≡ Refused r → (k ≡ record_in h) × (left ≡ s))
+module _ (h s : List ℕ) (v : Result (Unit {0}) Refusal) (k : Record) (left : List ℕ) where
+  put_back_kept : Bytes h → ((r : Refusal) → v ≡ Err r → (k ≡ record_in h) × (left ≡ s))
       → AllKept (cond (eqb (length h) record_length) (record { answer = answer_of (verdict_told v); held = record_bytes k; store = left }) (record { answer = bad_record; held = h; store = s })) h s
   put_back_kept bytes same = by (eqb (length h) record_length) refl v refl
     where
-      by : (t : Bool) → eqb (length h) record_length ≡ t → (w : Verdict) → v ≡ w
+      by : (t : Bool) → eqb (length h) record_length ≡ t → (w : Result (Unit {0}) Refusal) → v ≡ w
           → AllKept (cond t (record { answer = answer_of (verdict_told w); held = record_bytes k; store = left }) (record { answer = bad_record; held = h; store = s })) h s
       by false t w e d = (refl, refl)
-      by true t Accepted e d = absurd (d refl)
-      by true t (Refused r) e d = (ap record_bytes (same r e).0 ∙ bytes-again h bytes (eqb-true (length h) record_length t), (same r e).1)
+      by true t (Ok tt) e d = absurd (d refl)
+      by true t (Err r) e d = (ap record_bytes (same r e).0 ∙ bytes-again h bytes (eqb-true (length h) record_length t), (same r e).1)
 
 pub open_refused_keeps : (h s : List ℕ) (g : Settings) (count : ℕ) → Bytes h → AllKept (open_says h s g count) h s
 unfolding open_says
@@ -130,15 +128,15 @@ open_refused_keeps h s g count bytes =
     let p = refused_plan (record_in h) s g count r e in
     (refused-record (record_in h) s g count r p, refused-store (record_in h) s g count r p))
 
-close-refused-record : (h : Record) (s : List ℕ) (x : Name) (r : Refusal) → (close_of h s x).verdict ≡ Refused r → (close_of h s x).«record» ≡ h
+close-refused-record : (h : Record) (s : List ℕ) (x : Name) (r : Refusal) → (close_of h s x).verdict ≡ Err r → (close_of h s x).«record» ≡ h
 unfolding close_of
 close-refused-record h s x r = by (not (good (length s) h.places)) (place_named h.places x)
   where
-    by : (b : Bool) (f : Found) → (cond b (record { «record» = h; verdict = Refused Refusal.Record }) (closed_at h f)).verdict ≡ Refused r
-        → (cond b (record { «record» = h; verdict = Refused Refusal.Record }) (closed_at h f)).«record» ≡ h
+    by : (b : Bool) (f : Option ℕ) → (cond b (record { «record» = h; verdict = Err Refusal.Record }) (closed_at h f)).verdict ≡ Err r
+        → (cond b (record { «record» = h; verdict = Err Refusal.Record }) (closed_at h f)).«record» ≡ h
     by true f e = refl
-    by false Nothing e = refl
-    by false (At i) e = let z : ◌≡◌ {A = ℕ} 0 1 = cc in absurd (omega arith)
+    by false None e = refl
+    by false (Some i) e = let z : ◌≡◌ {A = ℕ} 0 1 = cc in absurd (omega arith)
 
 pub close-refused_keeps : (h s : List ℕ) (x : Name) → Bytes h → AllKept (close_says h s x) h s
 unfolding close_says
@@ -160,11 +158,11 @@ pub hand_refused_keeps : (h s : List ℕ) (x : Name) (n : ℕ) (out : List ℕ) 
 unfolding hand_says
 hand_refused_keeps h s x n out = by (eqb (length h) record_length) (hand_out_of (record_in h) s x n out).answer refl
   where
-    by : (t : Bool) (v : Verdict) → (hand_out_of (record_in h) s x n out).answer ≡ v
+    by : (t : Bool) (v : Result (Unit {0}) Refusal) → (hand_out_of (record_in h) s x n out).answer ≡ v
         → SaidKept (cond t (record { answer = answer_of (verdict_told v); output = (hand_out_of (record_in h) s x n out).output }) (record { answer = bad_record; output = out })) out
     by false v e d = refl
-    by true Accepted e d = absurd (d refl)
-    by true (Refused r) e d = hand_refused out (record_in h) s x n r e
+    by true (Ok tt) e d = absurd (d refl)
+    by true (Err r) e d = hand_refused out (record_in h) s x n r e
 
 -- ---- all of it
 

@@ -12,21 +12,19 @@ use lib.Seq.{sets}
 use Rattle.ground.proofs.Writing.{sets-front}
 use Rattle.refusals.specs.declared.Refusal.{Refusal}
 use Rattle.refusals.specs.declared.Refusal.TheVariants.{Output}
-use Rattle.refusals.specs.declared.Verdict.{Verdict}
-use Rattle.refusals.specs.declared.Verdict.TheVariants.{Accepted, Refused}
 use Rattle.refusals.specs.Refusals.{number_of}
 use Rattle.encoding.specs.declared.Encoded.{Encoded}
 use Rattle.single.specs.declared.Mended.{Mended}
 use Rattle.encoding.specs.Encode.{encode_of}
 use Rattle.single.specs.Single.{repair_row_of}
 use Rattle.packet.specs.declared.Packet.{Packet}
-use Rattle.packet.specs.declared.Reading.{Reading}
-use Rattle.packet.specs.declared.Reading.TheVariants.{Sent}
 use Rattle.packet.specs.Packet.{read_by}
 use Rattle.refusals.specs.Told.{refused_as, verdict_told}
 use Rattle.refusals.proofs.Told.{number_not_0}
 use Rattle.packet.specs.Told.{field_list}
 use Rattle.face.specs.Face.{Said, Says, answer_of, puts, puts_if, valued, with_value, encode_says, repair_says, reading_says, read_says}
+use Rattle.std.specs.Prelude.{Result}
+use Rattle.std.specs.Prelude.{Ok, Err}
 
 -- the same said in another way
 pub says_as : {p q : Said} {r : ℕ} {out : List ℕ} → p ≡ q → Says p r out → Says q r out
@@ -47,13 +45,13 @@ pub refused-puts : (z : Refusal) (b out : List ℕ) (r : ℕ) → r ≡ answer_o
 unfolding puts_if
 refused-puts z b out r e = let t : eqb (number_of z) 0 ≡ false = ne_eqb (number_of z) 0 (number_not_0 z) in record { answers = rw t e; leaves = rw t }
 
-module _ (v : Verdict) (b out : List ℕ) (r : ℕ) where
-  pub puts_accepted : (x : List ℕ) → v ≡ Accepted → Says (puts b out) r x → Says (puts_if (verdict_told v) b out) r x
+module _ (v : Result (Unit {0}) Refusal) (b out : List ℕ) (r : ℕ) where
+  pub puts_accepted : (x : List ℕ) → v ≡ (Ok tt) → Says (puts b out) r x → Says (puts_if (verdict_told v) b out) r x
   unfolding puts_if
-  puts_accepted x e s = says_as (ap (λ (w : Verdict). puts_if (verdict_told w) b out) (sym e)) s
+  puts_accepted x e s = says_as (ap (λ (w : Result (Unit {0}) Refusal). puts_if (verdict_told w) b out) (sym e)) s
 
-  pub puts-refused : (z : Refusal) → v ≡ Refused z → r ≡ answer_of (refused_as z) → Says (puts_if (verdict_told v) b out) r out
-  puts-refused z e s = says_as (ap (λ (w : Verdict). puts_if (verdict_told w) b out) (sym e)) (refused-puts z b out r s)
+  pub puts-refused : (z : Refusal) → v ≡ Err z → r ≡ answer_of (refused_as z) → Says (puts_if (verdict_told v) b out) r out
+  puts-refused z e s = says_as (ap (λ (w : Result (Unit {0}) Refusal). puts_if (verdict_told w) b out) (sym e)) (refused-puts z b out r s)
 
 pub encode_says_lem : (info out : List ℕ) (r : ℕ) (x : List ℕ) (made : Encoded) → made ≡ encode_of info → Says (puts_if (verdict_told made.verdict) made.checks out) r x → Says (encode_says info out) r x
 unfolding encode_says
@@ -76,14 +74,14 @@ unfolding valued
 valued-refused v a e = rw (ne_eqb a 0 e) refl
 
 -- what was read is put; a refusal is answered
-module _ (a : Reading) (out : List ℕ) (r : ℕ) where
-  pub read_sent : (x : List ℕ) (f : Packet) → a ≡ Sent f → Says (puts (field_list f) out) r x → Says (reading_says a out) r x
+module _ (a : Result Packet Refusal) (out : List ℕ) (r : ℕ) where
+  pub read_sent : (x : List ℕ) (f : Packet) → a ≡ Ok f → Says (puts (field_list f) out) r x → Says (reading_says a out) r x
   unfolding puts_if
-  read_sent x f e s = says_as (ap (λ (y : Reading). reading_says y out) (sym e)) s
+  read_sent x f e s = says_as (ap (λ (y : Result Packet Refusal). reading_says y out) (sym e)) s
 
-  pub read-refused : (z : Refusal) → a ≡ Reading.Refused z → r ≡ answer_of (refused_as z) → Says (reading_says a out) r out
-  read-refused z e s = says_as (ap (λ (y : Reading). reading_says y out) (sym e)) (refused-puts z _ out r s)
+  pub read-refused : (z : Refusal) → a ≡ Err z → r ≡ answer_of (refused_as z) → Says (reading_says a out) r out
+  read-refused z e s = says_as (ap (λ (y : Result Packet Refusal). reading_says y out) (sym e)) (refused-puts z _ out r s)
 
-pub reads_as : (rows : Bool) (q out : List ℕ) (a : Reading) (r : ℕ) (x : List ℕ) → a ≡ read_by rows q → Says (reading_says a out) r x → Says (read_says rows q out) r x
+pub reads_as : (rows : Bool) (q out : List ℕ) (a : Result Packet Refusal) (r : ℕ) (x : List ℕ) → a ≡ read_by rows q → Says (reading_says a out) r x → Says (read_says rows q out) r x
 unfolding read_says
-reads_as rows q out a r x e s = says_as (ap (λ (y : Reading). reading_says y out) e) s
+reads_as rows q out a r x e s = says_as (ap (λ (y : Result Packet Refusal). reading_says y out) e) s

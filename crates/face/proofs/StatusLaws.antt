@@ -11,8 +11,6 @@ use lib.ListN.{length, get_or}
 use Rattle.refusals.specs.declared.Refusal.{Refusal}
 use Rattle.refusals.specs.declared.Refusal.TheVariants.{Slot}
 use Rattle.places.specs.declared.Record.{Record}
-use Rattle.places.specs.declared.Found.{Found}
-use Rattle.places.specs.declared.Found.TheVariants.{At, Nothing}
 use Rattle.places.specs.Places.{Name, unused, good, place_named}
 use Rattle.places.proofs.Facts.{named_facts}
 use Rattle.contents.specs.Contents.{Slot as Content, contents, any_wrong, filled, lowest_empty}
@@ -24,25 +22,27 @@ use Rattle.standing.specs.Told.{standing_told}
 use Rattle.standing.specs.Status.{standing_in, status_found, status_of}
 use Rattle.holding.specs.Layout.{record_length, record_in}
 use Rattle.face.specs.Face.{answer_of, bad_record, status_says}
+use Rattle.std.specs.Prelude.{Option}
+use Rattle.std.specs.Prelude.{Some, None}
 
 standing_short : (c : List Content) → length c ≤ 1048575 → answer_of (standing_told (standing_in c)) < 18446744073709551616
 unfolding standing_in
 standing_short c h = by (any_wrong c) (lowest_empty c 0) refl
   where
-    by : (b : Bool) (f : Found) → lowest_empty c 0 ≡ f → answer_of (standing_told (cond b (Standing.Refused Slot) (Filled (filled c) f))) < 18446744073709551616
+    by : (b : Bool) (f : Option ℕ) → lowest_empty c 0 ≡ f → answer_of (standing_told (cond b (Standing.Refused Slot) (Filled (filled c) f))) < 18446744073709551616
     by true f e = omega arith
-    by false (At k) e = omega (arith, filled-most c, (lowest-found c k e).below)
-    by false Nothing e = omega (arith, filled-most c)
+    by false (Some k) e = omega (arith, filled-most c, (lowest-found c k e).below)
+    by false None e = omega (arith, filled-most c)
 
 status_short : (h : Record) (s : List ℕ) (x : Name) → answer_of (standing_told (status_of h s x)) < 18446744073709551616
 unfolding status_of
 status_short h s x = by (good (length s) h.places) refl (place_named h.places x) refl
   where
-    by : (b : Bool) → good (length s) h.places ≡ b → (f : Found) → place_named h.places x ≡ f
+    by : (b : Bool) → good (length s) h.places ≡ b → (f : Option ℕ) → place_named h.places x ≡ f
         → answer_of (standing_told (cond b (status_found h s f) (Standing.Refused Refusal.Record))) < 18446744073709551616
     by false g f e = omega arith
-    by true g Nothing e = omega arith
-    by true g (At i) e =
+    by true g None e = omega arith
+    by true g (Some i) e =
         let p = get_or h.places i unused in
         let most : p.count ≤ 1048575 = (named_facts (length s) h.places g x i e).count_most in
         standing_short (contents p s) (omega (arith, length-contents p s))

@@ -6,7 +6,6 @@ use Rattle.refusals.specs.declared.Refusal.TheVariants.{Output}
 use Rattle.refusals.specs.Told.{Told, accepted_with, refused_as, verdict_told}
 use Rattle.encoding.specs.Encode.{encode_of}
 use Rattle.single.specs.Single.{repair_row_of}
-use Rattle.packet.specs.declared.Reading.{Reading}
 use Rattle.settings.specs.declared.Settings.{Settings}
 use Rattle.packet.specs.Packet.{read_by}
 use Rattle.packet.specs.Told.{reading_told}
@@ -20,6 +19,8 @@ use Rattle.standing.specs.Status.{status_of}
 use Rattle.standing.specs.Told.{standing_told}
 use Rattle.handing.specs.Hand.{hand_out_of}
 use Rattle.holding.specs.Layout.{record_length, record_in, record_bytes}
+use Rattle.packet.specs.declared.Packet.{Packet}
+use Rattle.std.specs.Prelude.{Result}
 
 -- values as one: 0 for none, v for one; for two, as of a Status with an empty slot, n + 2^24 · (i + 1)
 abbrev pub value_in : List ℕ → ℕ
@@ -68,7 +69,7 @@ repair_says row out = with_value (repair_row_of row).count (puts_if (verdict_tol
 
 -- ---- fields: 1 to 8, 7 only where rows are judged, 26; the values that reading tells are put, nine numbers in the table's order and the edition
 
-abbrev pub reading_says : Reading → List ℕ → Said
+abbrev pub reading_says : Result Packet Refusal → List ℕ → Said
 reading_says x out = puts_if (reading_told x) (reading_told x).values out
 
 unfoldable pub read_says : Bool → List ℕ → List ℕ → Said

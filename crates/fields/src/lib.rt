@@ -4,7 +4,7 @@
 ghost use Rattle.std.specs.Prelude.{◌≡◌, ◌&&◌, ◌+◌, ◌*◌, ◌/◌, ◌%◌, ◌≤◌, length};
 ghost use Rattle.packet.specs.Packet.{fields_in, marked, bad_protection, bad_number, bad_rows, judged, read_by, read_of, read_header_of};
 
-use packet::{Packet, Reading};
+use packet::Packet;
 use refusals::Refusal;
 
 // Whether the start mark stands at the front.
@@ -100,55 +100,55 @@ fn bad_rows(rows: bool, fields: Packet, n: usize) -> bool
 }
 
 // The fields of a packet of n bytes, or the first of the refusals 4 to 8; 7 only where rows are judged.
-fn judge(rows: bool, fields: Packet, n: usize) -> Reading
+fn judge(rows: bool, fields: Packet, n: usize) -> Result<Packet, Refusal>
     requires { 19 ≤ n }
     ensures { result ≡ judged rows fields n }
 {
     if fields.kind == 3 {
-        return Reading::Refused(Refusal::Type);
+        return Err(Refusal::Type);
     }
     if bad_protection(fields) {
-        return Reading::Refused(Refusal::Protection);
+        return Err(Refusal::Protection);
     }
     if bad_number(fields) {
-        return Reading::Refused(Refusal::Number);
+        return Err(Refusal::Number);
     }
     if bad_rows(rows, fields, n) {
-        return Reading::Refused(Refusal::Rows);
+        return Err(Refusal::Rows);
     }
     if fields.resource == 0 {
-        return Reading::Refused(Refusal::Resource);
+        return Err(Refusal::Resource);
     }
-    Reading::Sent(fields)
+    Ok(fields)
 }
 
 // The fields of a packet as sent, or the first of the refusals 1 to 8. The payload and the CRC are not looked at.
-pub fn read_fields(packet: &[u8]) -> Reading
+pub fn read_fields(packet: &[u8]) -> Result<Packet, Refusal>
     ensures { result ≡ read_of packet.now }
 {
     read_by(true, packet)
 }
 
 // The same without refusal 7, for packets of either order: in column order a protected payload may have any length.
-pub fn read_header(packet: &[u8]) -> Reading
+pub fn read_header(packet: &[u8]) -> Result<Packet, Refusal>
     ensures { result ≡ read_header_of packet.now }
 {
     read_by(false, packet)
 }
 
 // The fields, or the first refusal; 7 only where rows are judged.
-fn read_by(rows: bool, packet: &[u8]) -> Reading
+fn read_by(rows: bool, packet: &[u8]) -> Result<Packet, Refusal>
     ensures { result ≡ read_by rows packet.now }
 {
     if packet.len() < Packet::HEADER + 1 + Packet::CRC {
-        return Reading::Refused(Refusal::Short);
+        return Err(Refusal::Short);
     }
     if !marked(packet) {
-        return Reading::Refused(Refusal::Mark);
+        return Err(Refusal::Mark);
     }
     let fields = fields_in(packet);
     if fields.length as usize != packet.len() {
-        return Reading::Refused(Refusal::Length);
+        return Err(Refusal::Length);
     }
     judge(rows, fields, packet.len())
 }

@@ -11,11 +11,12 @@ use lib.Dec.{leb, ltb}
 use lib.ListN.{length, take, drop}
 use lib.Seq.{sets, length-take-le}
 use Rattle.ground.proofs.Writing.{sets-front}
-use Rattle.refusals.specs.declared.Verdict.{Verdict}
-use Rattle.refusals.specs.declared.Verdict.TheVariants.{Accepted, Refused}
 use Rattle.refusals.specs.declared.Refusal.TheVariants.{Field, Output}
 use Rattle.filling.specs.Put.{rows_from, put_serves, put_verdict, put_as, put_rows}
 use Rattle.filling.proofs.Gathering.{length-rows}
+use Rattle.refusals.specs.declared.Refusal.{Refusal}
+use Rattle.std.specs.Prelude.{Result}
+use Rattle.std.specs.Prelude.{Ok, Err}
 
 module _ (len m at n : ℕ) where
   pub no_rows : m ≡ 0 → false ≡ put_serves len m at n
@@ -69,16 +70,16 @@ served len m at n e =
 -- ---- what the call answers and leaves
 
 -- the call was served: the answer, and what is written
-pub put_accepted : (len m at n room : ℕ) → put_serves len m at n ≡ true → n * 255 ≤ room → put_verdict len m at n room ≡ Accepted
+pub put_accepted : (len m at n room : ℕ) → put_serves len m at n ≡ true → n * 255 ≤ room → put_verdict len m at n room ≡ (Ok tt)
 unfolding put_verdict
 put_accepted len m at n room e h = rw (e, le-ltb room (n * 255) h) refl
 
-pub put-done : (file : List ℕ) (m at n : ℕ) (out : List ℕ) → put_verdict (length file) m at n (length out) ≡ Accepted → n * 255 ≤ length out
+pub put-done : (file : List ℕ) (m at n : ℕ) (out : List ℕ) → put_verdict (length file) m at n (length out) ≡ (Ok tt) → n * 255 ≤ length out
     → sets out 0 (rows_from file m at n) ≡ put_rows file m at n out
 unfolding put_rows
 put-done file m at n out e h =
     sets-front out (rows_from file m at n) (omega (arith, length-rows file m at n))
-    ∙ ap (λ (v : Verdict). put_as v (rows_from file m at n) out) (sym e)
+    ∙ ap (λ (v : Result (Unit {0}) Refusal). put_as v (rows_from file m at n) out) (sym e)
 
 -- the front of the output, as it is lent
 pub lent-front : (out : List ℕ) (k : ℕ) → k ≤ length out → length (take (k - 0) out) ≡ k
@@ -90,31 +91,31 @@ pub put_served : (len m at n : ℕ) (r : Bool) → r ≡ put_serves len m at n �
 put_served len m at n r e h = served len m at n (sym e ∙ not-false r h)
 
 module _ (file : List ℕ) (m at n : ℕ) (out : List ℕ) (r : Bool) (e : r ≡ put_serves (length file) m at n) where
-  abbrev said : Verdict
+  abbrev said : Result (Unit {0}) Refusal
   said = put_verdict (length file) m at n (length out)
 
-  kept : (v : Verdict) → said ≡ v → put_as v (rows_from file m at n) out ≡ out → (v ≡ said) × (out ≡ put_rows file m at n out)
+  kept : (v : Result (Unit {0}) Refusal) → said ≡ v → put_as v (rows_from file m at n) out ≡ out → (v ≡ said) × (out ≡ put_rows file m at n out)
   unfolding put_rows
-  kept v s k = (sym s, sym (ap (λ (x : Verdict). put_as x (rows_from file m at n) out) s ∙ k))
+  kept v s k = (sym s, sym (ap (λ (x : Result (Unit {0}) Refusal). put_as x (rows_from file m at n) out) s ∙ k))
 
-  pub put_refused : not r ≡ true → (Refused Field ≡ said) × (out ≡ put_rows file m at n out)
+  pub put_refused : not r ≡ true → (Err Field ≡ said) × (out ≡ put_rows file m at n out)
   unfolding put_verdict
-  put_refused h = kept (Refused Field) (rw (sym e ∙ not-true r h) refl) refl
+  put_refused h = kept (Err Field) (rw (sym e ∙ not-true r h) refl) refl
 
   module _ (h : not r ≡ false) where
     serves : put_serves (length file) m at n ≡ true
     serves = sym e ∙ not-false r h
 
-    pub put-short : length out < n * 255 → (Refused Output ≡ said) × (out ≡ put_rows file m at n out)
+    pub put-short : length out < n * 255 → (Err Output ≡ said) × (out ≡ put_rows file m at n out)
     unfolding put_verdict
-    put-short l = kept (Refused Output) (rw (serves, lt-ltb (length out) (n * 255) l) refl) refl
+    put-short l = kept (Err Output) (rw (serves, lt-ltb (length out) (n * 255) l) refl) refl
 
     -- in the part of the output that is lent
-    pub put_written : (next : List ℕ) → n * 255 ≤ length out → next ≡ rows_from file m at n → (Accepted ≡ said) × (put_mid 0 (n * 255 - 0) out next ≡ put_rows file m at n out)
+    pub put_written : (next : List ℕ) → n * 255 ≤ length out → next ≡ rows_from file m at n → ((Ok tt) ≡ said) × (put_mid 0 (n * 255 - 0) out next ≡ put_rows file m at n out)
     unfolding put_rows
     put_written next l g =
-        let a : said ≡ Accepted = put_accepted (length file) m at n (length out) serves l in
+        let a : said ≡ (Ok tt) = put_accepted (length file) m at n (length out) serves l in
         let e : n * 255 - 0 ≡ length (rows_from file m at n) = omega (arith, length-rows file m at n) in (
           sym a,
-          ap₂ (λ (b : List ℕ) (k : ℕ). b ++ drop k out) g e ∙ ap (λ (v : Verdict). put_as v (rows_from file m at n) out) (sym a),
+          ap₂ (λ (b : List ℕ) (k : ℕ). b ++ drop k out) g e ∙ ap (λ (v : Result (Unit {0}) Refusal). put_as v (rows_from file m at n) out) (sym a),
         )

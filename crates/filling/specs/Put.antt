@@ -3,10 +3,11 @@
 use Rattle.std.specs.Prelude.{Bool, cond, ◌&&◌, ℕ, ◌+◌, ◌*◌, leb, ltb, length, get_or, drop}
 use mathlib.Core.List.{List, ◌++◌, flatten}
 use Rattle.ground.specs.Lists.{listed}
-use Rattle.refusals.specs.declared.Verdict.{Verdict}
-use Rattle.refusals.specs.declared.Verdict.TheVariants.{Accepted, Refused}
 use Rattle.refusals.specs.declared.Refusal.TheVariants.{Field, Output}
 use Rattle.encoding.specs.Encode.{coded_row}
+use Rattle.refusals.specs.declared.Refusal.{Refusal}
+use Rattle.std.specs.Prelude.{Result}
+use Rattle.std.specs.Prelude.{Ok, Err}
 
 -- the 239 information bytes of the row that starts at byte i of the file: 0 beyond the file
 unfoldable pub info_from : List ℕ → ℕ → ℕ → List ℕ
@@ -21,13 +22,13 @@ unfoldable pub put_serves : ℕ → ℕ → ℕ → ℕ → Bool
 put_serves len m at n = ltb 0 m && leb m 255 && leb n 15 && leb at 16777216 && leb len 16777216
 
 -- refusal 17 where it does not serve, 26 where the output has no room
-unfoldable pub put_verdict : ℕ → ℕ → ℕ → ℕ → ℕ → Verdict
-put_verdict len m at n room = cond (put_serves len m at n) (cond (ltb room (n * 255)) (Refused Output) Accepted) (Refused Field)
+unfoldable pub put_verdict : ℕ → ℕ → ℕ → ℕ → ℕ → Result (Unit {0}) Refusal
+put_verdict len m at n room = cond (put_serves len m at n) (cond (ltb room (n * 255)) (Err Output) (Ok tt)) (Err Field)
 
 -- the rows at the start of the output; beside a refusal it is unchanged
-abbrev pub put_as : Verdict → List ℕ → List ℕ → List ℕ
-put_as Accepted b out = b ++ drop (length b) out
-put_as (Refused r) b out = out
+abbrev pub put_as : Result (Unit {0}) Refusal → List ℕ → List ℕ → List ℕ
+put_as (Ok tt) b out = b ++ drop (length b) out
+put_as (Err r) b out = out
 
 unfoldable pub put_rows : List ℕ → ℕ → ℕ → ℕ → List ℕ → List ℕ
 put_rows file m at n out = put_as (put_verdict (length file) m at n (length out)) (rows_from file m at n) out

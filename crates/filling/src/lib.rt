@@ -6,7 +6,7 @@ ghost use Rattle.std.proofs.lemmas.List.Edits.{sets};
 ghost use Rattle.filling.specs.InnerColumn.{column};
 ghost use Rattle.filling.specs.Put.{info_from, rows_from, put_serves, put_verdict, put_rows};
 
-use refusals::{Refusal, Verdict};
+use refusals::Refusal;
 
 // Whether `put_rows` serves, given room.
 fn serves(len: usize, m: usize, at: usize, n: usize) -> bool
@@ -88,15 +88,15 @@ fn fill(file: &[u8], m: usize, at: usize, n: usize, rows: &mut [u8])
 // Writes n coded rows of a table of m rows to the start of `out`: the first has its information from byte `at` of the file on, m bytes apart, the next from the
 // byte behind that. Beyond the file there are zeros. Refused, and nothing written: 17 where m is not 1 to 255, n is above 15, or the file or `at` is above
 // 16,777,216; 26 where `out` has no room for the rows.
-pub fn put_rows(file: &[u8], m: usize, at: usize, n: usize, out: &mut [u8]) -> Verdict
+pub fn put_rows(file: &[u8], m: usize, at: usize, n: usize, out: &mut [u8]) -> Result<(), Refusal>
     ensures { (result ≡ put_verdict (length file.now) m at n (length out.old)) × (out.new ≡ put_rows file.now m at n out.old) }
 {
     if !serves(file.len(), m, at, n) {
-        return Verdict::Refused(Refusal::Field);
+        return Err(Refusal::Field);
     }
     if out.len() < n * 255 {
-        return Verdict::Refused(Refusal::Output);
+        return Err(Refusal::Output);
     }
     fill(file, m, at, n, &mut out[0..n * 255]);
-    Verdict::Accepted
+    Ok(())
 }

@@ -13,14 +13,12 @@ use Rattle.ground.proofs.Truth.{and_both}
 use Rattle.settings.proofs.Laws.{by_one}
 use Rattle.refusals.specs.declared.Refusal.{Refusal}
 use Rattle.refusals.specs.declared.Refusal.TheVariants.{Unknown, Slot, Missing, Shape, Size, Output}
-use Rattle.refusals.specs.declared.Verdict.TheVariants.{Accepted, Refused}
 use Rattle.layout.specs.Layout.{tables_of, read_back, undone}
 use Rattle.layout.specs.Spread.{scattered}
 use Rattle.layout.proofs.Coded.{tables_reach}
 use Rattle.layout.proofs.Scatter.{scattered-all}
 use Rattle.places.specs.declared.Place.{Place}
 use Rattle.places.specs.declared.Record.{Record}
-use Rattle.places.specs.declared.Found.TheVariants.{At, Nothing}
 use Rattle.places.specs.Places.{Name, unused, end_of, good, place_named}
 use Rattle.places.proofs.Facts.{PlaceFacts, named_facts}
 use Rattle.contents.specs.Contents.{Slot as Content, contents, any_wrong, lowest_empty, joined}
@@ -32,11 +30,13 @@ use Rattle.columns.proofs.HandLaws.{Comes, comes, comes_from}
 use Rattle.handing.specs.Hand.{hand_rows, hand_joined, hand_contents, usable_in, hand_place_of, hand_found, hand_out_of}
 use Rattle.handing.specs.Passes.{info_at, info_in, Padding, Usable}
 use Rattle.handing.proofs.PaddingLaws.{padding_told}
+use Rattle.std.specs.Prelude.{Ok, Err}
+use Rattle.std.specs.Prelude.{Some, None}
 
 -- ---- without protection
 
 module _ (p : Place) (sent : List ℕ) (n : ℕ) (out : List ℕ) (z : p.protection ≡ 0) where
-  pub plain_size : (n ≡ length sent → ⊥) → Comes (hand_joined p sent n out) (Refused Size) out
+  pub plain_size : (n ≡ length sent → ⊥) → Comes (hand_joined p sent n out) (Err Size) out
   unfolding hand_joined
   plain_size d = comes (refusing Size out) (rw (eq-eqb p.protection 0 z, ne_eqb n (length sent) d))
 
@@ -45,10 +45,10 @@ module _ (p : Place) (sent : List ℕ) (n : ℕ) (out : List ℕ) (z : p.protect
     unfolding hand_joined
     plain-right = rw (eq-eqb p.protection 0 z, eq-eqb n (length sent) e)
 
-    pub plain-output : (b : ℕ) → b ≡ length sent → length out < b → Comes (hand_joined p sent n out) (Refused Output) out
+    pub plain-output : (b : ℕ) → b ≡ length sent → length out < b → Comes (hand_joined p sent n out) (Err Output) out
     plain-output b d h = comes (refusing Output out) (plain-right ∙ handed-short sent out (omega arith))
 
-    pub plain-file : (b : ℕ) → b ≡ length sent → b ≤ length out → (z : List ℕ) → z ≡ sent ++ drop (length sent) out → Comes (hand_joined p sent n out) Accepted z
+    pub plain-file : (b : ℕ) → b ≡ length sent → b ≤ length out → (z : List ℕ) → z ≡ sent ++ drop (length sent) out → Comes (hand_joined p sent n out) (Ok tt) z
     plain-file b d h z f = comes_from (plain-right ∙ handed-whole sent out (omega arith)) (refl, f)
 
 -- ---- with protection
@@ -61,7 +61,7 @@ module _ (m : ℕ) (sent : List ℕ) (n : ℕ) (out : List ℕ) (rows : ℕ) (k 
   as_rows : eqb (length sent / 255 % m) 0 ≡ eqb (rows % m) 0
   as_rows = ap (λ (x : ℕ). eqb (x % m) 0) (sym k)
 
-  pub rows_shape : (rows % m ≡ 0 → ⊥) → Comes (hand_rows m sent n out) (Refused Shape) out
+  pub rows_shape : (rows % m ≡ 0 → ⊥) → Comes (hand_rows m sent n out) (Err Shape) out
   unfolding hand_rows
   rows_shape d = comes (refusing Shape out) (rw (as_rows, ne_eqb (rows % m) 0 d))
 
@@ -69,7 +69,7 @@ module _ (m : ℕ) (sent : List ℕ) (n : ℕ) (out : List ℕ) (rows : ℕ) (k 
     as_tables : length sent / (255 * m) ≡ rows / m
     as_tables = sym (div-div-eq-div-mul (length sent) 255 m) ∙ ap (λ (x : ℕ). x / m) (sym k)
 
-    pub rows-size : eqb (tables_of m n) (rows / m) ≡ false → Comes (hand_rows m sent n out) (Refused Size) out
+    pub rows-size : eqb (tables_of m n) (rows / m) ≡ false → Comes (hand_rows m sent n out) (Err Size) out
     unfolding hand_rows
     rows-size b = comes (refusing Size out) (rw (as_rows, eq-eqb (rows % m) 0 a, as_tables, b))
 
@@ -84,7 +84,7 @@ module _ (m : ℕ) (sent : List ℕ) (n : ℕ) (out : List ℕ) (rows : ℕ) (k 
       beyond : (r : Bool) → Padding m n sent 0 (length sent / 255) 0 r → r ≡ all_zero (undone 0 m sent (239 * m * tables_of m n - n) n)
       beyond r g = padding_told m h sent n (tables_of m n) r (rw all-rows at g)
 
-      pub rows_padding : (r : Bool) → r ≡ false → Padding m n sent 0 (length sent / 255) 0 r → Comes (hand_rows m sent n out) (Refused Refusal.Padding) out
+      pub rows_padding : (r : Bool) → r ≡ false → Padding m n sent 0 (length sent / 255) 0 r → Comes (hand_rows m sent n out) (Err Refusal.Padding) out
       unfolding hand_rows hand_tables
       rows_padding r e g =
           let d : all_zero (undone 0 m sent (239 * m * tables_of m n - n) n) ≡ false = sym (beyond r g) ∙ e in
@@ -100,10 +100,10 @@ module _ (m : ℕ) (sent : List ℕ) (n : ℕ) (out : List ℕ) (rows : ℕ) (k 
         size : length (undone 0 m sent n 0) ≡ n
         size = length-listed (read_back 0 m sent) n 0
 
-        pub rows-output : length out < n → Comes (hand_rows m sent n out) (Refused Output) out
+        pub rows-output : length out < n → Comes (hand_rows m sent n out) (Err Output) out
         rows-output l = comes (refusing Output out) (rows_right ∙ handed-short (undone 0 m sent n 0) out (omega (arith, size)))
 
-        pub rows-file : n ≤ length out → (z : List ℕ) → z ≡ scattered m n (info_in sent) (length sent / 255) out → Comes (hand_rows m sent n out) Accepted z
+        pub rows-file : n ≤ length out → (z : List ℕ) → z ≡ scattered m n (info_in sent) (length sent / 255) out → Comes (hand_rows m sent n out) (Ok tt) z
         unfolding info_at
         rows-file l z f =
             comes_from (rows_right ∙ handed-whole (undone 0 m sent n 0) out (omega (arith, size))) (
@@ -115,7 +115,7 @@ module _ (m : ℕ) (sent : List ℕ) (n : ℕ) (out : List ℕ) (rows : ℕ) (k 
 -- ---- by the contents of the slots
 
 module _ (p : Place) (c : List Content) (n : ℕ) (out : List ℕ) where
-  pub contents-slot : any_wrong c ≡ true → Comes (hand_contents p c n out) (Refused Slot) out
+  pub contents-slot : any_wrong c ≡ true → Comes (hand_contents p c n out) (Err Slot) out
   unfolding hand_contents
   contents-slot w = comes (refusing Slot out) (rw w)
 
@@ -124,11 +124,11 @@ module _ (p : Place) (c : List Content) (n : ℕ) (out : List ℕ) where
     by_rows : eqb p.order 1 ≡ false
     by_rows = ne_eqb p.order 1 (λ z. omega arith)
 
-    pub contents_missing : (i : ℕ) → lowest_empty c 0 ≡ At i → Comes (hand_contents p c n out) (Refused (Missing i)) out
+    pub contents_missing : (i : ℕ) → lowest_empty c 0 ≡ Some i → Comes (hand_contents p c n out) (Err (Missing i)) out
     unfolding hand_contents
     contents_missing i e = comes (refusing (Missing i) out) (rw (w, by_rows, e))
 
-    pub contents-full : lowest_empty c 0 ≡ Nothing → hand_contents p c n out ≡ hand_joined p (joined c) n out
+    pub contents-full : lowest_empty c 0 ≡ None → hand_contents p c n out ≡ hand_joined p (joined c) n out
     unfolding hand_contents
     contents-full e = rw (w, by_rows, e)
 
@@ -171,7 +171,7 @@ module _ (p : Place) (s : List ℕ) where
     unfolding hand_place_of
     place_columns o = rw (eq-eqb p.order 1 o)
 
-    pub place-refused : (p.order ≡ 1 → ⊥) → usable_in p (length s) ≡ false → Comes (hand_place_of p s n out) (Refused Refusal.Record) out
+    pub place-refused : (p.order ≡ 1 → ⊥) → usable_in p (length s) ≡ false → Comes (hand_place_of p s n out) (Err Refusal.Record) out
     unfolding hand_place_of
     place-refused o e = comes (refusing Refusal.Record out) (rw (ne_eqb p.order 1 o, e))
 
@@ -198,7 +198,7 @@ tabled-hands p s n out t o = rw (t, eq-eqb p.order 1 o)
 -- ---- by the record
 
 module _ (h : Record) (s : List ℕ) (x : Name) where
-  pub out-record : (n : ℕ) (out : List ℕ) → good (length s) h.places ≡ false → Comes (hand_out_of h s x n out) (Refused Refusal.Record) out
+  pub out-record : (n : ℕ) (out : List ℕ) → good (length s) h.places ≡ false → Comes (hand_out_of h s x n out) (Err Refusal.Record) out
   unfolding hand_out_of
   out-record n out b = comes (refusing Refusal.Record out) (rw b)
 
@@ -208,15 +208,15 @@ module _ (h : Record) (s : List ℕ) (x : Name) where
       unfolding hand_out_of
       out-good = rw b
 
-      pub out_unknown : place_named h.places x ≡ Nothing → Comes (hand_out_of h s x n out) (Refused Unknown) out
+      pub out_unknown : place_named h.places x ≡ None → Comes (hand_out_of h s x n out) (Err Unknown) out
       out_unknown a = comes (refusing Unknown out) (out-good ∙ ap (hand_found h s n out) a)
 
-      pub out-found : (i : ℕ) → place_named h.places x ≡ At i
+      pub out-found : (i : ℕ) → place_named h.places x ≡ Some i
           → hand_out_of h s x n out ≡ hand_contents (get_or h.places i unused) (contents (get_or h.places i unused) s) n out
       out-found i a = out-good ∙ ap (hand_found h s n out) a
 
     -- the place that was found is one that is handed out
-    pub out-placed : (i : ℕ) → place_named h.places x ≡ At i → (n : ℕ) (out : List ℕ) → hand_out_of h s x n out ≡ hand_place_of (get_or h.places i unused) s n out
+    pub out-placed : (i : ℕ) → place_named h.places x ≡ Some i → (n : ℕ) (out : List ℕ) → hand_out_of h s x n out ≡ hand_place_of (get_or h.places i unused) s n out
     out-placed i a n out = out-found n out i a ∙ by (eqb p.order 1) refl
       where
         p : Place

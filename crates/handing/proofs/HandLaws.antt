@@ -12,13 +12,10 @@ use lib.ListN.{length, get_or, take, drop}
 use Rattle.ground.specs.Lists.{listed}
 use Rattle.refusals.specs.declared.Refusal.{Refusal}
 use Rattle.refusals.specs.declared.Refusal.TheVariants.{Unknown, Slot, Missing, Shape, Size}
-use Rattle.refusals.specs.declared.Verdict.TheVariants.{Refused}
 use Rattle.layout.specs.Layout.{tables_of, coded_file}
 use Rattle.layout.proofs.Coded.{length-coded}
 use Rattle.places.specs.declared.Place.{Place}
 use Rattle.places.specs.declared.Record.{Record}
-use Rattle.places.specs.declared.Found.{Found}
-use Rattle.places.specs.declared.Found.TheVariants.{At, Nothing}
 use Rattle.places.specs.Places.{Name, unused, good, place_named}
 use Rattle.contents.specs.Contents.{Slot as Content, wrong, holding, contents, any_wrong, filled, lowest_empty, joined}
 use Rattle.contents.proofs.Filled.{holding-right, holding-all, holding-filled, holding-lowest, joined-whole}
@@ -27,6 +24,9 @@ use Rattle.columns.proofs.Handed.{accepted, handed-whole, tables_coded}
 use Rattle.columns.proofs.Leaving.{Leaves, leaves_or, leaves-refusing, leaves-handed, leaves_tables, leaves_columns}
 use Rattle.handing.specs.Hand.{hand_rows, hand_joined, hand_filled, hand_contents, hand_found, hand_out_of}
 use Rattle.handing.proofs.HandCases.{joined-rows, contents-full, plain-right}
+use Rattle.std.specs.Prelude.{Option}
+use Rattle.std.specs.Prelude.{Err}
+use Rattle.std.specs.Prelude.{Some, None}
 
 -- ---- slots that all hold a payload, f k in slot k
 
@@ -44,7 +44,7 @@ module _ (c : List Content) (f : ℕ → List ℕ) (h : Carried c f) where
   pub carried_filled : filled c ≡ length c
   carried_filled = ap filled slots_are ∙ holding-filled f (length c) 0 (λ k a b. h.some k (omega arith))
 
-  pub carried_full : lowest_empty c 0 ≡ Nothing
+  pub carried_full : lowest_empty c 0 ≡ None
   carried_full = ap (λ (x : List Content). lowest_empty x 0) slots_are ∙ holding-lowest f (length c) 0 (λ k a b. h.some k (omega arith))
 
   -- the payloads are the parts of p bytes of what is sent
@@ -98,9 +98,9 @@ module _ (out : List ℕ) where
       leaves_or out (eqb p.protection 0) _ _
       (leaves_or out (not (eqb n (length sent))) _ _ (leaves-refusing out Size) (leaves-handed out sent)) (leaves-rows p.rows sent n)
 
-  leaves-filled : (p : Place) (c : List Content) (n : ℕ) (e : Found) → Leaves out (hand_filled p c n out e)
-  leaves-filled p c n (At i) = leaves-refusing out (Missing i)
-  leaves-filled p c n Nothing = leaves-joined p (joined c) n
+  leaves-filled : (p : Place) (c : List Content) (n : ℕ) (e : Option ℕ) → Leaves out (hand_filled p c n out e)
+  leaves-filled p c n (Some i) = leaves-refusing out (Missing i)
+  leaves-filled p c n None = leaves-joined p (joined c) n
 
   leaves-contents : (p : Place) (c : List Content) (n : ℕ) → Leaves out (hand_contents p c n out)
   unfolding hand_contents
@@ -108,11 +108,11 @@ module _ (out : List ℕ) where
       leaves_or out (any_wrong c) _ _ (leaves-refusing out Slot)
       (leaves_or out (eqb p.order 1) _ _ (leaves_columns out p c n) (leaves-filled p c n (lowest_empty c 0)))
 
-  leaves-found : (h : Record) (s : List ℕ) (n : ℕ) (e : Found) → Leaves out (hand_found h s n out e)
-  leaves-found h s n (At i) = leaves-contents (get_or h.places i unused) (contents (get_or h.places i unused) s) n
-  leaves-found h s n Nothing = leaves-refusing out Unknown
+  leaves-found : (h : Record) (s : List ℕ) (n : ℕ) (e : Option ℕ) → Leaves out (hand_found h s n out e)
+  leaves-found h s n (Some i) = leaves-contents (get_or h.places i unused) (contents (get_or h.places i unused) s) n
+  leaves-found h s n None = leaves-refusing out Unknown
 
-  pub hand_refused : (h : Record) (s : List ℕ) (x : Name) (n : ℕ) (r : Refusal) → (hand_out_of h s x n out).answer ≡ Refused r → (hand_out_of h s x n out).output ≡ out
+  pub hand_refused : (h : Record) (s : List ℕ) (x : Name) (n : ℕ) (r : Refusal) → (hand_out_of h s x n out).answer ≡ Err r → (hand_out_of h s x n out).output ≡ out
   unfolding hand_out_of
   hand_refused h s x n =
       leaves_or out (good (length s) h.places) _ _ (leaves-found h s n (place_named h.places x)) (leaves-refusing out Refusal.Record)
@@ -120,12 +120,12 @@ module _ (out : List ℕ) where
 -- ---- two stores of one length, with the same contents at the place
 
 module _ (h : Record) (s t : List ℕ) (x : Name) (l : length s ≡ length t)
-    (same : (i : ℕ) → place_named h.places x ≡ At i → contents (get_or h.places i unused) s ≡ contents (get_or h.places i unused) t) where
+    (same : (i : ℕ) → place_named h.places x ≡ Some i → contents (get_or h.places i unused) s ≡ contents (get_or h.places i unused) t) where
   pub hand_same : (n : ℕ) (out : List ℕ) → hand_out_of h s x n out ≡ hand_out_of h t x n out
   unfolding hand_out_of
   hand_same n out =
       ap₂ (λ (x : ℕ) (y : Handing). cond (good x h.places) y (refusing Refusal.Record out)) l (by (place_named h.places x) same)
     where
-      by : (e : Found) → ((i : ℕ) → e ≡ At i → contents (get_or h.places i unused) s ≡ contents (get_or h.places i unused) t) → hand_found h s n out e ≡ hand_found h t n out e
-      by (At i) f = ap (λ (x : List Content). hand_contents (get_or h.places i unused) x n out) (f i refl)
-      by Nothing f = refl
+      by : (e : Option ℕ) → ((i : ℕ) → e ≡ Some i → contents (get_or h.places i unused) s ≡ contents (get_or h.places i unused) t) → hand_found h s n out e ≡ hand_found h t n out e
+      by (Some i) f = ap (λ (x : List Content). hand_contents (get_or h.places i unused) x n out) (f i refl)
+      by None f = refl

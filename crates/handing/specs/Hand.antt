@@ -7,12 +7,12 @@ use Rattle.refusals.specs.declared.Refusal.TheVariants.{Unknown, Slot, Missing, 
 use Rattle.layout.specs.Layout.{tables_of}
 use Rattle.places.specs.declared.Place.{Place}
 use Rattle.places.specs.declared.Record.{Record}
-use Rattle.places.specs.declared.Found.{Found}
-use Rattle.places.specs.declared.Found.TheVariants.{At, Nothing}
 use Rattle.places.specs.Places.{Name, unused, end_of, good, place_named}
 use Rattle.contents.specs.Contents.{Slot as Content, contents, any_wrong, lowest_empty, joined}
 use Rattle.columns.specs.Handing.{Handing, refusing, handed, hand_tables}
 use Rattle.columns.specs.Columns.{hand_columns, hand_columns_of}
+use Rattle.std.specs.Prelude.{Option}
+use Rattle.std.specs.Prelude.{Some, None}
 
 -- L bytes of joined rows, m to a table: refusal 22 where they are not whole tables, 23 where L needs another number of tables, 24 where a position beyond L is not 0
 unfoldable pub hand_rows : ℕ → List ℕ → ℕ → List ℕ → Handing
@@ -25,9 +25,9 @@ unfoldable pub hand_joined : Place → List ℕ → ℕ → List ℕ → Handing
 hand_joined p sent n out =
     cond (eqb p.protection 0) (cond (not (eqb n (length sent))) (refusing Size out) (handed sent out)) (hand_rows p.rows sent n out)
 
-abbrev pub hand_filled : Place → List Content → ℕ → List ℕ → Found → Handing
-hand_filled p c n out (At i) = refusing (Missing i) out
-hand_filled p c n out Nothing = hand_joined p (joined c) n out
+abbrev pub hand_filled : Place → List Content → ℕ → List ℕ → Option ℕ → Handing
+hand_filled p c n out (Some i) = refusing (Missing i) out
+hand_filled p c n out None = hand_joined p (joined c) n out
 
 -- in column order the losses are restored (document 02, R-8)
 unfoldable pub hand_contents : Place → List Content → ℕ → List ℕ → Handing
@@ -43,9 +43,9 @@ unfoldable pub hand_place_of : Place → List ℕ → ℕ → List ℕ → Handi
 hand_place_of p s n out =
     cond (eqb p.order 1) (hand_columns_of p s n out) (cond (usable_in p (length s)) (hand_contents p (contents p s) n out) (refusing Refusal.Record out))
 
-abbrev pub hand_found : Record → List ℕ → ℕ → List ℕ → Found → Handing
-hand_found h s n out (At i) = hand_contents (get_or h.places i unused) (contents (get_or h.places i unused) s) n out
-hand_found h s n out Nothing = refusing Unknown out
+abbrev pub hand_found : Record → List ℕ → ℕ → List ℕ → Option ℕ → Handing
+hand_found h s n out (Some i) = hand_contents (get_or h.places i unused) (contents (get_or h.places i unused) s) n out
+hand_found h s n out None = refusing Unknown out
 
 unfoldable pub hand_out_of : Record → List ℕ → Name → ℕ → List ℕ → Handing
 hand_out_of h s x n out =

@@ -7,7 +7,7 @@ ghost use Rattle.handing.specs.Passes.{Usable, Filled, Rowed, sent_in, info_in, 
 
 use crate::tables;
 use places::Place;
-use refusals::{Refusal, Verdict};
+use refusals::Refusal;
 
 // Writes the payloads of a place one behind the other.
 fn write_plain(p: Place, store: &[u8], out: &mut [u8])
@@ -71,7 +71,7 @@ fn padding_ends(p: Place, store: &[u8], n: usize) -> bool
 }
 
 // With protection the tables are undone.
-fn hand_rows(p: Place, store: &[u8], bytes: usize, n: usize, out: &mut [u8]) -> Verdict
+fn hand_rows(p: Place, store: &[u8], bytes: usize, n: usize, out: &mut [u8]) -> Result<(), Refusal>
     requires { Rowed p store.now × (bytes ≡ length (sent_in p store.now)) }
     ensures { (result ≡ (hand_rows p.rows (sent_in p store.now) n out.old).answer)
         × (out.new ≡ (hand_rows p.rows (sent_in p store.now) n out.old).output) }
@@ -79,33 +79,33 @@ fn hand_rows(p: Place, store: &[u8], bytes: usize, n: usize, out: &mut [u8]) -> 
     let m = p.rows as usize;
     let rows = bytes / 255;
     if rows % m != 0 {
-        return Verdict::Refused(Refusal::Shape);
+        return Err(Refusal::Shape);
     }
     if !tables::needs_tables(n, m, rows / m) {
-        return Verdict::Refused(Refusal::Size);
+        return Err(Refusal::Size);
     }
     if !padding_ends(p, store, n) {
-        return Verdict::Refused(Refusal::Padding);
+        return Err(Refusal::Padding);
     }
     if out.len() < n {
-        return Verdict::Refused(Refusal::Output);
+        return Err(Refusal::Output);
     }
     write_rows(p, store, n, out);
-    Verdict::Accepted
+    Ok(())
 }
 
 // The first `n` bytes of the file that a place holds. Without protection the joined payloads are the file.
-pub(crate) fn hand_usable(p: Place, store: &[u8], n: usize, out: &mut [u8]) -> Verdict
+pub(crate) fn hand_usable(p: Place, store: &[u8], n: usize, out: &mut [u8]) -> Result<(), Refusal>
     requires { Usable p store.now }
     ensures { (result ≡ (hand_contents p (contents p store.now) n out.old).answer)
         × (out.new ≡ (hand_contents p (contents p store.now) n out.old).output) }
 {
     let seen = standing::survey(p, store);
     if !seen.sound {
-        return Verdict::Refused(Refusal::Slot);
+        return Err(Refusal::Slot);
     }
     if seen.empty != p.count {
-        return Verdict::Refused(Refusal::Missing(seen.empty));
+        return Err(Refusal::Missing(seen.empty));
     }
     let bytes = seen.bytes;
     if p.protection != 0 {
@@ -113,11 +113,11 @@ pub(crate) fn hand_usable(p: Place, store: &[u8], n: usize, out: &mut [u8]) -> V
     }
     let differs = n != bytes;
     if differs {
-        return Verdict::Refused(Refusal::Size);
+        return Err(Refusal::Size);
     }
     if out.len() < bytes {
-        return Verdict::Refused(Refusal::Output);
+        return Err(Refusal::Output);
     }
     write_plain(p, store, out);
-    Verdict::Accepted
+    Ok(())
 }

@@ -6,14 +6,14 @@ ghost use Rattle.std.specs.Prelude.{◌≡◌, length};
 ghost use Rattle.handing.specs.Hand.{usable_in, hand_place_of};
 
 use places::Place;
-use refusals::{Refusal, Verdict};
+use refusals::Refusal;
 
 mod hand;
 mod tables;
 
 // Writes the file of `n` bytes that a place holds to the start of the output, whose other bytes stay. Refused: 9 where no record has such a place over this
 // store, 15, 21, 22, 23, 24, 26, and in column order 15, 23, 22, 31, 32, 24, 26; then nothing is written.
-pub fn hand_place(p: Place, store: &[u8], n: usize, out: &mut [u8]) -> Verdict
+pub fn hand_place(p: Place, store: &[u8], n: usize, out: &mut [u8]) -> Result<(), Refusal>
     ensures { (result ≡ (hand_place_of p store.now n out.old).answer)
         × (out.new ≡ (hand_place_of p store.now n out.old).output) }
 {
@@ -21,7 +21,7 @@ pub fn hand_place(p: Place, store: &[u8], n: usize, out: &mut [u8]) -> Verdict
         return restoring::hand_columns(p, store, n, out);
     }
     if !is_usable(p, store.len()) {
-        return Verdict::Refused(Refusal::Record);
+        return Err(Refusal::Record);
     }
     hand::hand_usable(p, store, n, out)
 }

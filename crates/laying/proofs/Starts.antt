@@ -13,7 +13,6 @@ use Rattle.ground.proofs.Sweep.{all, below}
 use Rattle.ground.proofs.Listed.{ceil-below, ceil-short}
 use Rattle.ground.proofs.Writing.{sets-all}
 use Rattle.ground.proofs.Pieces.{pieces_one}
-use Rattle.refusals.specs.declared.Verdict.TheVariants.{Accepted}
 use Rattle.encoding.specs.Encode.{coded_row}
 use Rattle.filling.specs.Put.{info_from, rows_from, put_verdict, put_rows}
 use Rattle.filling.proofs.Gathering.{length-rows}
@@ -21,6 +20,7 @@ use Rattle.filling.proofs.Serving.{by_length, put_accepted, put-done}
 use Rattle.layout.specs.Layout.{tables_of, info_of, row_of}
 use Rattle.layout.proofs.Coded.{info_from_lem}
 use Rattle.laying.specs.InnerLay.{Table}
+use Rattle.std.specs.Prelude.{Ok}
 
 -- all bytes of the tables: about two for each byte of the file
 pub tables_few : (m len : ℕ) → 0 < m → 255 * m * tables_of m len ≤ 2 * (len + 239 * m)
@@ -67,7 +67,7 @@ module _ (file : List ℕ) (m t : ℕ) (is : Table (length file) m t) where
     -- a row's buffer then holds the row
     pub row_put : (buffer : List ℕ) → length buffer ≡ 255 → put_rows file m (t * (239 * m) + r) 1 buffer ≡ row_of m file t r
     row_put buffer e =
-        let s : put_verdict (length file) m (t * (239 * m) + r) 1 (length buffer) ≡ Accepted =
+        let s : put_verdict (length file) m (t * (239 * m) + r) 1 (length buffer) ≡ (Ok tt) =
         put_accepted (length file) m (t * (239 * m) + r) 1 (length buffer)
         (sym
         (by_length (length file) m (t * (239 * m) + r) 1 (λ (z : m ≡ 0). let p : 0 < m = is.rows in omega arith) is.rows-most (omega arith) row_start_lem)

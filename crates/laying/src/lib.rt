@@ -8,7 +8,7 @@ ghost use Rattle.ground.specs.Lists.{listed};
 ghost use Rattle.laying.specs.InnerLay.{sent_byte, table_byte, Table, Part, Strewn};
 ghost use Rattle.laying.specs.Lay.{lay_serves, lay_verdict, lay_into};
 
-use refusals::{Refusal, Verdict};
+use refusals::Refusal;
 
 // Whether `put_columns` serves, given room.
 fn serves(len: usize, m: usize, from: usize, n: usize) -> bool
@@ -76,7 +76,7 @@ fn put_row(file: &[u8], m: usize, t: usize, p: usize, n: usize, out: &mut [u8], 
     let r = p % m;
     let c = p / m;
     let mut row = [0u8; 255];
-    filling::put_rows(file, m, t * (239 * m) + r, 1, &mut row);
+    let _ = filling::put_rows(file, m, t * (239 * m) + r, 1, &mut row);
     strew(&row, c, m, n, out, o);
 }
 
@@ -123,15 +123,15 @@ fn fill(file: &[u8], m: usize, from: usize, n: usize, out: &mut [u8])
 
 // Writes n bytes of the file's tables of m rows, sent column by column, from byte `from` on, to the start of `out`. Refused, and nothing written: 17 where m is not 1 to 255, the
 // file is above 16,777,216 bytes, n is above 4077, or the bytes lie beyond the file's tables; 26 where `out` has no room for them.
-pub fn put_columns(file: &[u8], m: usize, from: usize, n: usize, out: &mut [u8]) -> Verdict
+pub fn put_columns(file: &[u8], m: usize, from: usize, n: usize, out: &mut [u8]) -> Result<(), Refusal>
     ensures { (result ≡ lay_verdict (length file.now) m from n (length out.old)) × (out.new ≡ lay_into file.now m from n out.old) }
 {
     if !serves(file.len(), m, from, n) {
-        return Verdict::Refused(Refusal::Field);
+        return Err(Refusal::Field);
     }
     if out.len() < n {
-        return Verdict::Refused(Refusal::Output);
+        return Err(Refusal::Output);
     }
     fill(file, m, from, n, out);
-    Verdict::Accepted
+    Ok(())
 }

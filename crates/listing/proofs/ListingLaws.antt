@@ -18,9 +18,6 @@ use Rattle.refusals.specs.declared.Refusal.{Refusal}
 use Rattle.refusals.specs.declared.Refusal.TheVariants.{Field}
 use Rattle.refusals.specs.Told.{refused_as}
 use Rattle.attributes.specs.declared.Description.{Description}
-use Rattle.attributes.specs.declared.Composed.{Composed}
-use Rattle.attributes.specs.declared.Described.{Described}
-use Rattle.attributes.specs.declared.Described.TheVariants as described
 use Rattle.attributes.specs.Describe.{describe_of}
 use Rattle.attributes.specs.Compose.{compose_of}
 use Rattle.attributes.specs.Told.{description_list}
@@ -28,6 +25,9 @@ use Rattle.face.specs.Face.{Says, answer_of, puts, puts_if}
 use Rattle.face.proofs.SayLaws.{says_as, refused-puts}
 use Rattle.holding.proofs.LayoutLaws.{over_zeros}
 use Rattle.listing.specs.Listing.{description_from, described_says, describe_says, composed_answer, compose_says}
+use Rattle.std.specs.Prelude.{Result}
+use Rattle.std.specs.Prelude.{Err}
+use Rattle.std.specs.Prelude.{Ok}
 
 -- ---- numbers
 
@@ -88,13 +88,13 @@ numbers_back d = refl
 -- ---- what C is answered
 
 module _ (t out : List ℕ) (r : ℕ) where
-  pub describe_given : (x : List ℕ) (d : Description) → describe_of t ≡ described.«Attributes» d → Says (puts (description_list d) out) r x → Says (describe_says t out) r x
+  pub describe_given : (x : List ℕ) (d : Description) → describe_of t ≡ Ok d → Says (puts (description_list d) out) r x → Says (describe_says t out) r x
   unfolding describe_says puts_if
-  describe_given x d e s = says_as (ap (λ (y : Described). described_says y out) (sym e)) s
+  describe_given x d e s = says_as (ap (λ (y : Result Description Refusal). described_says y out) (sym e)) s
 
-  pub describe_refused : (z : Refusal) → describe_of t ≡ described.Refused z → r ≡ answer_of (refused_as z) → Says (describe_says t out) r out
+  pub describe_refused : (z : Refusal) → describe_of t ≡ Err z → r ≡ answer_of (refused_as z) → Says (describe_says t out) r out
   unfolding describe_says
-  describe_refused z e s = says_as (ap (λ (y : Described). described_says y out) (sym e)) (refused-puts z _ out r s)
+  describe_refused z e s = says_as (ap (λ (y : Result Description Refusal). described_says y out) (sym e)) (refused-puts z _ out r s)
 
 module _ (v t out : List ℕ) (r : ℕ) where
   by_count : (b : Bool) → eqb (length v) 30 ≡ b
@@ -107,7 +107,7 @@ module _ (v t out : List ℕ) (r : ℕ) where
   pub compose_field : (length v ≡ 30 → ⊥) → r ≡ answer_of (refused_as Field) → Says (compose_says v t out) r out
   compose_field h e = says_as (by_count _ (ne_eqb (length v) 30 h)) (record { answers = e; leaves = refl })
 
-  pub compose_says_lem : (d : Description) (a : Composed) (x : List ℕ) → length v ≡ 30 → d ≡ description_from v → a ≡ (compose_of t d out).answer → x ≡ (compose_of t d out).out
+  pub compose_says_lem : (d : Description) (a : Result ℕ Refusal) (x : List ℕ) → length v ≡ 30 → d ≡ description_from v → a ≡ (compose_of t d out).answer → x ≡ (compose_of t d out).out
       → r ≡ composed_answer a → Says (compose_says v t out) r x
   compose_says_lem d a x h e f g s =
       says_as (by_count _ (eq-eqb (length v) 30 h))

@@ -11,7 +11,6 @@ use lib.Seq.{sets}
 use Rattle.refusals.specs.declared.Refusal.TheVariants.{Line, Output, Field}
 use Rattle.refusals.specs.Told.{refused_as}
 use Rattle.attributes.specs.declared.Description.{Description}
-use Rattle.attributes.specs.declared.Composed.TheVariants.{Text, Refused}
 use Rattle.attributes.specs.Attributes.{attributes_of}
 use Rattle.attributes.specs.Rules.{rules, lowest}
 use Rattle.attributes.specs.Describe.{describe_of}
@@ -21,6 +20,7 @@ use Rattle.face.specs.Face.{answer_of}
 use Rattle.face.proofs.RefusedLaws.{SaidKept, put_if_kept, output-kept}
 use Rattle.listing.specs.Listing.{description_from, describe_says, composed_answer, compose_says}
 use Rattle.listing.specs.Statements.{DescriptionRefusalsChangeNothing}
+use Rattle.std.specs.Prelude.{Ok, Err}
 
 read_kept : (t out : List ℕ) → SaidKept (describe_says t out) out
 unfolding describe_says
@@ -33,9 +33,9 @@ compose_kept t d out = by (leb (lowest (rules t d)) 15) (ltb (length out) (lengt
   where
     outcome : Bool → Bool → Writing
     outcome b c =
-        cond b (record { answer = Refused (Line (lowest (rules t d))); out = out })
-        (cond c (record { answer = Refused Output; out = out })
-        (record { answer = Text (length (text_of (attributes_of t d))); out = sets out 0 (text_of (attributes_of t d)) }))
+        cond b (record { answer = Err (Line (lowest (rules t d))); out = out })
+        (cond c (record { answer = Err Output; out = out })
+        (record { answer = Ok (length (text_of (attributes_of t d))); out = sets out 0 (text_of (attributes_of t d)) }))
 
     by : (b c : Bool) → SaidKept (record { answer = composed_answer (outcome b c).answer; output = (outcome b c).out }) out
     by true c e = refl

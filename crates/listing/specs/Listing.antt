@@ -6,12 +6,12 @@ use Rattle.refusals.specs.Told.{refused_as}
 use Rattle.calendar.specs.declared.Time.{Time}
 use Rattle.attributes.specs.declared.Part.{Part}
 use Rattle.attributes.specs.declared.Description.{Description}
-use Rattle.attributes.specs.declared.Composed.{Composed}
-use Rattle.attributes.specs.declared.Described.{Described}
 use Rattle.attributes.specs.Describe.{describe_of}
 use Rattle.attributes.specs.Compose.{compose_of}
 use Rattle.attributes.specs.Told.{described_told, composed_told}
 use Rattle.face.specs.Face.{Said, answer_of, puts_if}
+use Rattle.refusals.specs.declared.Refusal.{Refusal}
+use Rattle.std.specs.Prelude.{Result}
 
 -- a text's beginning and length from number i on, and a time's six numbers
 abbrev pub part_from : List ℕ → ℕ → Part
@@ -48,14 +48,14 @@ description_from v = record {
 }
 
 -- reading: 29, 30, 26; the thirty numbers are put
-abbrev pub described_says : Described → List ℕ → Said
+abbrev pub described_says : Result Description Refusal → List ℕ → Said
 described_says x out = puts_if (described_told x) (described_told x).values out
 
 unfoldable pub describe_says : List ℕ → List ℕ → Said
 describe_says t out = described_says (describe_of t) out
 
 -- an answer's low 64 bits; only the length of a text of 2^56 bytes or more would not fit
-abbrev pub composed_answer : Composed → ℕ
+abbrev pub composed_answer : Result ℕ Refusal → ℕ
 composed_answer x = answer_of (composed_told x) % 18446744073709551616
 
 -- writing: 17 where there are not thirty numbers, 29, 26; the value is the length that was written

@@ -11,18 +11,18 @@ ghost use Rattle.code.specs.Mend.{mend_rows};
 ghost use Rattle.record.specs.Offer.{packet_name, differs, judge_mended, judge, offer_judged, offer_of};
 ghost use Rattle.record.specs.InnerOffer.{Comes, refusal_in, nowhere};
 
-use packet::{Packet, Reading};
-use places::{Found, Place, Record};
+use packet::Packet;
+use places::{Place, Record};
 use record::Offered;
-use refusals::{Refusal, Verdict};
+use refusals::Refusal;
 
 // The refusal that a reading is. Of one that is none this is never asked.
-fn refusal_in(reading: Reading) -> Refusal
+fn refusal_in(reading: Result<Packet, Refusal>) -> Refusal
     ensures { result ≡ refusal_in reading }
 {
     match reading {
-        Reading::Refused(refusal) => refusal,
-        Reading::Sent(_) => Refusal::Short,
+        Err(refusal) => refusal,
+        Ok(_) => Refusal::Short,
     }
 }
 
@@ -43,7 +43,7 @@ fn kind_in(packet: &[u8]) -> u8
 }
 
 // The fields of a packet as the place that it names has it read: in column order refusal 7 is passed over.
-fn read_at(p: Place, packet: &[u8]) -> Reading
+fn read_at(p: Place, packet: &[u8]) -> Result<Packet, Refusal>
     ensures { result ≡ read_by (not (eqb p.order 1)) packet.now }
 {
     if p.order == 1 {
@@ -57,7 +57,7 @@ fn offer_nowhere(packet: &[u8]) -> Offered
     ensures { result ≡ nowhere (read_of packet.now) }
 {
     let reading = fields::read_fields(packet);
-    let Reading::Sent(_) = reading else {
+    let Ok(_) = reading else {
         return Offered::Refused(refusal_in(reading));
     };
     Offered::Refused(Refusal::Unknown)
@@ -89,7 +89,7 @@ fn offer_rows(p: Place, store: &mut [u8], number: u32, packet: &[u8], payload: &
     slices::copy_in(&mut buffer, 0, payload);
     let counted = repair::mend(&mut buffer[..n]);
     let verdict = counted.verdict;
-    if let Verdict::Refused(refusal) = verdict {
+    if let Err(refusal) = verdict {
         return Offered::Refused(refusal);
     }
     let repaired = &buffer[..n];
@@ -143,12 +143,12 @@ pub fn offer(held: Record, store: &mut [u8], packet: &[u8]) -> Offered
     if packet.len() < Packet::HEADER + 1 + Packet::CRC {
         return Offered::Refused(Refusal::Short);
     }
-    let Found::At(i) = places::find_place(held, resource_in(packet), kind_in(packet)) else {
+    let Some(i) = places::find_place(held, resource_in(packet), kind_in(packet)) else {
         return offer_nowhere(packet);
     };
     let p = held.places[i];
     let reading = read_at(p, packet);
-    let Reading::Sent(fields) = reading else {
+    let Ok(fields) = reading else {
         return Offered::Refused(refusal_in(reading));
     };
     offer_at(p, store, fields, packet)

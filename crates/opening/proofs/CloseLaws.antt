@@ -8,20 +8,20 @@ use lib.ListN.{length, get_or, set}
 use lib.Seq.{get_or-set_same, get_or-set_other}
 use Rattle.refusals.specs.declared.Refusal.{Refusal}
 use Rattle.refusals.specs.declared.Refusal.TheVariants.{Unknown}
-use Rattle.refusals.specs.declared.Verdict.TheVariants.{Accepted, Refused}
 use Rattle.places.specs.declared.Place.{Place}
 use Rattle.places.specs.declared.Record.{Record}
-use Rattle.places.specs.declared.Found.{Found}
-use Rattle.places.specs.declared.Found.TheVariants.{At, Nothing}
 use Rattle.places.specs.Places.{Name, unused, good, place_named}
 use Rattle.places.proofs.Holders.{found-names, named-gone, named-left}
 use Rattle.places.proofs.Keeping.{good_unset}
 use Rattle.opening.specs.Open.{closed_at, close_of}
+use Rattle.std.specs.Prelude.{Option}
+use Rattle.std.specs.Prelude.{Ok, Err}
+use Rattle.std.specs.Prelude.{Some, None}
 
 -- ---- case by case, in the order 9, 10
 
 module _ (h : Record) (s : List ℕ) (x : Name) where
-  pub close-record : good (length s) h.places ≡ false → close_of h s x ≡ record { «record» = h; verdict = Refused Refusal.Record }
+  pub close-record : good (length s) h.places ≡ false → close_of h s x ≡ record { «record» = h; verdict = Err Refusal.Record }
   unfolding close_of
   close-record b = rw b
 
@@ -30,16 +30,16 @@ module _ (h : Record) (s : List ℕ) (x : Name) where
     unfolding close_of
     close-good = rw b
 
-    pub close_unknown : place_named h.places x ≡ Nothing → close_of h s x ≡ record { «record» = h; verdict = Refused Unknown }
+    pub close_unknown : place_named h.places x ≡ None → close_of h s x ≡ record { «record» = h; verdict = Err Unknown }
     close_unknown a = close-good ∙ ap (closed_at h) a
 
-    pub close-found : (i : ℕ) → place_named h.places x ≡ At i
-        → close_of h s x ≡ record { «record» = record { places = set h.places i unused }; verdict = Accepted }
+    pub close-found : (i : ℕ) → place_named h.places x ≡ Some i
+        → close_of h s x ≡ record { «record» = record { places = set h.places i unused }; verdict = (Ok tt) }
     close-found i a = close-good ∙ ap (closed_at h) a
 
 -- ---- an accepted close of place i
 
-module _ (ps : List Place) (x : Name) (i : ℕ) (a : place_named ps x ≡ At i) where
+module _ (ps : List Place) (x : Name) (i : ℕ) (a : place_named ps x ≡ Some i) where
   pub close-below : i < length ps
   close-below = (found-names ps x i a).0
 
@@ -55,7 +55,7 @@ module _ (ps : List Place) (x : Name) (i : ℕ) (a : place_named ps x ≡ At i) 
 
   module _ (n : ℕ) (b : good n ps ≡ true) where
     -- this one no more
-    pub close-named : place_named (set ps i unused) x ≡ Nothing
+    pub close-named : place_named (set ps i unused) x ≡ None
     close-named = named-gone ps n x i b a
 
     -- the record stays good
@@ -67,6 +67,6 @@ module _ (ps : List Place) (x : Name) (i : ℕ) (a : place_named ps x ≡ At i) 
 pub close_keeps_good : (h : Record) (s : List ℕ) (x : Name) → good (length s) h.places ≡ true → good (length s) (close_of h s x).«record».places ≡ true
 close_keeps_good h s x b = by (place_named h.places x) refl
   where
-    by : (f : Found) → place_named h.places x ≡ f → good (length s) (close_of h s x).«record».places ≡ true
-    by (At i) a = rw (close-found h s x b i a) (close_keeps h.places x i a (length s) b)
-    by Nothing a = rw (close_unknown h s x b a) b
+    by : (f : Option ℕ) → place_named h.places x ≡ f → good (length s) (close_of h s x).«record».places ≡ true
+    by (Some i) a = rw (close-found h s x b i a) (close_keeps h.places x i a (length s) b)
+    by None a = rw (close_unknown h s x b a) b

@@ -12,11 +12,9 @@ use lib.ListN.{length, get_or, set, replicate}
 use lib.Seq.{get_or-set_same, get_or-set_other}
 use Rattle.refusals.specs.declared.Refusal.{Refusal}
 use Rattle.refusals.specs.declared.Refusal.TheVariants.{Held, Full, Room}
-use Rattle.refusals.specs.declared.Verdict.TheVariants.{Accepted, Refused}
 use Rattle.settings.specs.declared.Settings.{Settings}
 use Rattle.settings.specs.Settings.{settings_fit}
 use Rattle.places.specs.declared.Record.{Record}
-use Rattle.places.specs.declared.Found.TheVariants.{At, Nothing}
 use Rattle.places.specs.Places.{Name, settings_name, unused, in_use, usable, cover_of, end_of, meets, place_of, good, place_named, first_unused}
 use Rattle.places.specs.Room.{free}
 use Rattle.places.proofs.Facts.{usable-limit, usable-within}
@@ -31,6 +29,8 @@ use Rattle.contents.proofs.Bytes.{length-cleared}
 use Rattle.contents.proofs.Places.{apart-meets, clearing_empties, clearing_leaves}
 use Rattle.opening.specs.Open.{Plan, refuse, take, plan_of, Opening, open_of}
 use Rattle.opening.proofs.PlanLaws.{Fitting, Taking, Reason, held, full, lacking, reason, taking, plan_room, open_by}
+use Rattle.std.specs.Prelude.{Ok, Err}
+use Rattle.std.specs.Prelude.{Some, None}
 
 -- settings that fit name a resource
 resource_used : (g : Settings) → settings_fit g ≡ true → g.resource ≡ 0 → ⊥
@@ -78,7 +78,7 @@ module _ (h : Record) (n : ℕ) (g : Settings) (count i start : ℕ) (t : Taking
   open_own = get_or-set_same h.places i (place_of g count start) unused open_below
 
   -- its name is found at the new place, and every other where it was
-  pub open_named : place_named (set h.places i (place_of g count start)) (settings_name g) ≡ At i
+  pub open_named : place_named (set h.places i (place_of g count start)) (settings_name g) ≡ Some i
   open_named =
       named_new h.places i (place_of g count start) (settings_name g) t.absent open_below
       (names-yes (place_of g count start) (settings_name g) (resource_used g t.fitting.fits) refl)
@@ -114,25 +114,25 @@ module _ (h : Record) (s : List ℕ) (g : Settings) (count : ℕ) where
   refused-store r e = ap (λ (o : Opening). o.store) (open_by h s g count (refuse r) e)
 
   -- what is answered tells the plan
-  pub refused_plan : (r : Refusal) → (open_of h s g count).kept.verdict ≡ Refused r → plan_of h (length s) g count ≡ refuse r
+  pub refused_plan : (r : Refusal) → (open_of h s g count).kept.verdict ≡ Err r → plan_of h (length s) g count ≡ refuse r
   refused_plan r e = by (plan_of h (length s) g count) refl
     where
       by : (p : Plan) → plan_of h (length s) g count ≡ p → p ≡ refuse r
       by (refuse q) d =
-          let v : Refused q ≡ Refused r = sym (ap (λ (o : Opening). o.kept.verdict) (open_by h s g count (refuse q) d)) ∙ e in
+          let v : Err q ≡ Err r = sym (ap (λ (o : Opening). o.kept.verdict) (open_by h s g count (refuse q) d)) ∙ e in
           let z : q ≡ r = cc in
           ap refuse z
       by (take i start) d =
-          let v : Accepted ≡ Refused r = sym (ap (λ (o : Opening). o.kept.verdict) (open_by h s g count (take i start) d)) ∙ e in
+          let v : (Ok tt) ≡ Err r = sym (ap (λ (o : Opening). o.kept.verdict) (open_by h s g count (take i start) d)) ∙ e in
           let z : ◌≡◌ {A = ℕ} 0 1 = cc in
           absurd (omega arith)
 
-  pub accepted_plan : (open_of h s g count).kept.verdict ≡ Accepted → (i : ℕ) × (start : ℕ) × Taking h (length s) g count i start
+  pub accepted_plan : (open_of h s g count).kept.verdict ≡ (Ok tt) → (i : ℕ) × (start : ℕ) × Taking h (length s) g count i start
   accepted_plan e = by (plan_of h (length s) g count) refl
     where
       by : (p : Plan) → plan_of h (length s) g count ≡ p → (i : ℕ) × (start : ℕ) × Taking h (length s) g count i start
       by (refuse q) d =
-          let v : Refused q ≡ Accepted = sym (ap (λ (o : Opening). o.kept.verdict) (open_by h s g count (refuse q) d)) ∙ e in
+          let v : Err q ≡ (Ok tt) = sym (ap (λ (o : Opening). o.kept.verdict) (open_by h s g count (refuse q) d)) ∙ e in
           let z : ◌≡◌ {A = ℕ} 0 1 = cc in
           absurd (omega arith)
       by (take i start) d = (i, start, taking h (length s) g count i start d)
@@ -160,10 +160,10 @@ module _ (h : Record) (s : List ℕ) (g : Settings) (count : ℕ) where
 
 module _ (h : Record) (n : ℕ) (g : Settings) (count : ℕ) where
   -- .. a place holds the resource and type
-  pub held-only : plan_of h n g count ≡ refuse Held → (j : ℕ) × (place_named h.places (settings_name g) ≡ At j)
+  pub held-only : plan_of h n g count ≡ refuse Held → (j : ℕ) × (place_named h.places (settings_name g) ≡ Some j)
   held-only e = by (rw e at (reason h n g count))
     where
-      by : Reason h n g count (refuse Held) → (j : ℕ) × (place_named h.places (settings_name g) ≡ At j)
+      by : Reason h n g count (refuse Held) → (j : ℕ) × (place_named h.places (settings_name g) ≡ Some j)
       by (held f j a) = (j, a)
 
   -- .. every place is in use
@@ -180,6 +180,6 @@ module _ (h : Record) (n : ℕ) (g : Settings) (count : ℕ) where
       by : Reason h n g count (refuse Room) → (x : ℕ) → free n (cover_of count g.size) h.places x ≡ false
       by (lacking f a i u l) = lowest-none n (cover_of count g.size) h.places l
 
-  pub room_then : Fitting h n g count → place_named h.places (settings_name g) ≡ Nothing → (i : ℕ) → first_unused h.places ≡ At i
+  pub room_then : Fitting h n g count → place_named h.places (settings_name g) ≡ None → (i : ℕ) → first_unused h.places ≡ Some i
       → ((x : ℕ) → free n (cover_of count g.size) h.places x ≡ false) → plan_of h n g count ≡ refuse Room
   room_then f a i u none = plan_room h n g count f a i u (none-lowest n (cover_of count g.size) h.places none)

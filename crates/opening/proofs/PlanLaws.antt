@@ -8,30 +8,30 @@ use native.Mathlib.Omega.{arith}
 use lib.ListN.{length, set}
 use Rattle.refusals.specs.declared.Refusal.{Refusal}
 use Rattle.refusals.specs.declared.Refusal.TheVariants.{Field, Held, Full, Room}
-use Rattle.refusals.specs.declared.Verdict.TheVariants.{Accepted, Refused}
 use Rattle.settings.specs.declared.Settings.{Settings}
 use Rattle.settings.specs.Settings.{settings_fit}
 use Rattle.places.specs.declared.Record.{Record}
-use Rattle.places.specs.declared.Found.{Found}
-use Rattle.places.specs.declared.Found.TheVariants.{At, Nothing}
 use Rattle.places.specs.Places.{settings_name, cover_of, place_of, count_fits, good, place_named, first_unused}
 use Rattle.places.specs.Room.{lowest_start}
 use Rattle.contents.specs.Slots.{cleared}
 use Rattle.opening.specs.declared.Planned.TheVariants.{Refuse, Take}
 use Rattle.opening.specs.Inner.{planned}
 use Rattle.opening.specs.Open.{Plan, refuse, take, with_start, with_unused, with_holder, plan_of, Opening, carried_out, open_of, Opens}
+use Rattle.std.specs.Prelude.{Option}
+use Rattle.std.specs.Prelude.{Ok, Err}
+use Rattle.std.specs.Prelude.{Some, None}
 
 -- ---- a place and a start, where nothing before refuses
 
 module _ (h : Record) (n size : ℕ) where
-  pub room-full : first_unused h.places ≡ Nothing → with_unused h n size (first_unused h.places) ≡ refuse Full
+  pub room-full : first_unused h.places ≡ None → with_unused h n size (first_unused h.places) ≡ refuse Full
   room-full u = ap (with_unused h n size) u
 
-  module _ (i : ℕ) (u : first_unused h.places ≡ At i) where
-    pub room-none : lowest_start n size h.places ≡ Nothing → with_unused h n size (first_unused h.places) ≡ refuse Room
+  module _ (i : ℕ) (u : first_unused h.places ≡ Some i) where
+    pub room-none : lowest_start n size h.places ≡ None → with_unused h n size (first_unused h.places) ≡ refuse Room
     room-none l = ap (with_unused h n size) u ∙ ap (with_start i) l
 
-    pub room_take : (start : ℕ) → lowest_start n size h.places ≡ At start → with_unused h n size (first_unused h.places) ≡ take i start
+    pub room_take : (start : ℕ) → lowest_start n size h.places ≡ Some start → with_unused h n size (first_unused h.places) ≡ take i start
     room_take start l = ap (with_unused h n size) u ∙ ap (with_start i) l
 
 -- ---- the plan, case by case
@@ -56,10 +56,10 @@ module _ (h : Record) (n : ℕ) (g : Settings) (count : ℕ) where
         unfolding plan_of
         plan_fits = rw (b, f, e)
 
-        pub plan_held : (j : ℕ) → place_named h.places (settings_name g) ≡ At j → plan_of h n g count ≡ refuse Held
+        pub plan_held : (j : ℕ) → place_named h.places (settings_name g) ≡ Some j → plan_of h n g count ≡ refuse Held
         plan_held j a = plan_fits ∙ ap (with_holder h n (cover_of count g.size)) a
 
-        pub plan_new : place_named h.places (settings_name g) ≡ Nothing
+        pub plan_new : place_named h.places (settings_name g) ≡ None
             → plan_of h n g count ≡ with_unused h n (cover_of count g.size) (first_unused h.places)
         plan_new a = plan_fits ∙ ap (with_holder h n (cover_of count g.size)) a
 
@@ -74,29 +74,29 @@ pub record Fitting (h : Record) (n : ℕ) (g : Settings) (count : ℕ) : Type 0 
 -- place i is unused, and the bytes go from the start on
 pub record Taking (h : Record) (n : ℕ) (g : Settings) (count i start : ℕ) : Type 0 where
   pub fitting : Fitting h n g count
-  pub absent : place_named h.places (settings_name g) ≡ Nothing
-  pub unused : first_unused h.places ≡ At i
-  pub lowest : lowest_start n (cover_of count g.size) h.places ≡ At start
+  pub absent : place_named h.places (settings_name g) ≡ None
+  pub unused : first_unused h.places ≡ Some i
+  pub lowest : lowest_start n (cover_of count g.size) h.places ≡ Some start
 
 -- each plan with its reason
 pub data Reason (h : Record) (n : ℕ) (g : Settings) (count : ℕ) : Plan → Type 0 where
   unsound : good n h.places ≡ false → Reason h n g count (refuse Refusal.Record)
   unfit : good n h.places ≡ true → (settings_fit g && count_fits count) ≡ false → Reason h n g count (refuse Field)
-  held : Fitting h n g count → (j : ℕ) → place_named h.places (settings_name g) ≡ At j → Reason h n g count (refuse Held)
-  full : Fitting h n g count → place_named h.places (settings_name g) ≡ Nothing → first_unused h.places ≡ Nothing → Reason h n g count (refuse Full)
-  lacking : Fitting h n g count → place_named h.places (settings_name g) ≡ Nothing → (i : ℕ) → first_unused h.places ≡ At i
-      → lowest_start n (cover_of count g.size) h.places ≡ Nothing → Reason h n g count (refuse Room)
+  held : Fitting h n g count → (j : ℕ) → place_named h.places (settings_name g) ≡ Some j → Reason h n g count (refuse Held)
+  full : Fitting h n g count → place_named h.places (settings_name g) ≡ None → first_unused h.places ≡ None → Reason h n g count (refuse Full)
+  lacking : Fitting h n g count → place_named h.places (settings_name g) ≡ None → (i : ℕ) → first_unused h.places ≡ Some i
+      → lowest_start n (cover_of count g.size) h.places ≡ None → Reason h n g count (refuse Room)
   taken : {i start : ℕ} → Taking h n g count i start → Reason h n g count (take i start)
 
 module _ (h : Record) (n : ℕ) (g : Settings) (count : ℕ) where
-  new : Fitting h n g count → place_named h.places (settings_name g) ≡ Nothing → plan_of h n g count ≡ with_unused h n (cover_of count g.size) (first_unused h.places)
+  new : Fitting h n g count → place_named h.places (settings_name g) ≡ None → plan_of h n g count ≡ with_unused h n (cover_of count g.size) (first_unused h.places)
   new t a = plan_new h n g count t.sound t.fits t.counted a
 
-  pub plan_full : Fitting h n g count → place_named h.places (settings_name g) ≡ Nothing → first_unused h.places ≡ Nothing → plan_of h n g count ≡ refuse Full
+  pub plan_full : Fitting h n g count → place_named h.places (settings_name g) ≡ None → first_unused h.places ≡ None → plan_of h n g count ≡ refuse Full
   plan_full t a u = new t a ∙ room-full h n (cover_of count g.size) u
 
-  pub plan_room : Fitting h n g count → place_named h.places (settings_name g) ≡ Nothing → (i : ℕ) → first_unused h.places ≡ At i
-      → lowest_start n (cover_of count g.size) h.places ≡ Nothing → plan_of h n g count ≡ refuse Room
+  pub plan_room : Fitting h n g count → place_named h.places (settings_name g) ≡ None → (i : ℕ) → first_unused h.places ≡ Some i
+      → lowest_start n (cover_of count g.size) h.places ≡ None → plan_of h n g count ≡ refuse Room
   plan_room t a i u l = new t a ∙ room-none h n (cover_of count g.size) i u l
 
   pub taking_plan : (i start : ℕ) → Taking h n g count i start → plan_of h n g count ≡ take i start
@@ -105,20 +105,20 @@ module _ (h : Record) (n : ℕ) (g : Settings) (count : ℕ) where
   pub reason : Reason h n g count (plan_of h n g count)
   reason = judged (good n h.places) (settings_fit g) (count_fits count) refl refl refl
     where
-      placed : Fitting h n g count → place_named h.places (settings_name g) ≡ Nothing → (i : ℕ) → first_unused h.places ≡ At i
-          → (l : Found) → lowest_start n (cover_of count g.size) h.places ≡ l → Reason h n g count (plan_of h n g count)
-      placed t a i u (At s) l =
+      placed : Fitting h n g count → place_named h.places (settings_name g) ≡ None → (i : ℕ) → first_unused h.places ≡ Some i
+          → (l : Option ℕ) → lowest_start n (cover_of count g.size) h.places ≡ l → Reason h n g count (plan_of h n g count)
+      placed t a i u (Some s) l =
           let r : Taking h n g count i s = record { fitting = t; absent = a; unused = u; lowest = l } in
           rw (taking_plan i s r) (taken r)
-      placed t a i u Nothing l = rw (plan_room t a i u l) (lacking t a i u l)
+      placed t a i u None l = rw (plan_room t a i u l) (lacking t a i u l)
 
-      searched : Fitting h n g count → place_named h.places (settings_name g) ≡ Nothing → (u : Found) → first_unused h.places ≡ u → Reason h n g count (plan_of h n g count)
-      searched t a (At i) u = placed t a i u (lowest_start n (cover_of count g.size) h.places) refl
-      searched t a Nothing u = rw (plan_full t a u) (full t a u)
+      searched : Fitting h n g count → place_named h.places (settings_name g) ≡ None → (u : Option ℕ) → first_unused h.places ≡ u → Reason h n g count (plan_of h n g count)
+      searched t a (Some i) u = placed t a i u (lowest_start n (cover_of count g.size) h.places) refl
+      searched t a None u = rw (plan_full t a u) (full t a u)
 
-      named : Fitting h n g count → (a : Found) → place_named h.places (settings_name g) ≡ a → Reason h n g count (plan_of h n g count)
-      named t (At j) a = rw (plan_held h n g count t.sound t.fits t.counted j a) (held t j a)
-      named t Nothing a = searched t a (first_unused h.places) refl
+      named : Fitting h n g count → (a : Option ℕ) → place_named h.places (settings_name g) ≡ a → Reason h n g count (plan_of h n g count)
+      named t (Some j) a = rw (plan_held h n g count t.sound t.fits t.counted j a) (held t j a)
+      named t None a = searched t a (first_unused h.places) refl
 
       judged : (b f c : Bool) → good n h.places ≡ b → settings_fit g ≡ f → count_fits count ≡ c → Reason h n g count (plan_of h n g count)
       judged true true true b f c = named (record { sound = b; fits = f; counted = c }) (place_named h.places (settings_name g)) refl
@@ -149,13 +149,13 @@ unfolding open_of
 open_by h s g count p e = ap (carried_out h s g count) e
 
 pub open_refused : (h : Record) (s : List ℕ) (g : Settings) (count : ℕ) (r : Refusal) → plan_of h (length s) g count ≡ refuse r
-    → Opens h s g count (record { «record» = h; verdict = Refused r }) s
+    → Opens h s g count (record { «record» = h; verdict = Err r }) s
 open_refused h s g count r e =
     let o = open_by h s g count (refuse r) e in
     record { answers = ap (λ (x : Opening). x.kept) (sym o); leaves = ap (λ (x : Opening). x.store) (sym o) }
 
 pub open_taken : (h : Record) (s : List ℕ) (g : Settings) (count i start : ℕ) → plan_of h (length s) g count ≡ take i start
-    → Opens h s g count (record { «record» = record { places = set h.places i (place_of g count start) }; verdict = Accepted }) (cleared s start count (g.size + 2))
+    → Opens h s g count (record { «record» = record { places = set h.places i (place_of g count start) }; verdict = (Ok tt) }) (cleared s start count (g.size + 2))
 open_taken h s g count i start e =
     let o = open_by h s g count (take i start) e in
     record { answers = ap (λ (x : Opening). x.kept) (sym o); leaves = ap (λ (x : Opening). x.store) (sym o) }

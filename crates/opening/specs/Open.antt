@@ -3,16 +3,16 @@
 use Rattle.std.specs.Prelude.{◌≡◌, cond, not, ◌&&◌, List, ℕ, ◌+◌, length, set}
 use Rattle.refusals.specs.declared.Refusal.{Refusal}
 use Rattle.refusals.specs.declared.Refusal.TheVariants.{Unknown, Field, Held, Full, Room}
-use Rattle.refusals.specs.declared.Verdict.TheVariants.{Accepted, Refused}
 use Rattle.settings.specs.declared.Settings.{Settings}
 use Rattle.settings.specs.Settings.{settings_fit}
 use Rattle.places.specs.declared.Record.{Record}
-use Rattle.places.specs.declared.Found.{Found}
-use Rattle.places.specs.declared.Found.TheVariants.{At, Nothing}
 use Rattle.places.specs.Places.{Name, settings_name, unused, cover_of, place_of, count_fits, good, place_named, first_unused}
 use Rattle.places.specs.Room.{lowest_start}
 use Rattle.contents.specs.Slots.{cleared}
 use Rattle.opening.specs.declared.Kept.{Kept}
+use Rattle.std.specs.Prelude.{Option}
+use Rattle.std.specs.Prelude.{Ok, Err}
+use Rattle.std.specs.Prelude.{Some, None}
 
 -- ---- open
 
@@ -21,17 +21,17 @@ pub data Plan : Type 0 where
   refuse : Refusal → Plan
   take : ℕ → ℕ → Plan
 
-abbrev pub with_start : ℕ → Found → Plan
-with_start i (At start) = take i start
-with_start i Nothing = refuse Room
+abbrev pub with_start : ℕ → Option ℕ → Plan
+with_start i (Some start) = take i start
+with_start i None = refuse Room
 
-abbrev pub with_unused : Record → ℕ → ℕ → Found → Plan
-with_unused h n size (At i) = with_start i (lowest_start n size h.places)
-with_unused h n size Nothing = refuse Full
+abbrev pub with_unused : Record → ℕ → ℕ → Option ℕ → Plan
+with_unused h n size (Some i) = with_start i (lowest_start n size h.places)
+with_unused h n size None = refuse Full
 
-abbrev pub with_holder : Record → ℕ → ℕ → Found → Plan
-with_holder h n size (At i) = refuse Held
-with_holder h n size Nothing = with_unused h n size (first_unused h.places)
+abbrev pub with_holder : Record → ℕ → ℕ → Option ℕ → Plan
+with_holder h n size (Some i) = refuse Held
+with_holder h n size None = with_unused h n size (first_unused h.places)
 
 -- n is the store's length
 unfoldable pub plan_of : Record → ℕ → Settings → ℕ → Plan
@@ -46,9 +46,9 @@ pub record Opening : Type 0 where
   pub store : List ℕ
 
 abbrev pub carried_out : Record → List ℕ → Settings → ℕ → Plan → Opening
-carried_out h s g count (refuse r) = record { kept = record { «record» = h; verdict = Refused r }; store = s }
+carried_out h s g count (refuse r) = record { kept = record { «record» = h; verdict = Err r }; store = s }
 carried_out h s g count (take i start) = record {
-  kept = record { «record» = record { places = set h.places i (place_of g count start) }; verdict = Accepted };
+  kept = record { «record» = record { places = set h.places i (place_of g count start) }; verdict = (Ok tt) };
   store = cleared s start count (g.size + 2);
 }
 
@@ -62,11 +62,11 @@ pub record Opens (h : Record) (s : List ℕ) (g : Settings) (count : ℕ) (kept 
 
 -- ---- close
 
-abbrev pub closed_at : Record → Found → Kept
-closed_at h (At i) = record { «record» = record { places = set h.places i unused }; verdict = Accepted }
-closed_at h Nothing = record { «record» = h; verdict = Refused Unknown }
+abbrev pub closed_at : Record → Option ℕ → Kept
+closed_at h (Some i) = record { «record» = record { places = set h.places i unused }; verdict = (Ok tt) }
+closed_at h None = record { «record» = h; verdict = Err Unknown }
 
 unfoldable pub close_of : Record → List ℕ → Name → Kept
 close_of h s x =
-    cond (not (good (length s) h.places)) (record { «record» = h; verdict = Refused Refusal.Record })
+    cond (not (good (length s) h.places)) (record { «record» = h; verdict = Err Refusal.Record })
     (closed_at h (place_named h.places x))

@@ -10,15 +10,15 @@ ghost use Rattle.opening.specs.Open.{with_unused, plan_of, Opens, close_of};
 ghost use Rattle.opening.specs.Inner.{planned};
 
 pub use places::fresh;
-use places::{Found, Place, Record};
-use refusals::{Refusal, Verdict};
+use places::{Place, Record};
+use refusals::Refusal;
 use settings::Settings;
 
 // The record after open or close, and what is answered. Beside a refusal the record is as it came.
 #[derive(Clone, Copy)]
 pub struct Kept {
     pub record: Record,
-    pub verdict: Verdict,
+    pub verdict: Result<(), Refusal>,
 }
 
 // What open is to do: to refuse, or to take the place of a number from a start on.
@@ -32,10 +32,10 @@ pub(crate) enum Planned {
 fn room_for(held: Record, n: usize, size: usize) -> Planned
     ensures { result ≡ planned (with_unused held n size (first_unused held.places)) }
 {
-    let Found::At(place) = places::find_unused(held) else {
+    let Some(place) = places::find_unused(held) else {
         return Planned::Refuse(Refusal::Full);
     };
-    let Found::At(start) = room::lowest_start(held, n, size) else {
+    let Some(start) = room::lowest_start(held, n, size) else {
         return Planned::Refuse(Refusal::Room);
     };
     Planned::Take(place, start)
@@ -54,7 +54,7 @@ fn plan_open(held: Record, n: usize, settings: Settings, count: u32) -> Planned
     if !places::count_fits(count) {
         return Planned::Refuse(Refusal::Field);
     }
-    if let Found::At(_) = places::find_place(held, settings.resource, settings.kind) {
+    if let Some(_) = places::find_place(held, settings.resource, settings.kind) {
         return Planned::Refuse(Refusal::Held);
     }
     room_for(held, n, places::cover_of(count, settings.size))
@@ -83,7 +83,7 @@ pub fn open(held: Record, store: &mut [u8], settings: Settings, count: u32) -> K
     match plan_open(held, store.len(), settings, count) {
         Planned::Refuse(refusal) => Kept {
             record: held,
-            verdict: Verdict::Refused(refusal),
+            verdict: Err(refusal),
         },
         Planned::Take(i, start) => {
             clear_slots(store, start, count as usize, settings.size as usize + 2);
@@ -91,7 +91,7 @@ pub fn open(held: Record, store: &mut [u8], settings: Settings, count: u32) -> K
             next.places[i] = places::place_of(settings, count, start as u32);
             Kept {
                 record: next,
-                verdict: Verdict::Accepted,
+                verdict: Ok(()),
             }
         }
     }
@@ -118,13 +118,13 @@ pub fn close(held: Record, store: &[u8], resource: u16, kind: u8) -> Kept
     if !room::is_good(held, store.len()) {
         return Kept {
             record: held,
-            verdict: Verdict::Refused(Refusal::Record),
+            verdict: Err(Refusal::Record),
         };
     }
-    let Found::At(i) = places::find_place(held, resource, kind) else {
+    let Some(i) = places::find_place(held, resource, kind) else {
         return Kept {
             record: held,
-            verdict: Verdict::Refused(Refusal::Unknown),
+            verdict: Err(Refusal::Unknown),
         };
     };
     let mut next = held;
@@ -142,6 +142,6 @@ pub fn close(held: Record, store: &[u8], resource: u16, kind: u8) -> Kept
     };
     Kept {
         record: next,
-        verdict: Verdict::Accepted,
+        verdict: Ok(()),
     }
 }

@@ -5,16 +5,17 @@ use mathlib.Core.List.{List}
 use Prim.Native.Nat.{ℕ}
 use lib.ListN.{get_or}
 use Rattle.refusals.proofs.Told.{answer_in, refused_back, told-apart}
-use Rattle.pack.specs.declared.Packed.{Packed}
-use Rattle.pack.specs.declared.Packed.TheVariants.{Written, Refused}
 use Rattle.pack.specs.Told.{packed_told}
+use Rattle.refusals.specs.declared.Refusal.{Refusal}
+use Rattle.std.specs.Prelude.{Result}
+use Rattle.std.specs.Prelude.{Ok, Err}
 
-abbrev written_in : List ℕ → Packed
-written_in l = Written (get_or l 0 0)
+abbrev written_in : List ℕ → Result ℕ Refusal
+written_in l = Ok (get_or l 0 0)
 
-packed_back : (x : Packed) → answer_in written_in Refused (packed_told x) ≡ x
-packed_back (Written n) = refl
-packed_back (Refused r) = refused_back written_in Refused r
+packed_back : (x : Result ℕ Refusal) → answer_in written_in Err (packed_told x) ≡ x
+packed_back (Ok n) = refl
+packed_back (Err r) = refused_back written_in Err r
 
-pub packed_apart : (x y : Packed) → packed_told x ≡ packed_told y → x ≡ y
-packed_apart = told-apart packed_told (answer_in written_in Refused) packed_back
+pub packed_apart : (x y : Result ℕ Refusal) → packed_told x ≡ packed_told y → x ≡ y
+packed_apart = told-apart packed_told (answer_in written_in Err) packed_back

@@ -18,7 +18,6 @@ use Rattle.crc.specs.Crc.{crc32_of}
 use Rattle.crc.proofs.Bounds.{crc32_lt}
 use Rattle.packet.specs.declared.Packet.{Packet}
 use Rattle.settings.specs.declared.Settings.{Settings}
-use Rattle.packet.specs.declared.Reading.TheVariants.{Sent}
 use Rattle.packet.specs.Packet.{fields_in, marked, header_of, read_by, read_header_of}
 use Rattle.packet.specs.Edition.{spare_of, edition_of}
 use Rattle.packet.specs.Range.{InRange}
@@ -31,6 +30,7 @@ use Rattle.layout.proofs.Coded.{length-coded, coded-bytes, coded_row_lem, row-co
 use Rattle.laying.proofs.Starts.{tables_few}
 use Rattle.pack.specs.Pack.{coded_length, count_of, sent_of, payload_of, fields_for, header_for, packet_of}
 use Rattle.sealing.specs.Sealing.{four_bytes, sealed}
+use Rattle.std.specs.Prelude.{Ok}
 
 -- ---- settings that fit
 
@@ -344,13 +344,13 @@ module _ (g : Settings) (file : List ℕ) (n : ℕ) where
         }
 
     -- reading it gives the fields it was packed with: in any order where rows are not judged, and as a place of its own order has it read
-    pub packet_reads : read_header_of (packet_of g file n) ≡ Sent fields_of
+    pub packet_reads : read_header_of (packet_of g file n) ≡ Ok fields_of
     packet_reads = read_accepts false (packet_of g file n) fields_of (packet_sent false (λ t. absurd (true≢false (sym t))))
 
     own-rows : not (eqb g.order 1) ≡ true → g.protection ≡ 1 → g.order ≡ 0
     own-rows t o = row-order g fit (eqb-false _ _ (not-true _ t))
 
-    pub packet_reads_own : read_by (not (eqb g.order 1)) (packet_of g file n) ≡ Sent fields_of
+    pub packet_reads_own : read_by (not (eqb g.order 1)) (packet_of g file n) ≡ Ok fields_of
     packet_reads_own = read_accepts (not (eqb g.order 1)) (packet_of g file n) fields_of (packet_sent (not (eqb g.order 1)) own-rows)
 
     -- and these show the edition under which it was packed

@@ -14,10 +14,10 @@ use Rattle.settings.specs.declared.Settings.{Settings}
 use Rattle.settings.specs.Settings.{settings_fit}
 use Rattle.pack.specs.Pack.{Packing, largest_file, count_of, packet_of, refusing, written, pack_of, Packs}
 use Rattle.pack.specs.Inner.{payload_length, plan_of, Packable}
-use Rattle.pack.specs.declared.Packed.{Packed}
-use Rattle.pack.specs.declared.Packed.TheVariants.{Written, Refused}
 use Rattle.pack.specs.declared.Plan.{Plan}
 use Rattle.pack.specs.declared.Plan.TheVariants.{Stop, Go}
+use Rattle.std.specs.Prelude.{Result}
+use Rattle.std.specs.Prelude.{Ok, Err}
 
 -- ---- the refusals in their order, and the plan where there is none
 module _ (g : Settings) (len n : ℕ) where
@@ -71,11 +71,11 @@ packs_as_planned file g n out =
     go false false false true = refl
     go false false false false = refl
 
-pub packs_stop : (file : List ℕ) (g : Settings) (n : ℕ) (out : List ℕ) (r : Refusal) → plan_of g (length file) n ≡ Stop r → Packs (pack_of file g n out) (Refused r) out
+pub packs_stop : (file : List ℕ) (g : Settings) (n : ℕ) (out : List ℕ) (r : Refusal) → plan_of g (length file) n ≡ Stop r → Packs (pack_of file g n out) (Err r) out
 packs_stop file g n out r e =
-    subst (λ (p : Packing). Packs p (Refused r) out) (sym (packs_as_planned file g n out ∙ ap (as_planned file g n out) e)) (record { answer = refl; output = refl })
+    subst (λ (p : Packing). Packs p (Err r) out) (sym (packs_as_planned file g n out ∙ ap (as_planned file g n out) e)) (record { answer = refl; output = refl })
 
-pub packs_go : (file : List ℕ) (g : Settings) (n : ℕ) (out : List ℕ) (c s : ℕ) (a : Packed) (x : List ℕ) → plan_of g (length file) n ≡ Go c s
+pub packs_go : (file : List ℕ) (g : Settings) (n : ℕ) (out : List ℕ) (c s : ℕ) (a : Result ℕ Refusal) (x : List ℕ) → plan_of g (length file) n ≡ Go c s
     → Packs (written (packet_of g file n) out) a x → Packs (pack_of file g n out) a x
 packs_go file g n out c s a x e w =
     subst (λ (p : Packing). Packs p a x) (sym (packs_as_planned file g n out ∙ ap (as_planned file g n out) e)) w
@@ -123,27 +123,27 @@ planned g len n c s e =
 -- a packet that can be made, and for which there is room, is written
 pub pack_accepts : (file : List ℕ) (g : Settings) (n : ℕ) (out : List ℕ) → Packable g (length file) n → length (packet_of g file n) ≤ length out
     → pack_of file g n out
-    ≡ record { answer = Written (length (packet_of g file n)); output = packet_of g file n ++ drop (length (packet_of g file n)) out }
+    ≡ record { answer = Ok (length (packet_of g file n)); output = packet_of g file n ++ drop (length (packet_of g file n)) out }
 unfolding written
 pack_accepts file g n out p h =
     let q : List ℕ = packet_of g file n in
     packs_as_planned file g n out
     ∙ ap (as_planned file g n out) (sym (plan_go g (length file) n p.fits (λ (z : length file ≡ 0). let s : 0 < length file = p.some in omega arith) p.most p.few p.below))
-    ∙ ap (λ (b : Bool). cond b (refusing Output out) (record { answer = Written (length q); output = q ++ drop (length q) out })) (le-ltb (length out) (length q) h)
+    ∙ ap (λ (b : Bool). cond b (refusing Output out) (record { answer = Ok (length q); output = q ++ drop (length q) out })) (le-ltb (length out) (length q) h)
 
 -- what is refused leaves the output as it was
 refused-kept : (b : Bool) (q out : List ℕ) (r : Refusal)
-    → (cond b (refusing Output out) (record { answer = Written (length q); output = q ++ drop (length q) out })).answer ≡ Refused r
-    → (cond b (refusing Output out) (record { answer = Written (length q); output = q ++ drop (length q) out })).output ≡ out
+    → (cond b (refusing Output out) (record { answer = Ok (length q); output = q ++ drop (length q) out })).answer ≡ Err r
+    → (cond b (refusing Output out) (record { answer = Ok (length q); output = q ++ drop (length q) out })).output ≡ out
 refused-kept true q out r e = refl
 refused-kept false q out r e = absurd (let z : ◌≡◌ {A = ℕ} 0 1 = cc in omega arith)
 
-planned-kept : (p : Plan) (file : List ℕ) (g : Settings) (n : ℕ) (out : List ℕ) (r : Refusal) → (as_planned file g n out p).answer ≡ Refused r → (as_planned file g n out p).output ≡ out
+planned-kept : (p : Plan) (file : List ℕ) (g : Settings) (n : ℕ) (out : List ℕ) (r : Refusal) → (as_planned file g n out p).answer ≡ Err r → (as_planned file g n out p).output ≡ out
 unfolding written
 planned-kept (Stop s) file g n out r e = refl
 planned-kept (Go c s) file g n out r e = refused-kept (ltb (length out) (length (packet_of g file n))) (packet_of g file n) out r e
 
-pub pack-refused : (file : List ℕ) (g : Settings) (n : ℕ) (out : List ℕ) (r : Refusal) → (pack_of file g n out).answer ≡ Refused r → (pack_of file g n out).output ≡ out
+pub pack-refused : (file : List ℕ) (g : Settings) (n : ℕ) (out : List ℕ) (r : Refusal) → (pack_of file g n out).answer ≡ Err r → (pack_of file g n out).output ≡ out
 pack-refused file g n out r e =
     let w = packs_as_planned file g n out in
     ap (λ (p : Packing). p.output) w ∙ planned-kept (plan_of g (length file) n) file g n out r (sym (ap (λ (p : Packing). p.answer) w) ∙ e)

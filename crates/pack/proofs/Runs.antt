@@ -11,7 +11,6 @@ use lib.ListN.{length, take, drop, length-take, length-drop}
 use lib.Seq.{sets, take-add, drop-drop}
 use Rattle.ground.proofs.Listed.{listed_same, ceil-below}
 use Rattle.ground.proofs.Writing.{sets-append, lent-sets}
-use Rattle.refusals.specs.declared.Verdict.TheVariants.{Accepted}
 use Rattle.encoding.specs.Encode.{coded_row}
 use Rattle.filling.specs.Put.{info_from, rows_from, put_verdict, put_rows}
 use Rattle.filling.proofs.Serving.{by_length, put_accepted, put-done}
@@ -19,6 +18,7 @@ use Rattle.layout.specs.Layout.{tables_of, row_of, coded_file}
 use Rattle.layout.proofs.Coded.{info_from_lem, length-coded, row-behind, coded_rows_lem}
 use Rattle.pack.specs.Inner.{coded_rows, RunFits}
 use Rattle.laying.proofs.Starts.{tables_few, start_below}
+use Rattle.std.specs.Prelude.{Ok}
 
 module _ (file : List ℕ) (m q n room at : ℕ) (fits : RunFits file m q n room at) where
   -- so few that they can be counted
@@ -86,7 +86,7 @@ module _ (file : List ℕ) (m q n room at : ℕ) (fits : RunFits file m q n room
         (λ i h. row-behind m fits.rows file q i (omega arith) ∙ ap coded_row (info_from_lem m file (q / m) (q % m) i))))
 
     -- such a call is served
-    pub run_accepted : (o : ℕ) → k * 255 ≤ o → put_verdict (length file) m (q / m * (239 * m) + q % m) k o ≡ Accepted
+    pub run_accepted : (o : ℕ) → k * 255 ≤ o → put_verdict (length file) m (q / m * (239 * m) + q % m) k o ≡ (Ok tt)
     run_accepted o h =
         put_accepted (length file) m (q / m * (239 * m) + q % m) k o
         (sym

@@ -15,20 +15,20 @@ use Rattle.refusals.specs.declared.Refusal.TheVariants.{Output}
 use Rattle.pack.specs.Pack.{Packing, refusing, written, Packs}
 use Rattle.sealing.specs.Sealing.{four_bytes, sealed, sealed_at}
 use Rattle.sealing.proofs.Laws.{seal_told}
-use Rattle.pack.specs.declared.Packed.TheVariants.{Written, Refused}
+use Rattle.std.specs.Prelude.{Ok, Err}
 
 -- ---- the answers
-pub no_room : (q out : List ℕ) → length out < length q → Packs (written q out) (Refused Output) out
+pub no_room : (q out : List ℕ) → length out < length q → Packs (written q out) (Err Output) out
 unfolding written
 no_room q out h =
-    let e = ap (λ (b : Bool). cond b (refusing Output out) (record { answer = Written (length q); output = q ++ drop (length q) out })) (lt-ltb (length out) (length q) h) in
+    let e = ap (λ (b : Bool). cond b (refusing Output out) (record { answer = Ok (length q); output = q ++ drop (length q) out })) (lt-ltb (length out) (length q) h) in
     record { answer = sym (ap (λ (p : Packing). p.answer) e); output = sym (ap (λ (p : Packing). p.output) e) }
 
-pub wrote : (q out x : List ℕ) (k : ℕ) → length q ≤ length out → k ≡ length q → x ≡ q ++ drop (length q) out → Packs (written q out) (Written k) x
+pub wrote : (q out x : List ℕ) (k : ℕ) → length q ≤ length out → k ≡ length q → x ≡ q ++ drop (length q) out → Packs (written q out) (Ok k) x
 unfolding written
 wrote q out x k h l w =
-    let e = ap (λ (b : Bool). cond b (refusing Output out) (record { answer = Written (length q); output = q ++ drop (length q) out })) (le-ltb (length out) (length q) h) in
-    record { answer = ap Written l ∙ sym (ap (λ (p : Packing). p.answer) e); output = w ∙ sym (ap (λ (p : Packing). p.output) e) }
+    let e = ap (λ (b : Bool). cond b (refusing Output out) (record { answer = Ok (length q); output = q ++ drop (length q) out })) (le-ltb (length out) (length q) h) in
+    record { answer = ap Ok l ∙ sym (ap (λ (p : Packing). p.answer) e); output = w ∙ sym (ap (λ (p : Packing). p.output) e) }
 
 -- ---- the stores
 module _ (out h b : List ℕ) (size : ℕ) (eh : length h ≡ 14) (eb : length b ≡ size) (room : 14 + size + 4 ≤ length out) where

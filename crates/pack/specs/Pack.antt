@@ -11,8 +11,8 @@ use Rattle.packet.specs.Edition.{spare_of}
 use Rattle.sealing.specs.Sealing.{sealed}
 use Rattle.settings.specs.Settings.{settings_fit, rows_sent}
 use Rattle.layout.specs.Layout.{tables_of, coded_file}
-use Rattle.pack.specs.declared.Packed.{Packed}
-use Rattle.pack.specs.declared.Packed.TheVariants.{Written, Refused}
+use Rattle.std.specs.Prelude.{Result}
+use Rattle.std.specs.Prelude.{Ok, Err}
 
 -- the longest file
 abbrev pub largest_file : ℕ
@@ -59,17 +59,17 @@ packet_of g file n =
 
 -- what packing answers, and what the output then holds
 pub record Packing : Type 0 where
-  pub answer : Packed
+  pub answer : Result ℕ Refusal
   pub output : List ℕ
 
 abbrev pub refusing : Refusal → List ℕ → Packing
-refusing r out = record { answer = Refused r; output = out }
+refusing r out = record { answer = Err r; output = out }
 
 -- a packet at the start of the output, the rest of it unchanged; refused where the output is too short
 unfoldable pub written : List ℕ → List ℕ → Packing
 written q out =
     cond (ltb (length out) (length q)) (refusing Output out)
-    (record { answer = Written (length q); output = q ++ drop (length q) out })
+    (record { answer = Ok (length q); output = q ++ drop (length q) out })
 
 unfoldable pub pack_of : List ℕ → Settings → ℕ → List ℕ → Packing
 pack_of file g n out =
@@ -79,6 +79,6 @@ pack_of file g n out =
     (cond (leb (count_of g (length file)) n) (refusing Number out) (written (packet_of g file n) out))))
 
 -- a call answered, and left the output, as p says
-pub record Packs (p : Packing) (r : Packed) (out : List ℕ) : Type 0 where
+pub record Packs (p : Packing) (r : Result ℕ Refusal) (out : List ℕ) : Type 0 where
   pub answer : r ≡ p.answer
   pub output : out ≡ p.output

@@ -2,10 +2,12 @@
 -- Assumes nothing.
 use Rattle.std.specs.Prelude.{[], ◌∷◌}
 use Rattle.refusals.specs.Told.{Told, accepted_with, refused_as}
-use Rattle.pack.specs.declared.Packed.{Packed}
-use Rattle.pack.specs.declared.Packed.TheVariants.{Written, Refused}
+use Rattle.refusals.specs.declared.Refusal.{Refusal}
+use Rattle.std.specs.Prelude.{Result}
+use Rattle.std.specs.Prelude.{Ok, Err}
+use Rattle.std.specs.Prelude.{ℕ}
 
 -- the length of the packet that was written, or the refusal
-abbrev pub packed_told : Packed → Told
-packed_told (Written n) = accepted_with (n ∷ [])
-packed_told (Refused r) = refused_as r
+abbrev pub packed_told : Result ℕ Refusal → Told
+packed_told (Ok n) = accepted_with (n ∷ [])
+packed_told (Err r) = refused_as r

@@ -11,13 +11,6 @@ use packet::Packet;
 use refusals::Refusal;
 use settings::Settings;
 
-// The length of the packet that was written, or why none was.
-#[derive(Clone, Copy)]
-pub enum Packed {
-    Written(usize),
-    Refused(Refusal),
-}
-
 // Whether a packet can be made; its count of packets and the length of its payload.
 #[derive(Clone, Copy)]
 enum Plan {
@@ -105,7 +98,7 @@ fn put_run(file: &[u8], m: usize, q: usize, left: usize, out: &mut [u8], at: usi
     ensures { (0 < result) × (result ≤ left) × (out.new ≡ sets out.old at (coded_rows file.now m q result)) }
 {
     let n = words::lesser(left, m - q % m);
-    filling::put_rows(file, m, q / m * (239 * m) + q % m, n, &mut out[at..]);
+    let _ = filling::put_rows(file, m, q / m * (239 * m) + q % m, n, &mut out[at..]);
     n
 }
 
@@ -132,7 +125,7 @@ fn put_payload(file: &[u8], settings: Settings, number: u32, size: usize, out: &
     }
     let rows = settings.rows as usize;
     if settings.order == 1 {
-        laying::put_columns(file, rows, from, size, out);
+        let _ = laying::put_columns(file, rows, from, size, out);
         return;
     }
     put_coded(file, rows, from / 255, size / 255, out);
@@ -147,29 +140,29 @@ fn put_packet(
     count: u32,
     size: usize,
     out: &mut [u8],
-) -> Packed
+) -> Result<usize, Refusal>
     requires { Packable settings (length file.now) number × (count ≡ count_of settings (length file.now)) × (size ≡ payload_length settings (length file.now) number) }
     ensures { Packs (written (packet_of settings file.now number) out.old) result out.new }
 {
     let body = Packet::HEADER;
     let end = body + size;
     if out.len() < end + Packet::CRC {
-        return Packed::Refused(Refusal::Output);
+        return Err(Refusal::Output);
     }
     put_header(settings, number, count, size, out);
     put_payload(file, settings, number, size, &mut out[body..]);
-    sealing::seal(out, end);
-    Packed::Written(end + Packet::CRC)
+    let _ = sealing::seal(out, end);
+    Ok(end + Packet::CRC)
 }
 
 // Writes packet `number` of the file under these settings to the start of `out`, and gives its length. Refused, and nothing written, where a setting is out of
 // range, the file is empty or too long, it has too many packets, there is no such packet, or `out` is too short, in this order.
-pub fn pack(file: &[u8], settings: Settings, number: u32, out: &mut [u8]) -> Packed
+pub fn pack(file: &[u8], settings: Settings, number: u32, out: &mut [u8]) -> Result<usize, Refusal>
     ensures { Packs (pack_of file.now settings number out.old) result out.new }
 {
     let plan = judge(settings, file.len(), number);
     match plan {
-        Plan::Stop(refusal) => Packed::Refused(refusal),
+        Plan::Stop(refusal) => Err(refusal),
         Plan::Go(count, size) => put_packet(file, settings, number, count, size, out),
     }
 }
@@ -182,7 +175,7 @@ pub fn pack_house(
     update: u8,
     number: u32,
     out: &mut [u8],
-) -> Packed
+) -> Result<usize, Refusal>
     ensures { Packs (pack_of file.now (house resource kind update) number out.old) result out.new }
 {
     pack(file, settings::house(resource, kind, update), number, out)

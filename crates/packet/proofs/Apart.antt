@@ -5,13 +5,15 @@ use mathlib.Core.List.{List}
 use Prim.Native.Nat.{ℕ}
 use lib.ListN.{get_or}
 use Rattle.refusals.proofs.Told.{answer_in, refused_back, told-apart}
-use Rattle.packet.specs.declared.Reading.{Reading}
-use Rattle.packet.specs.declared.Reading.TheVariants.{Sent, Refused}
 use Rattle.packet.specs.Told.{reading_told}
+use Rattle.refusals.specs.declared.Refusal.{Refusal}
+use Rattle.packet.specs.declared.Packet.{Packet}
+use Rattle.std.specs.Prelude.{Result}
+use Rattle.std.specs.Prelude.{Ok, Err}
 
-abbrev sent_in : List ℕ → Reading
+abbrev sent_in : List ℕ → Result Packet Refusal
 sent_in l =
-    Sent (record {
+    Ok (record {
       resource = get_or l 0 0;
       number = get_or l 1 0;
       update = get_or l 2 0;
@@ -23,9 +25,9 @@ sent_in l =
       reserved = get_or l 8 0;
     })
 
-reading_back : (x : Reading) → answer_in sent_in Refused (reading_told x) ≡ x
-reading_back (Sent f) = refl
-reading_back (Refused r) = refused_back sent_in Refused r
+reading_back : (x : Result Packet Refusal) → answer_in sent_in Err (reading_told x) ≡ x
+reading_back (Ok f) = refl
+reading_back (Err r) = refused_back sent_in Err r
 
-pub reading_apart : (x y : Reading) → reading_told x ≡ reading_told y → x ≡ y
-reading_apart = told-apart reading_told (answer_in sent_in Refused) reading_back
+pub reading_apart : (x y : Result Packet Refusal) → reading_told x ≡ reading_told y → x ≡ y
+reading_apart = told-apart reading_told (answer_in sent_in Err) reading_back

@@ -13,10 +13,10 @@ use Rattle.ground.specs.Lists.{listed}
 use Rattle.refusals.specs.declared.Refusal.{Refusal}
 use Rattle.refusals.specs.declared.Refusal.TheVariants.{Short, Mark, Length, «Type», Protection, Number, Rows, Resource}
 use Rattle.packet.specs.declared.Packet.{Packet}
-use Rattle.packet.specs.declared.Reading.{Reading}
-use Rattle.packet.specs.declared.Reading.TheVariants.{Sent, Refused}
 use Rattle.packet.specs.Packet.{resource_in, kind_in, fields_in, marked, bad_protection, bad_number, bad_rows, judged, read_by, header_of}
 use Rattle.packet.specs.Range.{InRange}
+use Rattle.std.specs.Prelude.{Result}
+use Rattle.std.specs.Prelude.{Ok, Err}
 
 -- ---- a header that was written
 
@@ -182,7 +182,7 @@ pub record SentFacts (judging : Bool) (q : List ℕ) (f : Packet) : Type 0 where
   pub multiple : judging ≡ true → f.protection ≡ 1 → (length q - 18) % 255 ≡ 0
   pub resource : 0 < f.resource
 
-passed : (t : Bool) (r : Refusal) (y : Reading) (f : Packet) → cond t (Refused r) y ≡ Sent f → (t ≡ false) × (y ≡ Sent f)
+passed : (t : Bool) (r : Refusal) (y : Result Packet Refusal) (f : Packet) → cond t (Err r) y ≡ Ok f → (t ≡ false) × (y ≡ Ok f)
 passed true r y f e = absurd (let z : ◌≡◌ {A = ℕ} 0 1 = cc in omega arith)
 passed false r y f e = (refl, e)
 
@@ -207,7 +207,7 @@ record Passed (rows : Bool) (g f : Packet) (n : ℕ) : Type 0 where
   resource : eqb g.resource 0 ≡ false
   same : g ≡ f
 
-judged_sent : (rows : Bool) (g f : Packet) (n : ℕ) → judged rows g n ≡ Sent f → Passed rows g f n
+judged_sent : (rows : Bool) (g f : Packet) (n : ℕ) → judged rows g n ≡ Ok f → Passed rows g f n
 unfolding judged
 judged_sent rows g f n e =
     let t4 = passed (eqb g.kind 3) «Type» _ f e in
@@ -215,7 +215,7 @@ judged_sent rows g f n e =
     let t6 = passed (bad_number g) Number _ f t5.1 in
     let t7 = passed (rows && bad_rows g n) Rows _ f t6.1 in
     let t8 = passed (eqb g.resource 0) Resource _ f t7.1 in
-    let e : Sent g ≡ Sent f = t8.1 in
+    let e : Ok g ≡ Ok f = t8.1 in
     record { kind = t4.0; protection = t5.0; number = t6.0; whole = t7.0; resource = t8.0; same = cc }
 
 module _ (f : Packet) where
@@ -252,7 +252,7 @@ module _ (f : Packet) where
           omega arith
 
 -- what the fields of an accepted packet satisfy
-pub read_sent : (rows : Bool) (q : List ℕ) (f : Packet) → ((i : ℕ) → get_or q i 0 < 256) → read_by rows q ≡ Sent f → SentFacts rows q f
+pub read_sent : (rows : Bool) (q : List ℕ) (f : Packet) → ((i : ℕ) → get_or q i 0 < 256) → read_by rows q ≡ Ok f → SentFacts rows q f
 unfolding read_by
 read_sent rows q f b e =
     let t1 = passed (ltb (length q) 19) Short _ f e in
@@ -296,7 +296,7 @@ module _ (rows : Bool) (q : List ℕ) (f : Packet) (s : SentFacts rows q f) wher
   good-rows : rows && bad_rows f (length q) ≡ false
   good-rows = not_if rows (bad_rows f (length q)) (λ j. not_if (eqb f.protection 1) _ (λ t. rw (eq-eqb _ _ (s.multiple j (eqb-true _ _ t))) refl))
 
-  judged_accepts : judged rows f (length q) ≡ Sent f
+  judged_accepts : judged rows f (length q) ≡ Ok f
   unfolding judged
   judged_accepts =
       rw (
@@ -308,7 +308,7 @@ module _ (rows : Bool) (q : List ℕ) (f : Packet) (s : SentFacts rows q f) wher
       )
 
   -- a packet whose fields satisfy all that is accepted
-  pub read_accepts : read_by rows q ≡ Sent f
+  pub read_accepts : read_by rows q ≡ Ok f
   unfolding read_by
   read_accepts =
       rw (le-ltb _ _ s.least, s.mark, ← s.fields, eq-eqb _ _ s.whole) judged_accepts

@@ -3,8 +3,9 @@
 use Rattle.std.specs.Prelude.{Bool, true, false, cond, not, ◌&&◌, ◌||◌, List, [], ◌∷◌, ℕ, ◌+◌, ◌-◌, ◌*◌, ◌/◌, ◌%◌, eqb, leb, ltb, length, get_or}
 use Rattle.refusals.specs.declared.Refusal.TheVariants.{Short, Mark, Length, «Type», Protection, Number, Rows, Resource}
 use Rattle.packet.specs.declared.Packet.{Packet}
-use Rattle.packet.specs.declared.Reading.{Reading}
-use Rattle.packet.specs.declared.Reading.TheVariants.{Sent, Refused}
+use Rattle.refusals.specs.declared.Refusal.{Refusal}
+use Rattle.std.specs.Prelude.{Result}
+use Rattle.std.specs.Prelude.{Ok, Err}
 
 -- bytes 3 and 4
 abbrev pub resource_in : List ℕ → ℕ
@@ -46,26 +47,26 @@ abbrev pub bad_rows : Packet → ℕ → Bool
 bad_rows f n = eqb f.protection 1 && not (eqb ((n - 18) % 255) 0)
 
 -- refusals 4 to 8 of the fields of a packet of n bytes, or the fields; refusal 7 only where rows are judged
-unfoldable pub judged : Bool → Packet → ℕ → Reading
+unfoldable pub judged : Bool → Packet → ℕ → Result Packet Refusal
 judged rows f n =
-    cond (eqb f.kind 3) (Refused «Type»)
-    (cond (bad_protection f) (Refused Protection)
-    (cond (bad_number f) (Refused Number)
-    (cond (rows && bad_rows f n) (Refused Rows)
-    (cond (eqb f.resource 0) (Refused Resource) (Sent f)))))
+    cond (eqb f.kind 3) (Err «Type»)
+    (cond (bad_protection f) (Err Protection)
+    (cond (bad_number f) (Err Number)
+    (cond (rows && bad_rows f n) (Err Rows)
+    (cond (eqb f.resource 0) (Err Resource) (Ok f)))))
 
 -- the fields as sent, or the first refusal
-unfoldable pub read_by : Bool → List ℕ → Reading
+unfoldable pub read_by : Bool → List ℕ → Result Packet Refusal
 read_by rows q =
-    cond (ltb (length q) 19) (Refused Short)
-    (cond (not (marked q)) (Refused Mark)
-    (cond (not (eqb (fields_in q).length (length q))) (Refused Length) (judged rows (fields_in q) (length q))))
+    cond (ltb (length q) 19) (Err Short)
+    (cond (not (marked q)) (Err Mark)
+    (cond (not (eqb (fields_in q).length (length q))) (Err Length) (judged rows (fields_in q) (length q))))
 
 -- by the refusals 1 to 8; and by those but 7, which a packet in column order has not to pass (document 02, R-8)
-abbrev pub read_of : List ℕ → Reading
+abbrev pub read_of : List ℕ → Result Packet Refusal
 read_of = read_by true
 
-abbrev pub read_header_of : List ℕ → Reading
+abbrev pub read_header_of : List ℕ → Result Packet Refusal
 read_header_of = read_by false
 
 -- the fourteen bytes of a header; of a field the bits for which the table has room

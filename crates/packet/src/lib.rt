@@ -2,8 +2,6 @@
 // two editions (specs/), and what is proved of them (proofs/). They are read and written in crate fields; what an edition writes and shows is told in crate edition.
 #![tactic(auto)]
 
-use refusals::Refusal;
-
 // A packet's fields, as sent. `kind` is document 01's type: 0 stream, 1 file, 2 description file.
 #[derive(Clone, Copy)]
 pub struct Packet {
@@ -34,11 +32,4 @@ impl Packet {
     pub const LARGEST: usize = 4077;
     // The longest with protection: fifteen rows.
     pub const PROTECTED: usize = 3825;
-}
-
-// What reading a packet's fields finds.
-#[derive(Clone, Copy)]
-pub enum Reading {
-    Sent(Packet),
-    Refused(Refusal),
 }

@@ -11,11 +11,11 @@ use borrow.Author.Tests.{le-leb, leb-false, not-false}
 use lib.Dec.{leb}
 use lib.ListN.{length, get_or}
 use Rattle.places.specs.declared.Place.{Place}
-use Rattle.places.specs.declared.Found.TheVariants.{At, Nothing}
 use Rattle.places.specs.Places.{unused, in_use, usable, end_of, all}
 use Rattle.places.specs.Room.{clear, free, lowest_start}
 use Rattle.ground.proofs.Truth.{differ, neither, fails}
 use Rattle.places.proofs.Starts.{clear_apart, free_is, free-lowest, none-lowest}
+use Rattle.std.specs.Prelude.{Some, None}
 
 -- a place that is met at t and not at t + 1 is in use and ends at t + 1
 clear_edge : (t size : ℕ) (p : Place) → clear (suc t) size p ≡ true → clear t size p ≡ false → (in_use p ≡ true) × (end_of p ≡ suc t)
@@ -87,15 +87,15 @@ module _ (n size : ℕ) (ps : List Place) where
               let q = clear_edge t size (get_or ps k unused) (r.clears k l) m in
               rw q.1 at (h.least k (omega arith) q.0 (rw q.1 e)))
 
-      pub best_at : b ≤ usable n → lowest_start n size ps ≡ At b
+      pub best_at : b ≤ usable n → lowest_start n size ps ≡ Some b
       best_at l = free-lowest n size ps b (h.there l) lowest
 
-      pub best_nowhere : usable n < b → lowest_start n size ps ≡ Nothing
+      pub best_nowhere : usable n < b → lowest_start n size ps ≡ None
       best_nowhere l =
           none-lowest n size ps (λ s. fails (free n size ps s) (λ f. absurd (omega (arith, lowest s f, (free_is n size ps s f).ends))))
 
 -- the start 0 is the lowest if it is free
-pub lowest_zero : (n size : ℕ) (ps : List Place) → free n size ps 0 ≡ true → lowest_start n size ps ≡ At 0
+pub lowest_zero : (n size : ℕ) (ps : List Place) → free n size ps 0 ≡ true → lowest_start n size ps ≡ Some 0
 lowest_zero n size ps f = free-lowest n size ps 0 f (λ t g. omega arith)
 
 -- what the code's test of a start said, the end being that of the usable store

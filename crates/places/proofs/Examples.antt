@@ -9,10 +9,10 @@ use lib.ListN.{set}
 use Rattle.settings.specs.declared.Settings.{Settings}
 use Rattle.settings.specs.Settings.{settings_fit}
 use Rattle.places.specs.declared.Place.{Place}
-use Rattle.places.specs.declared.Found.{Found}
-use Rattle.places.specs.declared.Found.TheVariants.{At, Nothing}
 use Rattle.places.specs.Places.{unused, fresh_record, Name, same_name, cover_of, end_of, meets, place_of, ranges_fit, fits, agree, good, first_from, place_named, first_unused}
 use Rattle.places.specs.Room.{clear, free, lowest_from, lowest_start}
+use Rattle.std.specs.Prelude.{Option}
+use Rattle.std.specs.Prelude.{Some, None}
 
 abbrev asked : ℕ → Settings
 asked resource = record { resource = resource; kind = 1; update = 0; protection = 0; rows = 0; size = 8; edition = 2; order = 0 }
@@ -32,10 +32,10 @@ two = set one 1 (place_of (asked 9) 5 50)
 abbrev closed : List Place
 closed = set two 0 unused
 
-abbrev room : List Place → Found
+abbrev room : List Place → Option ℕ
 room ps = lowest_start 100 (cover_of 5 8) ps
 
-opens : (room fresh_record.places ≡ At 0) × (room one ≡ At 50) × (room two ≡ Nothing) × (room closed ≡ At 0)
+opens : (room fresh_record.places ≡ Some 0) × (room one ≡ Some 50) × (room two ≡ None) × (room closed ≡ Some 0)
 unfolding lowest_start lowest_from free clear end_of
 opens = (refl, refl, refl, refl)
 
@@ -43,6 +43,6 @@ judged : (good 100 two ≡ true) × (good 100 closed ≡ true)
 unfolding good fits agree same_name meets ranges_fit settings_fit end_of
 judged = (refl, refl)
 
-found : (first_unused two ≡ At 2) × (first_unused closed ≡ At 0) × (place_named two (file 9) ≡ At 1) × (place_named two (description 9) ≡ Nothing) × (place_named closed (file 7) ≡ Nothing)
+found : (first_unused two ≡ Some 2) × (first_unused closed ≡ Some 0) × (place_named two (file 9) ≡ Some 1) × (place_named two (description 9) ≡ None) × (place_named closed (file 7) ≡ None)
 unfolding first_from same_name
 found = (refl, refl, refl, refl, refl)

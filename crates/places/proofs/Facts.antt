@@ -13,13 +13,13 @@ use lib.ListN.{length, get_or}
 use Rattle.settings.specs.Settings.{settings_fit, rows_held}
 use Rattle.settings.proofs.Laws.{SettingsFacts, settings_facts}
 use Rattle.places.specs.declared.Place.{Place}
-use Rattle.places.specs.declared.Found.TheVariants.{At}
 use Rattle.places.specs.Places.{unused, in_use, Name, place_name, names, usable, end_of, settings_in, count_fits, ranges_fit, fits, good, place_named}
 use Rattle.ground.proofs.Truth.{and_both}
 use Rattle.places.proofs.Searches.{first_is}
 use Rattle.places.proofs.Named.{names_in_use, names-name}
 use Rattle.places.proofs.Agreeing.{agree-apart, agree-other}
 use Rattle.places.proofs.Keeping.{good-at, good_pair, fits_used}
+use Rattle.std.specs.Prelude.{Some}
 
 -- ---- the usable store
 
@@ -129,7 +129,7 @@ module _ (n : ℕ) (ps : List Place) (g : good n ps ≡ true) where
   pub good_facts : (i : ℕ) → i < length ps → in_use (get_or ps i unused) ≡ true → PlaceFacts n (get_or ps i unused)
   good_facts i h u = place_facts n (get_or ps i unused) (good-at n ps i g h) u
 
-  pub named_facts : (x : Name) (i : ℕ) → place_named ps x ≡ At i → PlaceFacts n (get_or ps i unused)
+  pub named_facts : (x : Name) (i : ℕ) → place_named ps x ≡ Some i → PlaceFacts n (get_or ps i unused)
   named_facts x i e =
       let r = first_is (λ p. names p x) ps i e in
       good_facts i r.within (names_in_use (get_or ps i unused) x r.passes)

@@ -9,36 +9,36 @@ use borrow.Author.Tests.{not-true, not-false}
 use lib.ListN.{length, get_or, set, length-set}
 use lib.Seq.{get_or-set_same, get_or-set_other}
 use Rattle.places.specs.declared.Place.{Place}
-use Rattle.places.specs.declared.Found.TheVariants.{At, Nothing}
 use Rattle.places.specs.Places.{unused, in_use, Name, place_name, names, good, place_named, first_unused}
 use Rattle.ground.proofs.Truth.{fails}
 use Rattle.places.proofs.Searches.{first_is, none_passes, first-none, first-only, first-set}
 use Rattle.places.proofs.Named.{names-no, names-unused, names_one}
 use Rattle.places.proofs.Keeping.{at_set}
 use Rattle.places.proofs.Facts.{one_holder}
+use Rattle.std.specs.Prelude.{Some, None}
 
 module _ (ps : List Place) where
   -- ---- found, and not found
 
-  pub found-names : (x : Name) (i : ℕ) → place_named ps x ≡ At i → (i < length ps) × (names (get_or ps i unused) x ≡ true)
+  pub found-names : (x : Name) (i : ℕ) → place_named ps x ≡ Some i → (i < length ps) × (names (get_or ps i unused) x ≡ true)
   found-names x i e = let r = first_is (λ p. names p x) ps i e in (r.within, r.passes)
 
-  pub found_first : (x : Name) (i : ℕ) → place_named ps x ≡ At i → (k : ℕ) → k < i → names (get_or ps k unused) x ≡ false
+  pub found_first : (x : Name) (i : ℕ) → place_named ps x ≡ Some i → (k : ℕ) → k < i → names (get_or ps k unused) x ≡ false
   found_first x i e = (first_is (λ p. names p x) ps i e).earlier
 
-  pub missing_names : (x : Name) → place_named ps x ≡ Nothing → (k : ℕ) → k < length ps → names (get_or ps k unused) x ≡ false
+  pub missing_names : (x : Name) → place_named ps x ≡ None → (k : ℕ) → k < length ps → names (get_or ps k unused) x ≡ false
   missing_names x = none_passes (λ p. names p x) ps 0
 
-  pub names_missing : (x : Name) → ((k : ℕ) → k < length ps → names (get_or ps k unused) x ≡ false) → place_named ps x ≡ Nothing
+  pub names_missing : (x : Name) → ((k : ℕ) → k < length ps → names (get_or ps k unused) x ≡ false) → place_named ps x ≡ None
   names_missing x = first-none (λ p. names p x) ps 0
 
-  pub unused-at : (i : ℕ) → first_unused ps ≡ At i → (i < length ps) × (in_use (get_or ps i unused) ≡ false)
+  pub unused-at : (i : ℕ) → first_unused ps ≡ Some i → (i < length ps) × (in_use (get_or ps i unused) ≡ false)
   unused-at i e = let r = first_is (λ p. not (in_use p)) ps i e in (r.within, not-true _ r.passes)
 
-  pub unused-first : (i : ℕ) → first_unused ps ≡ At i → (k : ℕ) → k < i → in_use (get_or ps k unused) ≡ true
+  pub unused-first : (i : ℕ) → first_unused ps ≡ Some i → (k : ℕ) → k < i → in_use (get_or ps k unused) ≡ true
   unused-first i e k h = not-false _ ((first_is (λ p. not (in_use p)) ps i e).earlier k h)
 
-  pub unused-none : first_unused ps ≡ Nothing → (k : ℕ) → k < length ps → in_use (get_or ps k unused) ≡ true
+  pub unused-none : first_unused ps ≡ None → (k : ℕ) → k < length ps → in_use (get_or ps k unused) ≡ true
   unused-none e k h = not-false _ (none_passes (λ p. not (in_use p)) ps 0 e k h)
 
   -- ---- after place i is set to p
@@ -56,7 +56,7 @@ module _ (ps : List Place) where
     named_set x e = first-set (λ q. names q x) ps 0 i p e
 
     -- a name that no place had is found at a place that names it now
-    pub named_new : (x : Name) → place_named ps x ≡ Nothing → i < length ps → names p x ≡ true → place_named (set ps i p) x ≡ At i
+    pub named_new : (x : Name) → place_named ps x ≡ None → i < length ps → names p x ≡ true → place_named (set ps i p) x ≡ Some i
     named_new x e h t =
         first-only (λ q. names q x) (set ps i p) i (omega (arith, length-set ps i p)) (rw (get_or-set_same ps i p unused h) t)
         (λ k l d. at_set ps i p (λ q. names q x ≡ false) k (omega (arith, length-set ps i p)) (λ z. absurd (d z)) (λ _. missing_names x e k (omega (arith, length-set ps i p))))
@@ -68,7 +68,7 @@ module _ (ps : List Place) where
   -- ---- after place i is made unused
 
   -- what it held is found no more
-  pub named-gone : (n : ℕ) (x : Name) (i : ℕ) → good n ps ≡ true → place_named ps x ≡ At i → place_named (set ps i unused) x ≡ Nothing
+  pub named-gone : (n : ℕ) (x : Name) (i : ℕ) → good n ps ≡ true → place_named ps x ≡ Some i → place_named (set ps i unused) x ≡ None
   named-gone n x i g e =
       let r = found-names x i e in
       first-none (λ q. names q x) (set ps i unused) 0
@@ -78,5 +78,5 @@ module _ (ps : List Place) where
       (λ d. fails (names (get_or ps k unused) x) (λ t. d (one_holder n ps g k i hk r.0 x t r.1))))
 
   -- every other is found where it was
-  pub named-left : (x y : Name) (i : ℕ) → place_named ps x ≡ At i → (y ≡ x → ⊥) → place_named (set ps i unused) y ≡ place_named ps y
+  pub named-left : (x y : Name) (i : ℕ) → place_named ps x ≡ Some i → (y ≡ x → ⊥) → place_named (set ps i unused) y ≡ place_named ps y
   named-left x y i e d = named_set i unused y (sym (names_one (get_or ps i unused) x y (found-names x i e).1 d))

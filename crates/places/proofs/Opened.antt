@@ -13,7 +13,6 @@ use Rattle.settings.specs.declared.Settings.{Settings}
 use Rattle.settings.specs.Settings.{settings_fit}
 use Rattle.settings.proofs.Laws.{settings_facts}
 use Rattle.places.specs.declared.Place.{Place}
-use Rattle.places.specs.declared.Found.TheVariants.{At, Nothing}
 use Rattle.places.specs.Places.{unused, fresh_record, in_use, place_name, settings_name, names, usable, cover_of, end_of, settings_in, place_of, count_fits, ranges_fit, fits, agree, good, place_named}
 use Rattle.places.specs.Room.{clear, free, lowest_start}
 use Rattle.ground.proofs.Truth.{differ, and_join, or_right, fails}
@@ -23,6 +22,7 @@ use Rattle.places.proofs.Keeping.{good-set}
 use Rattle.places.proofs.Holders.{missing_names}
 use Rattle.places.proofs.Starts.{clear_apart, free_is, is_free, lowest-free, none-lowest}
 use Rattle.places.proofs.Candidates.{lowest_zero}
+use Rattle.std.specs.Prelude.{Some, None}
 
 -- ---- the new place fits
 
@@ -75,7 +75,7 @@ settings_resource : (g : Settings) → settings_fit g ≡ true → g.resource �
 settings_resource g s z = omega (arith, (settings_facts g s).resource)
 
 -- a good record stays good where a place of a name that no place holds is set on free bytes
-module _ (n : ℕ) (ps : List Place) (g : Settings) (count start i : ℕ) (s : settings_fit g ≡ true) (k : count_fits count ≡ true) (m : place_named ps (settings_name g) ≡ Nothing) (h : good n ps ≡ true) where
+module _ (n : ℕ) (ps : List Place) (g : Settings) (count start i : ℕ) (s : settings_fit g ≡ true) (k : count_fits count ≡ true) (m : place_named ps (settings_name g) ≡ None) (h : good n ps ≡ true) where
   pub placed-good : free n (cover_of count g.size) ps start ≡ true → good n (set ps i (place_of g count start)) ≡ true
   placed-good f =
       let r = free_is n (cover_of count g.size) ps start f in
@@ -83,7 +83,7 @@ module _ (n : ℕ) (ps : List Place) (g : Settings) (count start i : ℕ) (s : s
       (λ j l d. placed-agrees g count start (get_or ps j unused) (settings_resource g s) (missing_names ps (settings_name g) m j l) (r.clears j l))
 
   -- as Open does, at the lowest start
-  pub opened-good : lowest_start n (cover_of count g.size) ps ≡ At start → good n (set ps i (place_of g count start)) ≡ true
+  pub opened-good : lowest_start n (cover_of count g.size) ps ≡ Some start → good n (set ps i (place_of g count start)) ≡ true
   opened-good e = placed-good (lowest-free n (cover_of count g.size) ps start e)
 
 -- over a fresh record any size that fits the store starts at 0, and no other has a start
@@ -91,12 +91,12 @@ pub fresh-clear : (s size : ℕ) (i : ℕ) → i < 8 → clear s size (get_or fr
 unfolding clear
 fresh-clear s size i h = rw (get_or-replicate 8 i unused unused h)
 
-pub fresh-lowest : (n size : ℕ) → size ≤ usable n → lowest_start n size fresh_record.places ≡ At 0
+pub fresh-lowest : (n size : ℕ) → size ≤ usable n → lowest_start n size fresh_record.places ≡ Some 0
 fresh-lowest n size h =
     lowest_zero n size fresh_record.places
     (is_free n size fresh_record.places 0 (record { ends = omega arith; clears = fresh-clear 0 size }))
 
-pub fresh-nowhere : (n size : ℕ) → usable n < size → lowest_start n size fresh_record.places ≡ Nothing
+pub fresh-nowhere : (n size : ℕ) → usable n < size → lowest_start n size fresh_record.places ≡ None
 fresh-nowhere n size h =
     none-lowest n size fresh_record.places
     (λ s. fails (free n size fresh_record.places s) (λ f. absurd (omega (arith, (free_is n size fresh_record.places s f).ends))))

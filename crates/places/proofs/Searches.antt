@@ -8,8 +8,8 @@ use native.Mathlib.Nat.{add-zero, zero-add, add-suc, suc-add}
 use native.Mathlib.Omega.{arith}
 use lib.ListN.{length, get_or, set}
 use Rattle.places.specs.declared.Place.{Place}
-use Rattle.places.specs.declared.Found.TheVariants.{At, Nothing}
 use Rattle.places.specs.Places.{unused, first_from}
+use Rattle.std.specs.Prelude.{Some, None}
 
 module _ (f : Place → Bool) where
   -- place i passes and no earlier one does
@@ -33,55 +33,55 @@ module _ (f : Place → Bool) where
       record { within = omega (arith, r.within); passes = r.passes; earlier = λ k h. r.earlier (suc k) (omega arith) }
 
   -- the first of ps being number j
-  from_first : (ps : List Place) (j i : ℕ) → First ps i → first_from f ps j ≡ At (j + i)
+  from_first : (ps : List Place) (j i : ℕ) → First ps i → first_from f ps j ≡ Some (j + i)
   unfolding first_from
   from_first [] j i r = absurd (omega (arith, r.within))
   from_first (p ∷ ps) j zero r = rw (r.passes, add-zero)
-  from_first (p ∷ ps) j (suc i) r = rw (r.earlier 0 (omega arith), add-suc) (from_first ps (suc j) i (tail_first p ps i r) ∙ ap At (suc-add j i))
+  from_first (p ∷ ps) j (suc i) r = rw (r.earlier 0 (omega arith), add-suc) (from_first ps (suc j) i (tail_first p ps i r) ∙ ap Some (suc-add j i))
 
   record Counted (ps : List Place) (j i : ℕ) : Type 0 where
     place : ℕ
     number : i ≡ j + place
     first : First ps place
 
-  first_from_lem : (ps : List Place) (j i : ℕ) → first_from f ps j ≡ At i → Counted ps j i
+  first_from_lem : (ps : List Place) (j i : ℕ) → first_from f ps j ≡ Some i → Counted ps j i
   unfolding first_from
   first_from_lem [] j i e = let z : ◌≡◌ {A = ℕ} 0 1 = cc in absurd (omega arith)
   first_from_lem (p ∷ ps) j i e = by (first_from_lem ps (suc j) i) (f p) refl e
     where
-      by : (first_from f ps (suc j) ≡ At i → Counted ps (suc j) i) → (b : Bool) → f p ≡ b → cond b (At j) (first_from f ps (suc j)) ≡ At i → Counted (p ∷ ps) j i
+      by : (first_from f ps (suc j) ≡ Some i → Counted ps (suc j) i) → (b : Bool) → f p ≡ b → cond b (Some j) (first_from f ps (suc j)) ≡ Some i → Counted (p ∷ ps) j i
       by ih true t e = let z : j ≡ i = cc in record { place = 0; number = omega arith; first = first_head p ps t }
       by ih false t e =
           let r = ih e in
           record { place = suc r.place; number = omega (arith, r.number); first = first_tail p ps r.place t r.first }
 
-  pub first_is : (ps : List Place) (i : ℕ) → first_from f ps 0 ≡ At i → First ps i
+  pub first_is : (ps : List Place) (i : ℕ) → first_from f ps 0 ≡ Some i → First ps i
   first_is ps i e =
       let r = first_from_lem ps 0 i e in
       let q : r.place ≡ i = omega (arith, r.number) in
       rw q at r.first
 
-  pub is_first : (ps : List Place) (i : ℕ) → First ps i → first_from f ps 0 ≡ At i
-  is_first ps i r = from_first ps 0 i r ∙ ap At (zero-add i)
+  pub is_first : (ps : List Place) (i : ℕ) → First ps i → first_from f ps 0 ≡ Some i
+  is_first ps i r = from_first ps 0 i r ∙ ap Some (zero-add i)
 
   -- no place passes exactly if none is found
-  pub none_passes : (ps : List Place) (j : ℕ) → first_from f ps j ≡ Nothing → (k : ℕ) → k < length ps → f (get_or ps k unused) ≡ false
+  pub none_passes : (ps : List Place) (j : ℕ) → first_from f ps j ≡ None → (k : ℕ) → k < length ps → f (get_or ps k unused) ≡ false
   unfolding first_from
   none_passes [] j e k h = absurd (omega arith)
   none_passes (p ∷ ps) j e k h = by (none_passes ps (suc j)) (f p) refl e k h
     where
-      by : (first_from f ps (suc j) ≡ Nothing → (k : ℕ) → k < length ps → f (get_or ps k unused) ≡ false) → (b : Bool) → f p ≡ b → cond b (At j) (first_from f ps (suc j)) ≡ Nothing → (k : ℕ) → k < suc (length ps) → f (get_or (p ∷ ps) k unused) ≡ false
+      by : (first_from f ps (suc j) ≡ None → (k : ℕ) → k < length ps → f (get_or ps k unused) ≡ false) → (b : Bool) → f p ≡ b → cond b (Some j) (first_from f ps (suc j)) ≡ None → (k : ℕ) → k < suc (length ps) → f (get_or (p ∷ ps) k unused) ≡ false
       by ih true t e k h = let z : ◌≡◌ {A = ℕ} 0 1 = cc in absurd (omega arith)
       by ih false t e zero h = t
       by ih false t e (suc k) h = ih e k (omega arith)
 
-  pub first-none : (ps : List Place) (j : ℕ) → ((k : ℕ) → k < length ps → f (get_or ps k unused) ≡ false) → first_from f ps j ≡ Nothing
+  pub first-none : (ps : List Place) (j : ℕ) → ((k : ℕ) → k < length ps → f (get_or ps k unused) ≡ false) → first_from f ps j ≡ None
   unfolding first_from
   first-none [] j h = refl
   first-none (p ∷ ps) j h = rw (h 0 (omega arith)) (first-none ps (suc j) (λ k l. h (suc k) (omega arith)))
 
   -- the only place that passes is found
-  pub first-only : (ps : List Place) (i : ℕ) → i < length ps → f (get_or ps i unused) ≡ true → ((k : ℕ) → k < length ps → (k ≡ i → ⊥) → f (get_or ps k unused) ≡ false) → first_from f ps 0 ≡ At i
+  pub first-only : (ps : List Place) (i : ℕ) → i < length ps → f (get_or ps i unused) ≡ true → ((k : ℕ) → k < length ps → (k ≡ i → ⊥) → f (get_or ps k unused) ≡ false) → first_from f ps 0 ≡ Some i
   first-only ps i h t o =
       is_first ps i (record { within = h; passes = t; earlier = λ k l. o k (omega arith) (λ z. omega arith) })
 

@@ -10,11 +10,11 @@ use borrow.Author.Tests.{le-leb, leb-true}
 use lib.Dec.{leb}
 use lib.ListN.{length, get_or}
 use Rattle.places.specs.declared.Place.{Place}
-use Rattle.places.specs.declared.Found.TheVariants.{At, Nothing}
 use Rattle.places.specs.Places.{unused, in_use, usable, end_of, all}
 use Rattle.places.specs.Room.{clear, free, lowest_from, lowest_start}
 use Rattle.ground.proofs.Truth.{differ, and_both, and_join, either, fails}
 use Rattle.places.proofs.Steps.{all-at, all_of}
+use Rattle.std.specs.Prelude.{Some, None}
 
 -- ---- the first number at which a test passes
 
@@ -25,12 +25,12 @@ module _ (f : ℕ → Bool) where
     below : b < s + m
     least : (k : ℕ) → s ≤ k → f k ≡ true → b ≤ k
 
-  least_is : (s m b : ℕ) → lowest_from f s m ≡ At b → Least s m b
+  least_is : (s m b : ℕ) → lowest_from f s m ≡ Some b → Least s m b
   unfolding lowest_from
   least_is s zero b e = let z : ◌≡◌ {A = ℕ} 0 1 = cc in absurd (omega arith)
   least_is s (suc m) b e = by (least_is (suc s) m b) (f s) refl e
     where
-      by : (lowest_from f (suc s) m ≡ At b → Least (suc s) m b) → (x : Bool) → f s ≡ x → cond x (At s) (lowest_from f (suc s) m) ≡ At b → Least s (suc m) b
+      by : (lowest_from f (suc s) m ≡ Some b → Least (suc s) m b) → (x : Bool) → f s ≡ x → cond x (Some s) (lowest_from f (suc s) m) ≡ Some b → Least s (suc m) b
       by ih true t e =
           let z : s ≡ b = cc in
           record { passes = rw z at t; from = omega arith; below = omega arith; least = λ k h g. omega arith }
@@ -45,7 +45,7 @@ module _ (f : ℕ → Bool) where
                 r.least k (omega arith) g;
           }
 
-  none-least : (s m : ℕ) → lowest_from f s m ≡ Nothing → (k : ℕ) → s ≤ k → k < s + m → f k ≡ false
+  none-least : (s m : ℕ) → lowest_from f s m ≡ None → (k : ℕ) → s ≤ k → k < s + m → f k ≡ false
   unfolding lowest_from
   none-least s zero e k h l = absurd (omega arith)
   none-least s (suc m) e k h l = by (none-least (suc s) m) (f s) refl e
@@ -53,28 +53,28 @@ module _ (f : ℕ → Bool) where
       at : s ≡ k → f s ≡ false → f k ≡ false
       at z t = rw z at t
 
-      by : (lowest_from f (suc s) m ≡ Nothing → (k : ℕ) → suc s ≤ k → k < suc s + m → f k ≡ false) → (x : Bool) → f s ≡ x → cond x (At s) (lowest_from f (suc s) m) ≡ Nothing → f k ≡ false
+      by : (lowest_from f (suc s) m ≡ None → (k : ℕ) → suc s ≤ k → k < suc s + m → f k ≡ false) → (x : Bool) → f s ≡ x → cond x (Some s) (lowest_from f (suc s) m) ≡ None → f k ≡ false
       by ih true t e = let z : ◌≡◌ {A = ℕ} 0 1 = cc in absurd (omega arith)
       by ih false t e =
           fails (f k) (λ g. let ne : s ≡ k → ⊥ = λ z. differ (sym g ∙ at z t) in differ (sym g ∙ ih e k (omega arith) (omega arith)))
 
-  is_least : (s m b : ℕ) → Least s m b → lowest_from f s m ≡ At b
+  is_least : (s m b : ℕ) → Least s m b → lowest_from f s m ≡ Some b
   unfolding lowest_from
   is_least s zero b r = absurd (omega (arith, r.from, r.below))
   is_least s (suc m) b r = by (is_least (suc s) m b) (f s) refl
     where
-      by : (Least (suc s) m b → lowest_from f (suc s) m ≡ At b) → (x : Bool) → f s ≡ x → cond x (At s) (lowest_from f (suc s) m) ≡ At b
-      by ih true t = let z : s ≡ b = omega (arith, r.from, r.least s (omega arith) t) in ap At z
+      by : (Least (suc s) m b → lowest_from f (suc s) m ≡ Some b) → (x : Bool) → f s ≡ x → cond x (Some s) (lowest_from f (suc s) m) ≡ Some b
+      by ih true t = let z : s ≡ b = omega (arith, r.from, r.least s (omega arith) t) in ap Some z
       by ih false t =
           let ne : s ≡ b → ⊥ = λ z. true≢false (sym r.passes ∙ sym (ap f z) ∙ t) in
           ih (record { passes = r.passes; from = omega (arith, r.from); below = omega (arith, r.below); least = λ k h g. r.least k (omega arith) g })
 
-  is_none_lem : (s m : ℕ) → ((k : ℕ) → f k ≡ true → s + m ≤ k) → lowest_from f s m ≡ Nothing
+  is_none_lem : (s m : ℕ) → ((k : ℕ) → f k ≡ true → s + m ≤ k) → lowest_from f s m ≡ None
   unfolding lowest_from
   is_none_lem s zero h = refl
   is_none_lem s (suc m) h = by (is_none_lem (suc s) m (λ k t. omega (arith, h k t))) (f s) refl
     where
-      by : lowest_from f (suc s) m ≡ Nothing → (x : Bool) → f s ≡ x → cond x (At s) (lowest_from f (suc s) m) ≡ Nothing
+      by : lowest_from f (suc s) m ≡ None → (x : Bool) → f s ≡ x → cond x (Some s) (lowest_from f (suc s) m) ≡ None
       by ih true t = absurd (omega (arith, h s t))
       by ih false t = ih
 
@@ -102,29 +102,29 @@ module _ (n size : ℕ) (ps : List Place) where
   is_free s r = and_join (le-leb _ _ r.ends) (all_of (clear s size) ps r.clears)
 
   -- the lowest start is free, and no lower one is
-  pub lowest-free : (s : ℕ) → lowest_start n size ps ≡ At s → free n size ps s ≡ true
+  pub lowest-free : (s : ℕ) → lowest_start n size ps ≡ Some s → free n size ps s ≡ true
   unfolding lowest_start
   lowest-free s e = (least_is (free n size ps) 0 (suc (usable n)) s e).passes
 
-  pub lowest-ends : (s : ℕ) → lowest_start n size ps ≡ At s → s + size ≤ usable n
+  pub lowest-ends : (s : ℕ) → lowest_start n size ps ≡ Some s → s + size ≤ usable n
   lowest-ends s e = (free_is s (lowest-free s e)).ends
 
-  pub lowest-least : (s : ℕ) → lowest_start n size ps ≡ At s → (t : ℕ) → free n size ps t ≡ true → s ≤ t
+  pub lowest-least : (s : ℕ) → lowest_start n size ps ≡ Some s → (t : ℕ) → free n size ps t ≡ true → s ≤ t
   unfolding lowest_start
   lowest-least s e t f = (least_is (free n size ps) 0 (suc (usable n)) s e).least t (omega arith) f
 
   -- there is none exactly if no start is free
-  pub lowest-none : lowest_start n size ps ≡ Nothing → (s : ℕ) → free n size ps s ≡ false
+  pub lowest-none : lowest_start n size ps ≡ None → (s : ℕ) → free n size ps s ≡ false
   unfolding lowest_start
   lowest-none e s =
       fails (free n size ps s)
       (λ f. differ (sym f ∙ none-least (free n size ps) 0 (suc (usable n)) e s (omega arith) (omega (arith, (free_is s f).ends))))
 
-  pub none-lowest : ((s : ℕ) → free n size ps s ≡ false) → lowest_start n size ps ≡ Nothing
+  pub none-lowest : ((s : ℕ) → free n size ps s ≡ false) → lowest_start n size ps ≡ None
   unfolding lowest_start
   none-lowest h = is_none_lem (free n size ps) 0 (suc (usable n)) (λ k f. differ (sym f ∙ h k))
 
-  pub free-lowest : (s : ℕ) → free n size ps s ≡ true → ((t : ℕ) → free n size ps t ≡ true → s ≤ t) → lowest_start n size ps ≡ At s
+  pub free-lowest : (s : ℕ) → free n size ps s ≡ true → ((t : ℕ) → free n size ps t ≡ true → s ≤ t) → lowest_start n size ps ≡ Some s
   unfolding lowest_start
   free-lowest s f l =
       is_least (free n size ps) 0 (suc (usable n)) s

@@ -9,16 +9,16 @@ use native.Mathlib.Omega.{arith}
 use lib.ListN.{length, get_or, drop, drop_of_length-le, length-map}
 use lib.Seq.{drop-cons}
 use Rattle.places.specs.declared.Place.{Place}
-use Rattle.places.specs.declared.Found.TheVariants.{At, Nothing}
 use Rattle.places.specs.Places.{unused, all, agree, fits, good, first_from}
 use Rattle.ground.proofs.Truth.{and_both, and_join}
+use Rattle.std.specs.Prelude.{Some, None}
 
 -- the length of an array of structs, from what owning it tells: `search (needs, mapped_length)`
 pub mapped_length : (X Y : Type 0) (f : X → Y) (l : List X) (n : ℕ) → length (map f l) ≡ n → length l ≡ n
 mapped_length X Y f l n e = sym (length-map l f) ∙ e
 
 module _ (f : Place → Bool) (ps : List Place) (i : ℕ) where
-  pub first_hit : i < length ps → f (get_or ps i unused) ≡ true → first_from f (drop i ps) i ≡ At i
+  pub first_hit : i < length ps → f (get_or ps i unused) ≡ true → first_from f (drop i ps) i ≡ Some i
   unfolding first_from
   first_hit h e = rw (drop-cons ps i unused, e)
 
@@ -26,7 +26,7 @@ module _ (f : Place → Bool) (ps : List Place) (i : ℕ) where
   unfolding first_from
   first_miss h e = rw (add-one, drop-cons ps i unused, e)
 
-  pub first_end : length ps ≤ i → first_from f (drop i ps) i ≡ Nothing
+  pub first_end : length ps ≤ i → first_from f (drop i ps) i ≡ None
   unfolding first_from
   first_end h = rw (drop_of_length-le ps h)
 

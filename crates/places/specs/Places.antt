@@ -5,8 +5,8 @@ use Rattle.settings.specs.declared.Settings.{Settings}
 use Rattle.settings.specs.Settings.{row_wise, settings_fit, rows_held}
 use Rattle.places.specs.declared.Place.{Place}
 use Rattle.places.specs.declared.Record.{Record}
-use Rattle.places.specs.declared.Found.{Found}
-use Rattle.places.specs.declared.Found.TheVariants.{At, Nothing}
+use Rattle.std.specs.Prelude.{Option}
+use Rattle.std.specs.Prelude.{Some, None}
 
 -- an unused place, as in a fresh record
 abbrev pub unused : Place
@@ -100,13 +100,13 @@ good n [] = true
 good n (p ∷ ps) = fits n p && (all (agree p) ps && good n ps)
 
 -- the first place that passes, the first of ps being number i
-unfoldable pub first_from : (Place → Bool) → List Place → ℕ → Found
-first_from f [] i = Nothing
-first_from f (p ∷ ps) i = cond (f p) (At i) (first_from f ps (suc i))
+unfoldable pub first_from : (Place → Bool) → List Place → ℕ → Option ℕ
+first_from f [] i = None
+first_from f (p ∷ ps) i = cond (f p) (Some i) (first_from f ps (suc i))
 
 -- the place of a resource and type, and the first unused one
-abbrev pub place_named : List Place → Name → Found
+abbrev pub place_named : List Place → Name → Option ℕ
 place_named ps x = first_from (λ p. names p x) ps 0
 
-abbrev pub first_unused : List Place → Found
+abbrev pub first_unused : List Place → Option ℕ
 first_unused ps = first_from (λ p. not (in_use p)) ps 0

@@ -27,13 +27,6 @@ pub struct Record {
     pub places: [Place; 8],
 }
 
-// A number that was looked for, or that there is none.
-#[derive(Clone, Copy)]
-pub enum Found {
-    At(usize),
-    Nothing,
-}
-
 // A record whose places are all unused.
 pub fn fresh() -> Record
     ensures { result ≡ fresh_record }
@@ -69,31 +62,31 @@ pub fn holds(p: Place, resource: u16, kind: u8) -> bool
 }
 
 // The place that holds a resource and a type.
-pub fn find_place(held: Record, resource: u16, kind: u8) -> Found
+pub fn find_place(held: Record, resource: u16, kind: u8) -> Option<usize>
     ensures { result ≡ place_named held.places (record { resource = resource; kind = kind }) }
 {
     let mut i: usize = 0;
     while i < 8 {
         if holds(held.places[i], resource, kind) {
-            return Found::At(i);
+            return Some(i);
         }
         i += 1;
     }
-    Found::Nothing
+    None
 }
 
 // The first unused place.
-pub fn find_unused(held: Record) -> Found
+pub fn find_unused(held: Record) -> Option<usize>
     ensures { result ≡ first_unused held.places }
 {
     let mut i: usize = 0;
     while i < 8 {
         if held.places[i].resource == 0 {
-            return Found::At(i);
+            return Some(i);
         }
         i += 1;
     }
-    Found::Nothing
+    None
 }
 
 // The bytes that `count` slots for `size` bytes cover.

@@ -15,8 +15,6 @@ use Rattle.settings.specs.declared.Settings.{Settings}
 use Rattle.settings.proofs.Laws.{settings_facts}
 use Rattle.pack.specs.Pack.{count_of, packet_of}
 use Rattle.places.specs.declared.Place.{Place}
-use Rattle.places.specs.declared.Found.{Found}
-use Rattle.places.specs.declared.Found.TheVariants.{At, Nothing}
 use Rattle.places.specs.Places.{Name, settings_name, unused, in_use, end_of, fresh_record, place_of, first_from, first_unused, place_named}
 use Rattle.places.specs.Room.{clear, free, lowest_start}
 use Rattle.places.proofs.Named.{in_use_lem, name-same}
@@ -40,6 +38,8 @@ use Rattle.promises.proofs.Own.{fair_each, whole_copy, own, own-before, own_behi
 use Rattle.promises.proofs.Sequences.{two_sequences}
 use Rattle.promises.proofs.Demand.{demand_3}
 use Rattle.promises.proofs.Fresh.{within-usable, counted, takes, taken, opens}
+use Rattle.std.specs.Prelude.{Option}
+use Rattle.std.specs.Prelude.{Some, None}
 
 -- a packet names one resource and type alone
 one_name : (o r : Name) (q : List ℕ) → (o ≡ r → ⊥) → names o q ≡ true → names r q ≡ false
@@ -110,11 +110,11 @@ module _ (g d : Settings) (file text : List ℕ) (pg : Protected g file) (pd : P
   first_used : in_use first ≡ true
   first_used = in_use_lem first (λ z. omega (arith, (settings_facts g pg.fit).resource))
 
-  next-unused : first_unused one_open ≡ At 1
+  next-unused : first_unused one_open ≡ Some 1
   unfolding first_from
   next-unused = rw first_used
 
-  absent : place_named one_open (settings_name d) ≡ Nothing
+  absent : place_named one_open (settings_name d) ≡ None
   unfolding first_from
   absent = open_named-other fresh_record (length s) g (count_of g (length file)) 0 0 taking_first (settings_name d) apart
 
@@ -133,8 +133,8 @@ module _ (g d : Settings) (file text : List ℕ) (pg : Protected g file) (pd : P
   second : (start : ℕ) × Taking (record { places = one_open }) (length s) d (count_of d (length text)) 1 start
   second = by (lowest_start (length s) (room_of d text) one_open) refl
     where
-      by : (w : Found) → lowest_start (length s) (room_of d text) one_open ≡ w → (start : ℕ) × Taking (record { places = one_open }) (length s) d (count_of d (length text)) 1 start
-      by (At start) e = (
+      by : (w : Option ℕ) → lowest_start (length s) (room_of d text) one_open ≡ w → (start : ℕ) × Taking (record { places = one_open }) (length s) d (count_of d (length text)) 1 start
+      by (Some start) e = (
         start,
         record {
           fitting = record { sound = open_good fresh_record (length s) g (count_of g (length file)) 0 0 taking_first; fits = pd.fit; counted = counted d text pd };
@@ -143,7 +143,7 @@ module _ (g d : Settings) (file text : List ℕ) (pg : Protected g file) (pd : P
           lowest = e;
         },
       )
-      by Nothing e = differ (sym free-behind ∙ lowest-none (length s) (room_of d text) one_open e (room_of g file))
+      by None e = differ (sym free-behind ∙ lowest-none (length s) (room_of d text) one_open e (room_of g file))
 
   opens-beside : (step (opening d (count_of d (length text))) (opened step g file (fresh s))).answer ≡ telling (accepted_with [])
   unfolding step
@@ -171,9 +171,9 @@ pub streams_unknown : StreamsUnknown step
 unfolding step
 streams_unknown x q f g read stream = by (place_named x.held.places (packet_name f)) refl
   where
-    by : (w : Found) → place_named x.held.places (packet_name f) ≡ w → offered_told (offer_of x.held x.store q).answer ≡ refused_as Unknown
-    by Nothing e = ap (λ (o : Offering). offered_told o.answer) (offer_unknown x.held x.store q g f read e)
-    by (At i) e =
+    by : (w : Option ℕ) → place_named x.held.places (packet_name f) ≡ w → offered_told (offer_of x.held x.store q).answer ≡ refused_as Unknown
+    by None e = ap (λ (o : Offering). offered_told o.answer) (offer_unknown x.held x.store q g f read e)
+    by (Some i) e =
         let some : 0 < f.kind =
         no_stream (length x.store) (get_or x.held.places i unused) f (named_facts (length x.store) x.held.places g (packet_name f) i e) (found-names x.held.places (packet_name f) i e).1 in
         absurd (omega arith)

@@ -13,15 +13,12 @@ use Rattle.refusals.specs.Told.{refused_as, verdict_told}
 use Rattle.refusals.proofs.Told.{verdict_accepted}
 use Rattle.ground.proofs.Numbers.{same_or_not}
 use Rattle.packet.specs.declared.Packet.{Packet}
-use Rattle.packet.specs.declared.Reading.{Reading}
-use Rattle.packet.specs.declared.Reading.TheVariants.{Sent}
 use Rattle.settings.specs.declared.Settings.{Settings}
 use Rattle.packet.specs.Packet.{read_by}
 use Rattle.layout.specs.Layout.{tables_of}
 use Rattle.pack.specs.Pack.{count_of, payload_of}
 use Rattle.pack.proofs.Laws.{fields_of}
 use Rattle.places.specs.declared.Place.{Place}
-use Rattle.places.specs.declared.Found.TheVariants.{At, Nothing}
 use Rattle.places.specs.Places.{settings_name, same_name, unused, good, place_named, place_of}
 use Rattle.ground.proofs.Truth.{and_both}
 use Rattle.places.proofs.Named.{name-same, other_name}
@@ -45,6 +42,10 @@ use Rattle.promises.specs.Statements.{Protected, Copy, BringsNoOther, Fair, AllF
 use Rattle.promises.proofs.Judged.{copy_reads, copy-judged, copy_name}
 use Rattle.promises.proofs.Whole.{contents-handed, contents-refused}
 use Rattle.promises.proofs.Views.{Kept, step-leaves}
+use Rattle.refusals.specs.declared.Refusal.{Refusal}
+use Rattle.std.specs.Prelude.{Result}
+use Rattle.std.specs.Prelude.{Ok, Err}
+use Rattle.std.specs.Prelude.{Some, None}
 
 -- ---- a good record stays good
 
@@ -77,7 +78,7 @@ module _ (g : Settings) (file : List ℕ) (p : Protected g file) (i start : ℕ)
 
   pub record Collecting (x : State) : Type 0 where
     pub sound : good (length x.store) x.held.places ≡ true
-    pub named : place_named x.held.places (settings_name g) ≡ At i
+    pub named : place_named x.held.places (settings_name g) ≡ Some i
     pub place : get_or x.held.places i unused ≡ own
     pub slots : (k : ℕ) → k < count_of g (length file) → (slot_in_lem k x ≡ holding []) ⊎ (slot_in_lem k x ≡ holding (payload_of g file k))
 
@@ -121,7 +122,7 @@ module _ (g : Settings) (file : List ℕ) (p : Protected g file) (i start : ℕ)
       refusal o (refuse r) e = rw (refused-record x.held x.store s count r e, refused-store x.held x.store s count r e) (stays x c)
       refusal o (taken j at) e =
           let t = taking x.held (length x.store) s count j at e in
-          let n : At i ≡ Nothing = sym c.named ∙ ap (place_named x.held.places) (sym o) ∙ t.absent in
+          let n : Some i ≡ None = sym c.named ∙ ap (place_named x.held.places) (sym o) ∙ t.absent in
           let z : ◌≡◌ {A = ℕ} 0 1 = cc in
           absurd (omega arith)
 
@@ -142,10 +143,10 @@ module _ (g : Settings) (file : List ℕ) (p : Protected g file) (i start : ℕ)
   -- an offer that names the file is read as the file's place has it read
   pub read-there : (x : State) → Collecting x → (q : List ℕ) → name_in q ≡ settings_name g → read_for x.held q ≡ read_by (not (eqb g.order 1)) q
   read-there x c q z =
-      read_found x.held q (At i) (ap (place_named x.held.places) z ∙ c.named) ∙ ap (λ (o : Place). read_by (not (eqb o.order 1)) q) c.place
+      read_found x.held q (Some i) (ap (place_named x.held.places) z ∙ c.named) ∙ ap (λ (o : Place). read_by (not (eqb o.order 1)) q) c.place
 
-  module _ (x : State) (c : Collecting x) (q : List ℕ) (f : Packet) (read : read_for x.held q ≡ Sent f) (of : packet_name f ≡ settings_name g) where
-    found-there : place_named x.held.places (packet_name f) ≡ At i
+  module _ (x : State) (c : Collecting x) (q : List ℕ) (f : Packet) (read : read_for x.held q ≡ Ok f) (of : packet_name f ≡ settings_name g) where
+    found-there : place_named x.held.places (packet_name f) ≡ Some i
     found-there = ap (place_named x.held.places) of ∙ c.named
 
     module _ (n m : ℕ) (brings : judge own f q ≡ put n (payload_of g file n) m) where
@@ -194,11 +195,11 @@ module _ (g : Settings) (file : List ℕ) (p : Protected g file) (i start : ℕ)
         unmoved_go q x c (ap (λ (o : Offering). o.store) (offer-placed x.held x.store q c.sound f read i found-there
         ∙ ap (offer_judged (get_or x.held.places i unused) x.store) (ap (λ (o : Place). judge o f q) c.place ∙ e)))
     judged_go none (put n b m) e =
-        let own_read : read_by (not (eqb g.order 1)) q ≡ Sent f = sym (read-there x c q (sym (read_name x.held q f read) ∙ of)) ∙ read in
+        let own_read : read_by (not (eqb g.order 1)) q ≡ Ok f = sym (read-there x c q (sym (read_name x.held q f read) ∙ of)) ∙ read in
         let same : b ≡ payload_of g file n = cc (none f own_read n b m (judge_start f q ∙ e)) in
         brought_go n m (e ∙ ap (λ (l : List ℕ). put n l m) same)
 
-  pub copy_reads_there : (n : ℕ) → n < count_of g (length file) → (q : List ℕ) → Copy g file n q → (x : State) → Collecting x → read_for x.held q ≡ Sent (fields_of g file n)
+  pub copy_reads_there : (n : ℕ) → n < count_of g (length file) → (q : List ℕ) → Copy g file n q → (x : State) → Collecting x → read_for x.held q ≡ Ok (fields_of g file n)
   copy_reads_there n below q cp x c = read-there x c q (copy_name g file p n below q cp) ∙ copy_reads g file p n below q cp
 
   pub copy_go : (n : ℕ) (below : n < count_of g (length file)) (q : List ℕ) → Copy g file n q → (x : State) → Collecting x
@@ -218,9 +219,9 @@ module _ (g : Settings) (file : List ℕ) (p : Protected g file) (i start : ℕ)
   noise_go : (q : List ℕ) → BringsNoOther g file q → (x : State) → Collecting x → GoesOn x (step (offering q) x).state
   noise_go q none x c = by (names (settings_name g) q) refl
     where
-      reading : name_in q ≡ settings_name g → (a : Reading) → read_for x.held q ≡ a → GoesOn x (step (offering q) x).state
-      reading z (Sent f) e = judged_go x c q f e (read_name x.held q f e ∙ z) none (judge own f q) refl
-      reading z (Reading.Refused r) e = unmoved_go q x c (ap (λ (o : Offering). o.store) (offer_unread x.held x.store q c.sound r e))
+      reading : name_in q ≡ settings_name g → (a : Result Packet Refusal) → read_for x.held q ≡ a → GoesOn x (step (offering q) x).state
+      reading z (Ok f) e = judged_go x c q f e (read_name x.held q f e ∙ z) none (judge own f q) refl
+      reading z (Err r) e = unmoved_go q x c (ap (λ (o : Offering). o.store) (offer_unread x.held x.store q c.sound r e))
 
       by : (t : Bool) → names (settings_name g) q ≡ t → GoesOn x (step (offering q) x).state
       by true e = reading (name-same (name_in q) (settings_name g) (and_both (ltb 12 (length q)) _ e).1) (read_for x.held q) refl

@@ -10,7 +10,6 @@ use lib.Dec.{eqb}
 use lib.ListN.{length, take, drop}
 use Rattle.crc.specs.Crc.{crc32_of}
 use Rattle.packet.specs.declared.Packet.{Packet}
-use Rattle.packet.specs.declared.Reading.TheVariants.{Sent}
 use Rattle.settings.specs.declared.Settings.{Settings}
 use Rattle.packet.specs.Packet.{read_by}
 use Rattle.packet.specs.Edition.{edition_of}
@@ -33,6 +32,7 @@ use Rattle.record.proofs.OfferFacts.{read_known, read_names, SameFile, same-serv
 use Rattle.record.proofs.OfferLaws.{judge-copy}
 use Rattle.promises.specs.Calls.{names}
 use Rattle.promises.specs.Statements.{bytes_altered, Protected, Copy}
+use Rattle.std.specs.Prelude.{Ok}
 
 -- what is not altered
 altered_none : (n : ℕ) (b : List ℕ) → altered_in n b b ≡ 0
@@ -75,7 +75,7 @@ module _ (g : Settings) (file : List ℕ) (p : Protected g file) (n : ℕ) (belo
     altered = record { bytes = c.bytes; sized = c.sized; header = c.header; crc = c.crc; rows = λ i. omega (arith, c.rows i) }
 
     -- it is read as it was packed
-    pub copy_reads : read_by (not (eqb g.order 1)) q ≡ Sent (fields_of g file n)
+    pub copy_reads : read_by (not (eqb g.order 1)) q ≡ Ok (fields_of g file n)
     copy_reads = read-copy q (packet_of g file n) altered (not (eqb g.order 1)) ∙ packet_reads_own g file n p.fit p.count below
 
     narrow : length (payload_in (packet_of g file n)) ≤ g.size
@@ -126,7 +126,7 @@ module _ (g : Settings) (file : List ℕ) (p : Protected g file) (n : ℕ) (belo
 pub same_payload : (g : Settings) (a b : List ℕ) (pa : Protected g a) (pb : Protected g b) (n m : ℕ)
     → n < count_of g (length a) → m < count_of g (length b) → (q : List ℕ) → Copy g a n q → Copy g b m q → payload_of g a n ≡ payload_of g b n
 same_payload g a b pa pb n m la lb q ca cb =
-    let read : Sent (fields_of g a n) ≡ Sent (fields_of g b m) = sym (copy_reads g a pa n la q ca) ∙ copy_reads g b pb m lb q cb in
+    let read : Ok (fields_of g a n) ≡ Ok (fields_of g b m) = sym (copy_reads g a pa n la q ca) ∙ copy_reads g b pb m lb q cb in
     let fields : fields_of g a n ≡ fields_of g b m = cc in
     let judged : put n (payload_of g a n) (bytes_altered q (payload_of g a n)) ≡ put m (payload_of g b m) (bytes_altered q (payload_of g b m)) =
     sym (copy-judged g a pa n la q ca 0) ∙ ap (λ (f : Packet). judge (place_of g f.count 0) f q) fields ∙ copy-judged g b pb m lb q cb 0 in

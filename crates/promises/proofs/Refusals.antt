@@ -7,18 +7,12 @@ use Prim.Native.Nat.{ℕ}
 use native.Mathlib.Omega.{arith}
 use lib.ListN.{length}
 use Rattle.refusals.specs.declared.Refusal.{Refusal}
-use Rattle.refusals.specs.declared.Verdict.{Verdict}
-use Rattle.refusals.specs.declared.Verdict.TheVariants.{Accepted, Refused}
 use Rattle.refusals.specs.Told.{Told, verdict_told}
 use Rattle.settings.specs.declared.Settings.{Settings}
-use Rattle.pack.specs.declared.Packed.{Packed}
-use Rattle.pack.specs.declared.Packed.TheVariants.{Written}
 use Rattle.pack.specs.Pack.{pack_of}
 use Rattle.pack.specs.Told.{packed_told}
 use Rattle.pack.proofs.Plans.{pack-refused}
 use Rattle.places.specs.declared.Record.{Record}
-use Rattle.places.specs.declared.Found.{Found}
-use Rattle.places.specs.declared.Found.TheVariants.{At, Nothing}
 use Rattle.places.specs.Places.{Name, good, place_named}
 use Rattle.opening.specs.declared.Kept.{Kept}
 use Rattle.record.specs.declared.Offered.{Offered}
@@ -31,6 +25,10 @@ use Rattle.handing.proofs.HandLaws.{hand_refused}
 use Rattle.promises.specs.Calls.{Call, State, step}
 use Rattle.promises.specs.Calls.Call.{packing, opening, offering, asking, handing, closing}
 use Rattle.promises.specs.Statements.{Unchanged, RefusalsChangeNothing}
+use Rattle.std.specs.Prelude.{Result}
+use Rattle.std.specs.Prelude.{Option}
+use Rattle.std.specs.Prelude.{Ok, Err}
+use Rattle.std.specs.Prelude.{Some, None}
 
 same-state : (x : State) (h : Record) (s : List ℕ) → h ≡ x.held → s ≡ x.store → ◌≡◌ {A = State} record { held = h; store = s } x
 same-state x h s d e i = record { held = d i; store = e i }
@@ -43,16 +41,16 @@ Turned t = t.number ≡ 0 → ⊥
 pack_keeps : (file : List ℕ) (g : Settings) (n : ℕ) (out : List ℕ) → Turned (packed_told (pack_of file g n out).answer) → (pack_of file g n out).output ≡ out
 pack_keeps file g n out = by (pack_of file g n out).answer refl
   where
-    by : (a : Packed) → (pack_of file g n out).answer ≡ a → Turned (packed_told a) → (pack_of file g n out).output ≡ out
-    by (Written k) z d = absurd (d refl)
-    by (Packed.Refused t) z d = pack-refused file g n out t z
+    by : (a : Result ℕ Refusal) → (pack_of file g n out).answer ≡ a → Turned (packed_told a) → (pack_of file g n out).output ≡ out
+    by (Ok k) z d = absurd (d refl)
+    by (Err t) z d = pack-refused file g n out t z
 
 hand_keeps : (h : Record) (s : List ℕ) (r : Name) (n : ℕ) (out : List ℕ) → Turned (verdict_told (hand_out_of h s r n out).answer) → (hand_out_of h s r n out).output ≡ out
 hand_keeps h s r n out = by (hand_out_of h s r n out).answer refl
   where
-    by : (v : Verdict) → (hand_out_of h s r n out).answer ≡ v → Turned (verdict_told v) → (hand_out_of h s r n out).output ≡ out
-    by Accepted z d = absurd (d refl)
-    by (Refused t) z d = hand_refused out h s r n t z
+    by : (v : Result (Unit {0}) Refusal) → (hand_out_of h s r n out).answer ≡ v → Turned (verdict_told v) → (hand_out_of h s r n out).output ≡ out
+    by (Ok tt) z d = absurd (d refl)
+    by (Err t) z d = hand_refused out h s r n t z
 
 -- ---- offer: the store
 
@@ -69,10 +67,10 @@ open_keeps h s g count (take i start) d = absurd (d refl)
 abbrev CloseKeeps : Record → Kept → Type 0
 CloseKeeps h k = Turned (verdict_told k.verdict) → k.«record» ≡ h
 
-close_by : (b : Bool) (h : Record) (f : Found) → CloseKeeps h (cond b (record { «record» = h; verdict = Refused Refusal.Record }) (closed_at h f))
+close_by : (b : Bool) (h : Record) (f : Option ℕ) → CloseKeeps h (cond b (record { «record» = h; verdict = Err Refusal.Record }) (closed_at h f))
 close_by true h f d = refl
-close_by false h (At i) d = absurd (d refl)
-close_by false h Nothing d = refl
+close_by false h (Some i) d = absurd (d refl)
+close_by false h None d = refl
 
 close_keeps : (h : Record) (s : List ℕ) (r : Name) → CloseKeeps h (close_of h s r)
 unfolding close_of

@@ -8,13 +8,10 @@ use native.Mathlib.Omega.{arith}
 use lib.Dec.{ltb}
 use lib.ListN.{length, get_or, set}
 use Rattle.refusals.specs.declared.Refusal.{Refusal}
-use Rattle.refusals.specs.declared.Verdict.{Verdict}
 use Rattle.refusals.specs.Told.{verdict_told}
 use Rattle.settings.specs.declared.Settings.{Settings}
 use Rattle.places.specs.declared.Place.{Place}
 use Rattle.places.specs.declared.Record.{Record}
-use Rattle.places.specs.declared.Found.{Found}
-use Rattle.places.specs.declared.Found.TheVariants.{At, Nothing}
 use Rattle.places.specs.Places.{Name, settings_name, unused, good, place_named, place_of}
 use Rattle.ground.proofs.Truth.{differ, and_both}
 use Rattle.places.proofs.Named.{name-same}
@@ -39,21 +36,24 @@ use Rattle.promises.specs.Calls.{Call, telling, State, step, fresh, names, about
 use Rattle.promises.specs.Calls.Call.{packing, opening, offering, asking, handing, closing}
 use Rattle.promises.specs.Statements.{Alike, answers_about, TwoSequences}
 use Rattle.promises.proofs.Views.{Kept, offer-leaves, step-leaves, step-length}
+use Rattle.std.specs.Prelude.{Option}
+use Rattle.std.specs.Prelude.{Err}
+use Rattle.std.specs.Prelude.{Some, None}
 
 -- two stores of one length that show the same at r's place
 pub record Like (r : Name) (h : Record) (s t : List ℕ) : Type 0 where
   pub sized : length s ≡ length t
-  pub seen : (i : ℕ) → place_named h.places r ≡ At i → contents (get_or h.places i unused) s ≡ contents (get_or h.places i unused) t
+  pub seen : (i : ℕ) → place_named h.places r ≡ Some i → contents (get_or h.places i unused) s ≡ contents (get_or h.places i unused) t
 
 -- two states so
 pub record LikeStates (r : Name) (x y : State) : Type 0 where
   pub same-held : x.held ≡ y.held
   pub like : Like r x.held x.store y.store
 
-found-same : (i j : ℕ) → At i ≡ At j → i ≡ j
+found-same : (i j : ℕ) → Some i ≡ Some j → i ≡ j
 found-same i j e = cc
 
-nothing-found : {A : Type 0} (i : ℕ) (f : Found) → f ≡ Nothing → f ≡ At i → A
+nothing-found : {A : Type 0} (i : ℕ) (f : Option ℕ) → f ≡ None → f ≡ Some i → A
 nothing-found i f p q = absurd (let z : ◌≡◌ {A = ℕ} 0 1 = cc in omega arith)
 
 module _ (r : Name) (h : Record) (s t : List ℕ) (l : Like r h s t) where
@@ -61,15 +61,15 @@ module _ (r : Name) (h : Record) (s t : List ℕ) (l : Like r h s t) where
 
   like_close : (x : Name) → close_of h s x ≡ close_of h t x
   unfolding close_of
-  like_close x = ap (λ (n : ℕ). cond (not (good n h.places)) (record { «record» = h; verdict = Verdict.Refused Refusal.Record }) (closed_at h (place_named h.places x))) l.sized
+  like_close x = ap (λ (n : ℕ). cond (not (good n h.places)) (record { «record» = h; verdict = Err Refusal.Record }) (closed_at h (place_named h.places x))) l.sized
 
   -- r itself closed: either nothing happened, or it has no place any more
   close-own_like : Like r (close_of h s r).«record» s t
   close-own_like = sound (good (length s) h.places) refl
     where
-      at : good (length s) h.places ≡ true → (f : Found) → place_named h.places r ≡ f → Like r (close_of h s r).«record» s t
-      at g Nothing e = rw (close_unknown h s r g e) l
-      at g (At i) e =
+      at : good (length s) h.places ≡ true → (f : Option ℕ) → place_named h.places r ≡ f → Like r (close_of h s r).«record» s t
+      at g None e = rw (close_unknown h s r g e) l
+      at g (Some i) e =
           rw (close-found h s r g i e)
           (record { sized = l.sized; seen = λ j n. nothing-found j (place_named (set h.places i unused) r) (close-named h.places r i e (length s) g) n })
 
@@ -104,7 +104,7 @@ module _ (r : Name) (h : Record) (s t : List ℕ) (l : Like r h s t) where
           record {
             sized = open_keeps_length h s g count ∙ l.sized ∙ sym (open_keeps_length h t g count);
             seen = λ j n.
-                let named : place_named (open_of h s g count).kept.«record».places r ≡ At i =
+                let named : place_named (open_of h s g count).kept.«record».places r ≡ Some i =
                 ap (λ (o : Opening). place_named o.kept.«record».places r) (open_by h s g count (take i start) e)
                 ∙ ap (place_named (set h.places i (place_of g count start))) (sym own) ∙ open_named h (length s) g count i start a in
                 let same : j ≡ i = found-same j i (sym n ∙ named) in
@@ -132,11 +132,11 @@ module _ (r : Name) (h : Record) (s t : List ℕ) (l : Like r h s t) where
 
 -- a call that is not about r, on both sides
 unnamed_like : (r : Name) (h h' : Record) (s t s' t' : List ℕ) → Like r h s t → Kept r h s h' s' → length s' ≡ length s
-    → ((i : ℕ) → place_named h.places r ≡ At i → contents (get_or h.places i unused) t' ≡ contents (get_or h.places i unused) t) → length t' ≡ length t → Like r h' s' t'
+    → ((i : ℕ) → place_named h.places r ≡ Some i → contents (get_or h.places i unused) t' ≡ contents (get_or h.places i unused) t) → length t' ≡ length t → Like r h' s' t'
 unnamed_like r h h' s t s' t' l k es kt et = record {
   sized = es ∙ l.sized ∙ sym et;
   seen = λ i n.
-      let m : place_named h.places r ≡ At i = sym k.named ∙ n in
+      let m : place_named h.places r ≡ Some i = sym k.named ∙ n in
       ap (λ (p : Place). contents p s') (k.same_place i m) ∙ k.same-contents i m ∙ l.seen i m ∙ sym (kt i m) ∙ sym (ap (λ (p : Place). contents p t') (k.same_place i m));
 }
 

@@ -16,10 +16,7 @@ use Rattle.ground.proofs.Numbers.{lt_or_ge, same_or_not}
 use Rattle.slices.specs.Slices.{same}
 use Rattle.slices.proofs.SameLaws.{same_equal}
 use Rattle.packet.specs.declared.Packet.{Packet}
-use Rattle.packet.specs.declared.Reading.TheVariants.{Sent}
 use Rattle.places.specs.declared.Place.{Place}
-use Rattle.places.specs.declared.Found.{Found}
-use Rattle.places.specs.declared.Found.TheVariants.{At, Nothing}
 use Rattle.places.specs.Places.{Name, unused, in_use, names as holds, good, end_of, in_rows, place_named}
 use Rattle.ground.proofs.Truth.{differ, fails}
 use Rattle.places.proofs.Searches.{first-only}
@@ -49,6 +46,9 @@ use Rattle.standing.proofs.StatusLaws.{status_found_lem}
 use Rattle.promises.specs.Calls.{State, offering, step, telling}
 use Rattle.promises.specs.Statements.{RowsNear, bytes_altered, place_at, slot_in, Held, lowest_values, slots_told, StatusBySlots, Carried, OthersStay, Accepts, OffersBySlots}
 use Rattle.promises.proofs.EachRow.{rows-near}
+use Rattle.std.specs.Prelude.{Option}
+use Rattle.std.specs.Prelude.{Ok}
+use Rattle.std.specs.Prelude.{Some, None}
 
 -- ---- the place that holds a resource and type
 
@@ -60,17 +60,17 @@ used_within x i u = ⊎_elim (λ l. l) (λ h. absurd (beyond h)) (lt_or_ge i (le
     beyond h = differ (sym u ∙ ap in_use (get_or-eq_default x.held.places unused h))
 
 module _ (x : State) (r : Name) (i : ℕ) where
-  pub held_found : Held x r i → place_named x.held.places r ≡ At i
+  pub held_found : Held x r i → place_named x.held.places r ≡ Some i
   held_found h =
       let within : i < length x.held.places = used_within x i (names_in_use (place_at x i) r h.named) in
       first-only (λ p. holds p r) x.held.places i within h.named
       (λ k l d. fails (holds (place_at x k) r) (λ e. d (one_holder (length x.store) x.held.places h.sound k i l within r e h.named)))
 
-  pub found-held : good (length x.store) x.held.places ≡ true → place_named x.held.places r ≡ At i → Held x r i
+  pub found-held : good (length x.store) x.held.places ≡ true → place_named x.held.places r ≡ Some i → Held x r i
   found-held g e = record { sound = g; named = (found-names x.held.places r i e).1 }
 
 -- a packet that its place judges to be refused is refused so
-pub refused-there : (x : State) (q : List ℕ) (f : Packet) (i : ℕ) (r : Refusal) → read_for x.held q ≡ Sent f → Held x (packet_name f) i
+pub refused-there : (x : State) (q : List ℕ) (f : Packet) (i : ℕ) (r : Refusal) → read_for x.held q ≡ Ok f → Held x (packet_name f) i
     → judge (place_at x i) f q ≡ refuse r → (step (offering q) x).answer.told ≡ refused_as r
 unfolding step
 refused-there x q f i r read h j =
@@ -83,10 +83,10 @@ standing_slots : (c : List Content) → standing_told (standing_in c) ≡ slots_
 unfolding standing_in
 standing_slots c = by (any_wrong c) (lowest_empty c 0)
   where
-    by : (b : Bool) (f : Found) → standing_told (cond b (Standing.Refused Slot) (Filled (filled c) f)) ≡ cond b (refused_as Slot) (record { number = 0; values = filled c ∷ lowest_values f })
+    by : (b : Bool) (f : Option ℕ) → standing_told (cond b (Standing.Refused Slot) (Filled (filled c) f)) ≡ cond b (refused_as Slot) (record { number = 0; values = filled c ∷ lowest_values f })
     by true f = refl
-    by false (At k) = refl
-    by false Nothing = refl
+    by false (Some k) = refl
+    by false None = refl
 
 pub status_by_slots : StatusBySlots step
 unfolding step
@@ -145,7 +145,7 @@ module _ (x : State) (q : List ℕ) where
   abbrev Says : Offering → Type 0
   Says o = (offered_told o.answer).number ≡ 0 → Accepts x q (record { held = x.held; store = o.store }) (offered_told o.answer).values
 
-  module _ (g : good (length x.store) x.held.places ≡ true) (f : Packet) (read : read_for x.held q ≡ Sent f) (i : ℕ) (found : place_named x.held.places (packet_name f) ≡ At i) where
+  module _ (g : good (length x.store) x.held.places ≡ true) (f : Packet) (read : read_for x.held q ≡ Ok f) (i : ℕ) (found : place_named x.held.places (packet_name f) ≡ Some i) where
     carried : (n : ℕ) (b : List ℕ) (m : ℕ) → judge (place_at x i) f q ≡ put n b m → Placed (place_at x i) f n b → Carried x q i n b m
     carried n b m e w =
         let k = puts-known n b m (place_at x i) f q e in

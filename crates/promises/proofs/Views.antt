@@ -8,8 +8,6 @@ use borrow.Author.Tests.{lt-ltb}
 use lib.ListN.{length, get_or}
 use Rattle.settings.specs.declared.Settings.{Settings}
 use Rattle.places.specs.declared.Record.{Record}
-use Rattle.places.specs.declared.Found.{Found}
-use Rattle.places.specs.declared.Found.TheVariants.{At, Nothing}
 use Rattle.places.specs.Places.{Name, place_name, settings_name, unused, in_use, good, place_named}
 use Rattle.ground.proofs.Truth.{differ, and_join}
 use Rattle.places.proofs.Named.{same_name_lem, name-other, names_in_use, names-name}
@@ -23,12 +21,14 @@ use Rattle.opening.proofs.CloseLaws.{close-record, close_unknown, close-found, c
 use Rattle.record.proofs.OfferLaws.{offer-length, offer-other}
 use Rattle.promises.specs.Calls.{Call, State, step, names, about}
 use Rattle.promises.specs.Calls.Call.{packing, opening, offering, asking, handing, closing}
+use Rattle.std.specs.Prelude.{Option}
+use Rattle.std.specs.Prelude.{Some, None}
 
 -- the place of r, and what it holds, are as they were
 pub record Kept (r : Name) (h : Record) (s : List ℕ) (h' : Record) (s' : List ℕ) : Type 0 where
   pub named : place_named h'.places r ≡ place_named h.places r
-  pub same_place : (i : ℕ) → place_named h.places r ≡ At i → get_or h'.places i unused ≡ get_or h.places i unused
-  pub same-contents : (i : ℕ) → place_named h.places r ≡ At i → contents (get_or h.places i unused) s' ≡ contents (get_or h.places i unused) s
+  pub same_place : (i : ℕ) → place_named h.places r ≡ Some i → get_or h'.places i unused ≡ get_or h.places i unused
+  pub same-contents : (i : ℕ) → place_named h.places r ≡ Some i → contents (get_or h.places i unused) s' ≡ contents (get_or h.places i unused) s
 
 kept-all : (r : Name) (h : Record) (s : List ℕ) → Kept r h s h s
 kept-all r h s = record { named = refl; same_place = λ i e. refl; same-contents = λ i e. refl }
@@ -51,7 +51,7 @@ open_leaves h s g count r d = by (plan_of h (length s) g count) refl
     by (refuse t) e = rw (refused-record h s g count t e, refused-store h s g count t e) (kept-all r h s)
     by (take i start) e =
         let t = taking h (length s) g count i start e in
-        let away : (j : ℕ) → place_named h.places r ≡ At j → j ≡ i → ⊥ = λ j n z.
+        let away : (j : ℕ) → place_named h.places r ≡ Some j → j ≡ i → ⊥ = λ j n z.
         differ (sym (names_in_use (get_or h.places j unused) r (found-names h.places r j n).1)
         ∙ ap (λ (x : ℕ). in_use (get_or h.places x unused)) z ∙ (unused-at h.places i t.unused).1) in
         rw (open_by h s g count (take i start) e) (record {
@@ -67,10 +67,10 @@ open_leaves h s g count r d = by (plan_of h (length s) g count) refl
 pub close-leaves : (h : Record) (s : List ℕ) (x r : Name) → (x ≡ r → ⊥) → Kept r h s (close_of h s x).«record» s
 close-leaves h s x r d = sound (good (length s) h.places) refl
   where
-    at : good (length s) h.places ≡ true → (f : Found) → place_named h.places x ≡ f → Kept r h s (close_of h s x).«record» s
-    at g Nothing e = rw (close_unknown h s x g e) (kept-all r h s)
-    at g (At i) e =
-        let away : (j : ℕ) → place_named h.places r ≡ At j → j ≡ i → ⊥ = λ j n z.
+    at : good (length s) h.places ≡ true → (f : Option ℕ) → place_named h.places x ≡ f → Kept r h s (close_of h s x).«record» s
+    at g None e = rw (close_unknown h s x g e) (kept-all r h s)
+    at g (Some i) e =
+        let away : (j : ℕ) → place_named h.places r ≡ Some j → j ≡ i → ⊥ = λ j n z.
         d (sym (names-name (get_or h.places i unused) x (found-names h.places x i e).1)
         ∙ ap (λ (k : ℕ). place_name (get_or h.places k unused)) (sym z) ∙ names-name (get_or h.places j unused) r (found-names h.places r j n).1) in
         rw (close-found h s x g i e) (record {

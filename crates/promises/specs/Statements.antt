@@ -8,7 +8,6 @@ use Rattle.code.specs.Code.{Bytes, distance}
 use Rattle.code.specs.Repair.{Near}
 use Rattle.code.specs.Mend.{Mended, whole, broken, altered_in}
 use Rattle.packet.specs.declared.Packet.{Packet}
-use Rattle.packet.specs.declared.Reading.TheVariants.{Sent}
 use Rattle.settings.specs.declared.Settings.{Settings}
 use Rattle.packet.specs.Packet.{read_by, read_header_of}
 use Rattle.packet.specs.Edition.{edition_of}
@@ -16,8 +15,6 @@ use Rattle.settings.specs.Settings.{settings_fit}
 use Rattle.layout.specs.Layout.{tables_of}
 use Rattle.pack.specs.Pack.{largest_file, count_of, payload_of, packet_of}
 use Rattle.places.specs.declared.Place.{Place}
-use Rattle.places.specs.declared.Found.{Found}
-use Rattle.places.specs.declared.Found.TheVariants.{At, Nothing}
 use Rattle.places.specs.Places.{Name, settings_name, unused, in_use, names as holds, good, place_of, in_rows, cover_of}
 use Rattle.contents.specs.Contents.{Slot as Content, holding, slot_of, contents, any_wrong, filled, lowest_empty}
 use Rattle.record.specs.Mend.{payload_in}
@@ -27,6 +24,9 @@ use Rattle.code.specs.Restore.{lost_of}
 use Rattle.record.specs.Offer.{packet_name, read_for, differs, judge, put}
 use Rattle.promises.specs.Calls.{Call, Answer, telling, State, Program, run, fresh, names, about}
 use Rattle.promises.specs.Calls.Call.{packing, opening, offering, asking, handing, closing}
+use Rattle.std.specs.Prelude.{Option}
+use Rattle.std.specs.Prelude.{Ok}
+use Rattle.std.specs.Prelude.{Some, None}
 
 -- ---- demand 2, of each row of a packet
 
@@ -87,7 +87,7 @@ pub record Copy (g : Settings) (file : List ℕ) (n : ℕ) (q : List ℕ) : Type
 -- rows are judged as it is read, unless the place is in column order
 abbrev pub BringsNoOther : Settings → List ℕ → List ℕ → Type 0
 BringsNoOther g file q =
-    (f : Packet) → read_by (not (eqb g.order 1)) q ≡ Sent f → (n : ℕ) (b : List ℕ) (m : ℕ) → judge (place_of g (count_of g (length file)) 0) f q ≡ put n b m → b ≡ payload_of g file n
+    (f : Packet) → read_by (not (eqb g.order 1)) q ≡ Ok f → (n : ℕ) (b : List ℕ) (m : ℕ) → judge (place_of g (count_of g (length file)) 0) f q ≡ put n b m → b ≡ payload_of g file n
 
 -- what may stand in the list: a copy, an offer that does not name the file's resource and type, any other that brings no other payload, and every other call but one that closes them
 pub data Fair (g : Settings) (file : List ℕ) : Call → Type 0 where
@@ -231,9 +231,9 @@ pub record Held (x : State) (r : Name) (i : ℕ) : Type 0 where
   pub named : holds (place_at x i) r ≡ true
 
 -- a number that was found, or none
-abbrev pub lowest_values : Found → List ℕ
-lowest_values (At k) = k ∷ []
-lowest_values Nothing = []
+abbrev pub lowest_values : Option ℕ → List ℕ
+lowest_values (Some k) = k ∷ []
+lowest_values None = []
 
 -- the number of filled slots, and the lowest empty one where there is one; refusal 15 where a slot is wrong
 abbrev pub slots_told : List Content → Told
@@ -249,7 +249,7 @@ StatusBySlots f =
 -- order, and else as it came, and the CRC agrees with b; m bytes of it were mended: the sum over the rows, or none
 pub record Carried (x : State) (q : List ℕ) (i n : ℕ) (b : List ℕ) (m : ℕ) : Type 0 where
   pub fields : Packet
-  pub read : read_for x.held q ≡ Sent fields
+  pub read : read_for x.held q ≡ Ok fields
   pub held : Held x (packet_name fields) i
   pub serves : differs (place_at x i) fields ≡ false
   pub edition : edition_of fields ≡ (place_at x i).edition
@@ -290,7 +290,7 @@ DifferentCounts =
 -- a place has one count: there a packet with another is refused (11)
 abbrev pub OneCount : Program → Type 0
 OneCount f =
-    (x : State) (q : List ℕ) (fields : Packet) (i : ℕ) → read_for x.held q ≡ Sent fields → Held x (packet_name fields) i
+    (x : State) (q : List ℕ) (fields : Packet) (i : ℕ) → read_for x.held q ≡ Ok fields → Held x (packet_name fields) i
     → (fields.count ≡ (place_at x i).count → ⊥) → (f (offering q) x).answer.told ≡ refused_as Other
 
 -- what was collected as in demand 3 is not handed out at a length that needs another number of packets, or in row order of tables (23)
@@ -308,7 +308,7 @@ OtherLengthRefused f =
 -- a place has slots of one size: there a packet of its file, in its edition, whose payload is longer is refused (12), whatever its rows, its CRC and the slots hold
 abbrev pub NoWider : Program → Type 0
 NoWider f =
-    (x : State) (q : List ℕ) (fields : Packet) (i : ℕ) → read_for x.held q ≡ Sent fields → Held x (packet_name fields) i
+    (x : State) (q : List ℕ) (fields : Packet) (i : ℕ) → read_for x.held q ≡ Ok fields → Held x (packet_name fields) i
     → differs (place_at x i) fields ≡ false → edition_of fields ≡ (place_at x i).edition → (place_at x i).slot < length (payload_in q)
     → (f (offering q) x).answer.told ≡ refused_as Wide
 
@@ -372,7 +372,7 @@ BothFromFresh f =
 -- an offered stream is Unknown (10), whatever is open
 abbrev pub StreamsUnknown : Program → Type 0
 StreamsUnknown f =
-    (x : State) (q : List ℕ) (fields : Packet) → good (length x.store) x.held.places ≡ true → read_for x.held q ≡ Sent fields → fields.kind ≡ 0
+    (x : State) (q : List ℕ) (fields : Packet) → good (length x.store) x.held.places ≡ true → read_for x.held q ≡ Ok fields → fields.kind ≡ 0
     → (f (offering q) x).answer.told ≡ refused_as Unknown
 
 -- ---- how much was mended: document 02, R-7
@@ -405,12 +405,12 @@ GradedFromFresh f =
 abbrev pub ShowsEdition : Type 0
 ShowsEdition =
     (g : Settings) (file : List ℕ) (n : ℕ) → settings_fit g ≡ true → count_of g (length file) ≤ 1048575 → n < count_of g (length file)
-    → (fields : Packet) × (read_header_of (packet_of g file n) ≡ Sent fields) × (edition_of fields ≡ g.edition)
+    → (fields : Packet) × (read_header_of (packet_of g file n) ≡ Ok fields) × (edition_of fields ≡ g.edition)
 
 -- a place accepts its own edition only: there a packet of its file in another, or in neither, is refused (33), whatever its payload and the slots hold
 abbrev pub OwnEdition : Program → Type 0
 OwnEdition f =
-    (x : State) (q : List ℕ) (fields : Packet) (i : ℕ) → read_for x.held q ≡ Sent fields → Held x (packet_name fields) i
+    (x : State) (q : List ℕ) (fields : Packet) (i : ℕ) → read_for x.held q ≡ Ok fields → Held x (packet_name fields) i
     → differs (place_at x i) fields ≡ false → (edition_of fields ≡ (place_at x i).edition → ⊥) → (f (offering q) x).answer.told ≡ refused_as Edition
 
 -- so a station may send both: of two files under settings of different editions, in all else alike or not, the same calls may carry both, each to a place of its own edition

@@ -5,8 +5,8 @@
 ghost use Rattle.std.specs.Prelude.{◌≡◌};
 ghost use Rattle.handing.specs.Hand.{hand_out_of};
 
-use places::{Found, Record};
-use refusals::{Refusal, Verdict};
+use places::Record;
+use refusals::Refusal;
 
 // Writes the file of `length` bytes that the place of a resource and type holds to the start of the output, whose other bytes stay. Refused: 9, 10, 15, 21, 22,
 // 23, 24, 26; then nothing is written.
@@ -17,15 +17,15 @@ pub fn hand_out(
     kind: u8,
     length: usize,
     out: &mut [u8],
-) -> Verdict
+) -> Result<(), Refusal>
     ensures { (result ≡ (hand_out_of held store.now (record { resource = resource; kind = kind }) length out.old).answer)
         × (out.new ≡ (hand_out_of held store.now (record { resource = resource; kind = kind }) length out.old).output) }
 {
     if !room::is_good(held, store.len()) {
-        return Verdict::Refused(Refusal::Record);
+        return Err(Refusal::Record);
     }
-    let Found::At(i) = places::find_place(held, resource, kind) else {
-        return Verdict::Refused(Refusal::Unknown);
+    let Some(i) = places::find_place(held, resource, kind) else {
+        return Err(Refusal::Unknown);
     };
     handing::hand_place(held.places[i], store, length, out)
 }

@@ -14,17 +14,13 @@ use Rattle.ground.proofs.Truth.{and_both, and_join}
 use Rattle.slices.specs.Slices.{same}
 use Rattle.refusals.specs.declared.Refusal.{Refusal}
 use Rattle.refusals.specs.declared.Refusal.TheVariants.{Unknown, Other, Edition, Wide, Crc, Slot, Conflict}
-use Rattle.refusals.specs.declared.Verdict.TheVariants as verdicts
 use Rattle.repair.specs.declared.Counted.{Counted}
 use Rattle.repair.specs.Repair.{mending_of, Mends}
 use Rattle.repair.proofs.AllRows.{mend_refused}
 use Rattle.packet.specs.declared.Packet.{Packet}
-use Rattle.packet.specs.declared.Reading.{Reading}
-use Rattle.packet.specs.declared.Reading.TheVariants.{Sent}
 use Rattle.packet.specs.Edition.{edition_of}
 use Rattle.places.specs.declared.Place.{Place}
 use Rattle.places.specs.declared.Record.{Record}
-use Rattle.places.specs.declared.Found.TheVariants.{At, Nothing}
 use Rattle.places.specs.Places.{unused, good, place_named}
 use Rattle.contents.specs.Slots.{length_at, stored}
 use Rattle.contents.specs.Contents.{holding, bytes_at, slot_at, length_fits, slot_of}
@@ -38,6 +34,9 @@ use Rattle.sealing.specs.Sealing.{agrees}
 use Rattle.record.specs.Offer.{packet_name, read_for, differs, Judged, refuse, put, judge_mended, mend_as, judge, Offering, storing, offer_judged, offer_of, judge_by, offer_by}
 use Rattle.record.specs.InnerOffer.{Comes, refusal_in}
 use Rattle.record.specs.Put.{judge_crc, slot_has, put_of}
+use Rattle.std.specs.Prelude.{Result}
+use Rattle.std.specs.Prelude.{Ok, Err}
+use Rattle.std.specs.Prelude.{Some, None}
 
 abbrev pub said : Offered → List ℕ → Offering
 said a s = record { answer = a; store = s }
@@ -156,7 +155,7 @@ mended-crc k q b n m e r a = ap (judge_mended k q) e ∙ sym (ap (judge_crc k b 
 
 -- what the repair of a payload's rows was answered
 module _ (b : List ℕ) (m : length b % 255 ≡ 0) (h : length b ≤ 3825) (v : Counted) (l : List ℕ) (w : Mends (mending_of b) v l) where
-  pub rows-broken : (p : Place) (s : List ℕ) (k : ℕ) (q : List ℕ) (r : Refusal) → v.verdict ≡ verdicts.Refused r
+  pub rows-broken : (p : Place) (s : List ℕ) (k : ℕ) (q : List ℕ) (r : Refusal) → v.verdict ≡ Err r
       → offer_judged p s (judge_mended k q (mend_rows (length b / 255) 0 b)) ≡ said (Refused r) s
   rows-broken p s k q r e =
       let f = mend_refused b m h v l w r e in
@@ -236,8 +235,8 @@ module _ (k : ℕ) (b : List ℕ) (m : ℕ) where
 -- ---- an offer to a record
 
 -- the refusal of a reading that is one
-pub refusal_read : (x : Reading) (r t : Refusal) → x ≡ Reading.Refused r → t ≡ refusal_in x → x ≡ Reading.Refused t
-refusal_read x r t e d = e ∙ ap Reading.Refused (sym (d ∙ ap refusal_in e))
+pub refusal_read : (x : Result Packet Refusal) (r t : Refusal) → x ≡ Err r → t ≡ refusal_in x → x ≡ Err t
+refusal_read x r t e d = e ∙ ap Err (sym (d ∙ ap refusal_in e))
 
 module _ (h : Record) (s q : List ℕ) where
   pub offer_bad : good (length s) h.places ≡ false → offer_of h s q ≡ said (Refused Refusal.Record) s
@@ -245,16 +244,16 @@ module _ (h : Record) (s q : List ℕ) where
   offer_bad g = rw g refl
 
   module _ (g : good (length s) h.places ≡ true) where
-    pub offer_unread : (r : Refusal) → read_for h q ≡ Reading.Refused r → offer_of h s q ≡ said (Refused r) s
+    pub offer_unread : (r : Refusal) → read_for h q ≡ Err r → offer_of h s q ≡ said (Refused r) s
     unfolding offer_by
     offer_unread r e = rw (g, e) refl
 
-    module _ (f : Packet) (e : read_for h q ≡ Sent f) where
-      pub offer_unknown : place_named h.places (packet_name f) ≡ Nothing → offer_of h s q ≡ said (Refused Unknown) s
+    module _ (f : Packet) (e : read_for h q ≡ Ok f) where
+      pub offer_unknown : place_named h.places (packet_name f) ≡ None → offer_of h s q ≡ said (Refused Unknown) s
       unfolding offer_by
       offer_unknown w = rw (g, e, w) refl
 
-      pub offer-placed : (i : ℕ) → place_named h.places (packet_name f) ≡ At i
+      pub offer-placed : (i : ℕ) → place_named h.places (packet_name f) ≡ Some i
           → offer_of h s q ≡ offer_judged (get_or h.places i unused) s (judge (get_or h.places i unused) f q)
       unfolding offer_by
       offer-placed i w = rw (g, e, w) refl

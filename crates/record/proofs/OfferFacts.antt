@@ -12,14 +12,10 @@ use lib.ListN.{length, get_or}
 use Rattle.refusals.specs.declared.Refusal.{Refusal}
 use Rattle.refusals.specs.declared.Refusal.TheVariants.{Short, Mark, Length, «Type», Protection, Number, Rows, Resource}
 use Rattle.packet.specs.declared.Packet.{Packet}
-use Rattle.packet.specs.declared.Reading.{Reading}
-use Rattle.packet.specs.declared.Reading.TheVariants.{Sent, Refused}
 use Rattle.packet.specs.Packet.{resource_in, kind_in, fields_in, marked, bad_protection, bad_number, bad_rows, judged, read_by}
 use Rattle.packet.proofs.Laws.{resource_in_lem, kind_in_lem}
 use Rattle.places.specs.declared.Place.{Place}
 use Rattle.places.specs.declared.Record.{Record}
-use Rattle.places.specs.declared.Found.{Found}
-use Rattle.places.specs.declared.Found.TheVariants.{At}
 use Rattle.places.specs.Places.{Name, unused, names, place_named}
 use Rattle.ground.proofs.Truth.{neither, and_both}
 use Rattle.settings.specs.Settings.{row_wise}
@@ -28,6 +24,10 @@ use Rattle.places.proofs.Facts.{PlaceFacts}
 use Rattle.contents.specs.Contents.{slot_at}
 use Rattle.contents.proofs.Slots.{slot-within}
 use Rattle.record.specs.Offer.{packet_name, name_in, in_columns, read_for, mend_as, differs}
+use Rattle.std.specs.Prelude.{Result}
+use Rattle.std.specs.Prelude.{Option}
+use Rattle.std.specs.Prelude.{Ok, Err}
+use Rattle.std.specs.Prelude.{Some}
 
 -- ---- a packet that was read
 
@@ -39,11 +39,11 @@ pub record Read (rows : Bool) (q : List ℕ) (f : Packet) : Type 0 where
   pub below : 0 < f.kind → f.number < f.count
   pub multiple : rows ≡ true → f.protection ≡ 1 → (length q - 18) % 255 ≡ 0
 
-passed : (t : Bool) (r : Refusal) (y : Reading) (f : Packet) → cond t (Refused r) y ≡ Sent f → (t ≡ false) × (y ≡ Sent f)
+passed : (t : Bool) (r : Refusal) (y : Result Packet Refusal) (f : Packet) → cond t (Err r) y ≡ Ok f → (t ≡ false) × (y ≡ Ok f)
 passed true r y f e = absurd (let z : ◌≡◌ {A = ℕ} 0 1 = cc in omega arith)
 passed false r y f e = (refl, e)
 
-judged-read : (rows : Bool) (g f : Packet) (n : ℕ) → judged rows g n ≡ Sent f
+judged-read : (rows : Bool) (g f : Packet) (n : ℕ) → judged rows g n ≡ Ok f
     → (g ≡ f) × (bad_protection g ≡ false) × (bad_number g ≡ false) × (rows && bad_rows g n ≡ false)
 unfolding judged
 judged-read rows g f n e =
@@ -52,7 +52,7 @@ judged-read rows g f n e =
     let c = passed (bad_number g) Number _ f b.1 in
     let d = passed (rows && bad_rows g n) Rows _ f c.1 in
     let h = passed (eqb g.resource 0) Resource _ f d.1 in
-    let e : Sent g ≡ Sent f = h.1 in
+    let e : Ok g ≡ Ok f = h.1 in
     (cc, b.0, c.0, d.0)
 
 -- a test that failed though its first part holds
@@ -60,7 +60,7 @@ second_fails : (s t : Bool) → (s && t) ≡ false → s ≡ true → t ≡ fals
 second_fails true t e p = e
 second_fails false t e p = absurd (let z : ◌≡◌ {A = ℕ} 0 1 = cc in omega arith)
 
-pub read_known : (rows : Bool) (q : List ℕ) (f : Packet) → read_by rows q ≡ Sent f → Read rows q f
+pub read_known : (rows : Bool) (q : List ℕ) (f : Packet) → read_by rows q ≡ Ok f → Read rows q f
 unfolding read_by
 read_known rows q f e =
     let a = passed (ltb (length q) 19) Short _ f e in
@@ -79,7 +79,7 @@ read_known rows q f e =
     }
 
 -- it names what its bytes name
-pub read_names : (rows : Bool) (q : List ℕ) (f : Packet) → read_by rows q ≡ Sent f → packet_name f ≡ name_in q
+pub read_names : (rows : Bool) (q : List ℕ) (f : Packet) → read_by rows q ≡ Ok f → packet_name f ≡ name_in q
 read_names rows q f e =
     let k = (read_known rows q f e).fields in
     let r : f.resource ≡ resource_in q = ap (λ (x : Packet). x.resource) k ∙ resource_in_lem q in
@@ -87,21 +87,21 @@ read_names rows q f e =
     λ i. record { resource = r i; kind = t i }
 
 -- its fields are the same however it is read
-pub read_alike : (rows other : Bool) (q : List ℕ) (f k : Packet) → read_by rows q ≡ Sent f → read_by other q ≡ Sent k → f ≡ k
+pub read_alike : (rows other : Bool) (q : List ℕ) (f k : Packet) → read_by rows q ≡ Ok f → read_by other q ≡ Ok k → f ≡ k
 read_alike rows other q f k e d = (read_known rows q f e).fields ∙ sym (read_known other q k d).fields
 
 -- ---- read for a record
 
-module _ (h : Record) (q : List ℕ) (f : Packet) (e : read_for h q ≡ Sent f) where
+module _ (h : Record) (q : List ℕ) (f : Packet) (e : read_for h q ≡ Ok f) where
   pub read_name : packet_name f ≡ name_in q
   unfolding read_for
   read_name = read_names (not (in_columns h.places (place_named h.places (name_in q)))) q f e
 
   -- its rows are judged, unless the place that it names is in column order
-  pub read-placed : (i : ℕ) → place_named h.places (packet_name f) ≡ At i → Read (not (eqb (get_or h.places i unused).order 1)) q f
+  pub read-placed : (i : ℕ) → place_named h.places (packet_name f) ≡ Some i → Read (not (eqb (get_or h.places i unused).order 1)) q f
   unfolding read_for
   read-placed i w =
-      read_known _ q f (ap (λ (x : Found). read_by (not (in_columns h.places x)) q) (sym (ap (place_named h.places) (sym read_name) ∙ w)) ∙ e)
+      read_known _ q f (ap (λ (x : Option ℕ). read_by (not (in_columns h.places x)) q) (sym (ap (place_named h.places) (sym read_name) ∙ w)) ∙ e)
 
   pub read-least : 19 ≤ length q
   unfolding read_for

@@ -14,13 +14,9 @@ use Rattle.slices.proofs.SameLaws.{same_self}
 use Rattle.refusals.specs.declared.Refusal.{Refusal}
 use Rattle.refusals.specs.declared.Refusal.TheVariants.{Unknown}
 use Rattle.packet.specs.declared.Packet.{Packet}
-use Rattle.packet.specs.declared.Reading.{Reading}
-use Rattle.packet.specs.declared.Reading.TheVariants.{Sent}
 use Rattle.packet.specs.Edition.{edition_of}
 use Rattle.places.specs.declared.Place.{Place}
 use Rattle.places.specs.declared.Record.{Record}
-use Rattle.places.specs.declared.Found.{Found}
-use Rattle.places.specs.declared.Found.TheVariants.{At, Nothing}
 use Rattle.places.specs.Places.{Name, place_name, same_name, names, unused, end_of, meets, good, place_named}
 use Rattle.places.proofs.Named.{name-same, name-other, names-name, names_in_use}
 use Rattle.places.proofs.Facts.{PlaceFacts, named_facts, good-apart}
@@ -38,6 +34,10 @@ use Rattle.record.specs.Offer.{packet_name, name_in, read_for, mend_as, Judged, 
 use Rattle.record.proofs.OfferCases.{said, payload_length_lem, judge-puts, Puts, puts-known, offer_bad, offer_unread, offer_unknown, offer-placed}
 use Rattle.record.proofs.OfferFacts.{Read, read_name, read-placed, read-least, SameFile, same-file, same-serves, no_stream, slot-below, mends_nothing, rows-protected, rows-judged}
 use Rattle.record.proofs.MendLaws.{mended-length, Altered, Intact, agrees-copy, mended-copy}
+use Rattle.std.specs.Prelude.{Result}
+use Rattle.std.specs.Prelude.{Option}
+use Rattle.std.specs.Prelude.{Ok, Err}
+use Rattle.std.specs.Prelude.{Some, None}
 
 -- ---- what is put fits the place
 
@@ -181,20 +181,20 @@ answer-after c k (x ∷ b) m (inr e) = inr (rw (e, same_self (x ∷ b)) refl)
 -- it is refused, or it comes to what the packet's place says
 pub data Case (h : Record) (s q : List ℕ) : Offering → Type 0 where
   refused : (r : Refusal) → Case h s q (said (Refused r) s)
-  placed : good (length s) h.places ≡ true → (f : Packet) → read_for h q ≡ Sent f → (i : ℕ) → place_named h.places (packet_name f) ≡ At i
+  placed : good (length s) h.places ≡ true → (f : Packet) → read_for h q ≡ Ok f → (i : ℕ) → place_named h.places (packet_name f) ≡ Some i
       → Case h s q (offer_judged (get_or h.places i unused) s (judge (get_or h.places i unused) f q))
 
 module _ (h : Record) (s q : List ℕ) where
   pub offer_case : Case h s q (offer_of h s q)
   offer_case = record-judged (good (length s) h.places) refl
     where
-      found : good (length s) h.places ≡ true → (f : Packet) → read_for h q ≡ Sent f → (w : Found) → place_named h.places (packet_name f) ≡ w → Case h s q (offer_of h s q)
-      found g f e (At i) w = subst (Case h s q) (sym (offer-placed h s q g f e i w)) (placed g f e i w)
-      found g f e Nothing w = subst (Case h s q) (sym (offer_unknown h s q g f e w)) (refused Unknown)
+      found : good (length s) h.places ≡ true → (f : Packet) → read_for h q ≡ Ok f → (w : Option ℕ) → place_named h.places (packet_name f) ≡ w → Case h s q (offer_of h s q)
+      found g f e (Some i) w = subst (Case h s q) (sym (offer-placed h s q g f e i w)) (placed g f e i w)
+      found g f e None w = subst (Case h s q) (sym (offer_unknown h s q g f e w)) (refused Unknown)
 
-      fields_read : good (length s) h.places ≡ true → (x : Reading) → read_for h q ≡ x → Case h s q (offer_of h s q)
-      fields_read g (Sent f) e = found g f e (place_named h.places (packet_name f)) refl
-      fields_read g (Reading.Refused r) e = subst (Case h s q) (sym (offer_unread h s q g r e)) (refused r)
+      fields_read : good (length s) h.places ≡ true → (x : Result Packet Refusal) → read_for h q ≡ x → Case h s q (offer_of h s q)
+      fields_read g (Ok f) e = found g f e (place_named h.places (packet_name f)) refl
+      fields_read g (Err r) e = subst (Case h s q) (sym (offer_unread h s q g r e)) (refused r)
 
       record-judged : (t : Bool) → good (length s) h.places ≡ t → Case h s q (offer_of h s q)
       record-judged true g = fields_read g (read_for h q) refl
@@ -219,7 +219,7 @@ module _ (h : Record) (s q : List ℕ) where
   offer-refused r e = offer_unstored (λ (m : ℕ) (z : (offer_of h s q).answer ≡ Stored m). let o : ◌≡◌ {A = ℕ} 0 1 = cc in omega arith)
 
   -- ---- the place that the packet names
-  module _ (g : good (length s) h.places ≡ true) (f : Packet) (e : read_for h q ≡ Sent f) (i : ℕ) (w : place_named h.places (packet_name f) ≡ At i) where
+  module _ (g : good (length s) h.places ≡ true) (f : Packet) (e : read_for h q ≡ Ok f) (i : ℕ) (w : place_named h.places (packet_name f) ≡ Some i) where
     pub offer-sound : Sound (get_or h.places i unused) f (judge (get_or h.places i unused) f q)
     offer-sound = judge-sound (length s) (get_or h.places i unused) f q (named_facts (length s) h.places g (packet_name f) i w) (found-names h.places (packet_name f) i w).1 (read-placed h q f e i w)
 
@@ -235,7 +235,7 @@ module _ (h : Record) (s q : List ℕ) where
         (named_facts (length s) h.places g (packet_name f) i w).ends-within
 
   -- ---- a place that it does not name
-  pub offer-other : (r : Name) (j : ℕ) → place_named h.places r ≡ At j → (12 < length q → name_in q ≡ r → ⊥)
+  pub offer-other : (r : Name) (j : ℕ) → place_named h.places r ≡ Some j → (12 < length q → name_in q ≡ r → ⊥)
       → contents (get_or h.places j unused) (offer_of h s q).store ≡ contents (get_or h.places j unused) s
   offer-other r j n d = by (offer_of h s q) offer_case
     where
@@ -264,29 +264,29 @@ module _ (h : Record) (s t q : List ℕ) (n : length s ≡ length t) where
   good-same x g = ap (λ (m : ℕ). good m h.places) (sym n) ∙ g
 
   -- an offer that names it is answered alike
-  pub alike_answer : ((i : ℕ) → place_named h.places (name_in q) ≡ At i → contents (get_or h.places i unused) s ≡ contents (get_or h.places i unused) t)
+  pub alike_answer : ((i : ℕ) → place_named h.places (name_in q) ≡ Some i → contents (get_or h.places i unused) s ≡ contents (get_or h.places i unused) t)
       → (offer_of h s q).answer ≡ (offer_of h t q).answer
   alike_answer same = judged (good (length s) h.places) refl
     where
-      found : good (length s) h.places ≡ true → (f : Packet) → read_for h q ≡ Sent f → (w : Found) → place_named h.places (packet_name f) ≡ w
+      found : good (length s) h.places ≡ true → (f : Packet) → read_for h q ≡ Ok f → (w : Option ℕ) → place_named h.places (packet_name f) ≡ w
           → (offer_of h s q).answer ≡ (offer_of h t q).answer
-      found g f e (At i) w =
+      found g f e (Some i) w =
           let named : packet_name f ≡ name_in q = read_name h q f e in
           offer-answer h s q g f e i w
           ∙ ap (answered (judge (get_or h.places i unused) f q)) (same i (ap (place_named h.places) (sym named) ∙ w))
           ∙ sym (offer-answer h t q (good-same true g) f e i w)
-      found g f e Nothing w = same_answer (offer_unknown h s q g f e w) (offer_unknown h t q (good-same true g) f e w)
+      found g f e None w = same_answer (offer_unknown h s q g f e w) (offer_unknown h t q (good-same true g) f e w)
 
-      fields : good (length s) h.places ≡ true → (x : Reading) → read_for h q ≡ x → (offer_of h s q).answer ≡ (offer_of h t q).answer
-      fields g (Sent f) e = found g f e (place_named h.places (packet_name f)) refl
-      fields g (Reading.Refused r) e = same_answer (offer_unread h s q g r e) (offer_unread h t q (good-same true g) r e)
+      fields : good (length s) h.places ≡ true → (x : Result Packet Refusal) → read_for h q ≡ x → (offer_of h s q).answer ≡ (offer_of h t q).answer
+      fields g (Ok f) e = found g f e (place_named h.places (packet_name f)) refl
+      fields g (Err r) e = same_answer (offer_unread h s q g r e) (offer_unread h t q (good-same true g) r e)
 
       judged : (x : Bool) → good (length s) h.places ≡ x → (offer_of h s q).answer ≡ (offer_of h t q).answer
       judged true g = fields g (read_for h q) refl
       judged false g = same_answer (offer_bad h s q g) (offer_bad h t q (good-same false g))
 
   -- and after any offer they hold the same again
-  module _ (r : Name) (j : ℕ) (w : place_named h.places r ≡ At j) (c : contents (get_or h.places j unused) s ≡ contents (get_or h.places j unused) t) where
+  module _ (r : Name) (j : ℕ) (w : place_named h.places r ≡ Some j) (c : contents (get_or h.places j unused) s ≡ contents (get_or h.places j unused) t) where
     abbrev Alike : Type 0
     Alike = contents (get_or h.places j unused) (offer_of h s q).store ≡ contents (get_or h.places j unused) (offer_of h t q).store
 
@@ -298,11 +298,11 @@ module _ (h : Record) (s t q : List ℕ) (n : length s ≡ length t) where
     pub alike_holds : contents (get_or h.places j unused) (offer_of h s q).store ≡ contents (get_or h.places j unused) (offer_of h t q).store
     alike_holds = alike (same_name (name_in q) r) refl
       where
-        fields : name_in q ≡ r → good (length s) h.places ≡ true → (x : Reading) → read_for h q ≡ x → Alike
-        fields z g (Sent f) e =
-            let i : place_named h.places (packet_name f) ≡ At j = ap (place_named h.places) (read_name h q f e ∙ z) ∙ w in
+        fields : name_in q ≡ r → good (length s) h.places ≡ true → (x : Result Packet Refusal) → read_for h q ≡ x → Alike
+        fields z g (Ok f) e =
+            let i : place_named h.places (packet_name f) ≡ Some j = ap (place_named h.places) (read_name h q f e ∙ z) ∙ w in
             offer-holds h s q g f e j i ∙ ap (held_after (judge (get_or h.places j unused) f q)) c ∙ sym (offer-holds h t q (good-same true g) f e j i)
-        fields z g (Reading.Refused x) e = said_alike (Refused x) (offer_unread h s q g x e) (offer_unread h t q (good-same true g) x e)
+        fields z g (Err x) e = said_alike (Refused x) (offer_unread h s q g x e) (offer_unread h t q (good-same true g) x e)
 
         judged : name_in q ≡ r → (x : Bool) → good (length s) h.places ≡ x → Alike
         judged z true g = fields z g (read_for h q) refl

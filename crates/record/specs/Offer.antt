@@ -6,15 +6,11 @@ use Rattle.slices.specs.Slices.{same}
 use Rattle.refusals.specs.declared.Refusal.{Refusal}
 use Rattle.refusals.specs.declared.Refusal.TheVariants.{Unknown, Other, Edition, Wide, Repair, Crc, Slot, Conflict}
 use Rattle.packet.specs.declared.Packet.{Packet}
-use Rattle.packet.specs.declared.Reading.{Reading}
-use Rattle.packet.specs.declared.Reading.TheVariants.{Sent, Refused}
 use Rattle.packet.specs.Packet.{resource_in, kind_in, read_by}
 use Rattle.packet.specs.Edition.{edition_of}
 use Rattle.settings.specs.Settings.{row_wise}
 use Rattle.places.specs.declared.Place.{Place}
 use Rattle.places.specs.declared.Record.{Record}
-use Rattle.places.specs.declared.Found.{Found}
-use Rattle.places.specs.declared.Found.TheVariants.{At, Nothing}
 use Rattle.places.specs.Places.{Name, unused, good, place_named}
 use Rattle.contents.specs.Slots.{stored}
 use Rattle.contents.specs.Contents.{Slot as Content, wrong, holding, slot_at, slot_of}
@@ -23,6 +19,10 @@ use Rattle.record.specs.declared.Offered.TheVariants.{Stored, Repeat}
 use Rattle.code.specs.Mend.{Mended, whole, broken}
 use Rattle.record.specs.Mend.{payload_in, mended_in}
 use Rattle.sealing.specs.Sealing.{agrees}
+use Rattle.std.specs.Prelude.{Result}
+use Rattle.std.specs.Prelude.{Option}
+use Rattle.std.specs.Prelude.{Ok, Err}
+use Rattle.std.specs.Prelude.{Some, None}
 
 -- resource and type that a packet names: as its fields were read, and by its bytes 3, 4 and the two high bits of byte 12
 abbrev pub packet_name : Packet → Name
@@ -32,12 +32,12 @@ abbrev pub name_in : List ℕ → Name
 name_in q = record { resource = resource_in q; kind = kind_in q }
 
 -- the place that was found is in column order
-abbrev pub in_columns : List Place → Found → Bool
-in_columns ps (At i) = eqb (get_or ps i unused).order 1
-in_columns ps Nothing = false
+abbrev pub in_columns : List Place → Option ℕ → Bool
+in_columns ps (Some i) = eqb (get_or ps i unused).order 1
+in_columns ps None = false
 
 -- how a packet is read: without refusal 7 where such a place holds the resource and type that it names, whatever else of it differs
-unfoldable pub read_for : Record → List ℕ → Reading
+unfoldable pub read_for : Record → List ℕ → Result Packet Refusal
 read_for h q = read_by (not (in_columns h.places (place_named h.places (name_in q)))) q
 
 -- update, count, protection, or M under protection 1, differs from the place
@@ -91,13 +91,13 @@ offer_judged p s (refuse r) = record { answer = Offered.Refused r; store = s }
 offer_judged p s (put k b m) = storing s (slot_at p k) b (put_into (slot_of p s k) b m)
 
 module _ (mend : ℕ → List ℕ → Mended) where
-  abbrev pub offer_found : Record → List ℕ → Packet → List ℕ → Found → Offering
-  offer_found h s f q (At i) = offer_judged (get_or h.places i unused) s (judge_by mend (get_or h.places i unused) f q)
-  offer_found h s f q Nothing = record { answer = Offered.Refused Unknown; store = s }
+  abbrev pub offer_found : Record → List ℕ → Packet → List ℕ → Option ℕ → Offering
+  offer_found h s f q (Some i) = offer_judged (get_or h.places i unused) s (judge_by mend (get_or h.places i unused) f q)
+  offer_found h s f q None = record { answer = Offered.Refused Unknown; store = s }
 
-  abbrev pub offer_read : Record → List ℕ → List ℕ → Reading → Offering
-  offer_read h s q (Sent f) = offer_found h s f q (place_named h.places (packet_name f))
-  offer_read h s q (Refused r) = record { answer = Offered.Refused r; store = s }
+  abbrev pub offer_read : Record → List ℕ → List ℕ → Result Packet Refusal → Offering
+  offer_read h s q (Ok f) = offer_found h s f q (place_named h.places (packet_name f))
+  offer_read h s q (Err r) = record { answer = Offered.Refused r; store = s }
 
   unfoldable pub offer_by : Record → List ℕ → List ℕ → Offering
   offer_by h s q =

@@ -2,9 +2,9 @@
 -- answer has such a definition by its cases, in the crate that owns the enum; the promises and the C face speak through them. Assumes nothing.
 use Rattle.std.specs.Prelude.{List, [], ℕ}
 use Rattle.refusals.specs.declared.Refusal.{Refusal}
-use Rattle.refusals.specs.declared.Verdict.{Verdict}
-use Rattle.refusals.specs.declared.Verdict.TheVariants.{Accepted, Refused}
 use Rattle.refusals.specs.Refusals.{number_of, values_of}
+use Rattle.std.specs.Prelude.{Result}
+use Rattle.std.specs.Prelude.{Ok, Err}
 
 pub record Told : Type 0 where
   pub number : ℕ
@@ -17,6 +17,6 @@ abbrev pub refused_as : Refusal → Told
 refused_as r = record { number = number_of r; values = values_of r }
 
 -- of a call that hands nothing else over
-abbrev pub verdict_told : Verdict → Told
-verdict_told Accepted = accepted_with []
-verdict_told (Refused r) = refused_as r
+abbrev pub verdict_told : Result (Unit {0}) Refusal → Told
+verdict_told (Ok tt) = accepted_with []
+verdict_told (Err r) = refused_as r

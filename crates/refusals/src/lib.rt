@@ -41,13 +41,6 @@ pub enum Refusal {
     Edition,
 }
 
-// What a call answers that hands nothing else over.
-#[derive(Clone, Copy)]
-pub enum Verdict {
-    Accepted,
-    Refused(Refusal),
-}
-
 // The refusal's number.
 pub fn number(r: Refusal) -> u8
     ensures { result ≡ number_of r }

@@ -12,7 +12,6 @@ use lib.Seq.{sets, set-append_left, length-take-le, take_all, drop-drop}
 use borrow.Rule.Slice.PartMut.{put_mid}
 use Rattle.ground.specs.Bits.{sum}
 use Rattle.ground.proofs.Writing.{sets-front, sets-all}
-use Rattle.refusals.specs.declared.Verdict.TheVariants.{Accepted, Refused}
 use Rattle.refusals.specs.declared.Refusal.{Refusal}
 use Rattle.refusals.specs.declared.Refusal.TheVariants.{Short, Repair}
 use Rattle.code.specs.Code.{Bytes, distance}
@@ -33,6 +32,7 @@ use Rattle.encoding.proofs.Feeding.{rest_there, rest_among, length_remainders}
 use Rattle.repair.specs.declared.Counted.{Counted}
 use Rattle.repair.specs.Repair.{Mending, nothing_mended, mending_as, mending_of, Mends}
 use Rattle.repair.specs.InnerRows.{Resting, Ends, Finished, told_of}
+use Rattle.std.specs.Prelude.{Ok, Err}
 
 -- ---- the row at the front
 
@@ -220,7 +220,7 @@ ended-few b i rests w h part e r out p =
 
 -- ---- the call's ends
 
-pub ended-mended : (r : ℕ) → 15 ≤ r → told_of r ≡ record { verdict = Accepted; count = r - 15 }
+pub ended-mended : (r : ℕ) → 15 ≤ r → told_of r ≡ record { verdict = (Ok tt); count = r - 15 }
 unfolding told_of
 ended-mended r h = rw (le-ltb r 15 h) refl
 
@@ -231,7 +231,7 @@ ended-broken r h = rw (lt-ltb r 15 h) refl
 ends_mends : (b : List ℕ) (m : Whole) (r : ℕ) (v : Counted) (out : List ℕ) → Ends b m r out → v ≡ told_of r → Mends (mending_as b m) v out
 ends_mends b (whole c k) r v out p e =
     let n : r - 15 ≡ k = omega (arith, p.0) in
-    record { answers = e ∙ ended-mended r (omega (arith, p.0)) ∙ ap (λ (x : ℕ). record { verdict = Accepted; count = x }) n; leaves = p.1 }
+    record { answers = e ∙ ended-mended r (omega (arith, p.0)) ∙ ap (λ (x : ℕ). record { verdict = (Ok tt); count = x }) n; leaves = p.1 }
 ends_mends b (broken i) r v out p e =
     record { answers = e ∙ ended-broken r (omega (arith, p.0, p.1)) ∙ ap (λ (k : ℕ). nothing_mended (Repair k)) p.1; leaves = p.2 }
 
@@ -271,7 +271,7 @@ module _ (b : List ℕ) (m : length b % 255 ≡ 0) (h : length b ≤ 3825) (v : 
   mended_as_lem w e =
       subst (λ (x : Mending). Mends x v out) (rw (eq-eqb (length b % 255) 0 m, le-leb (length b) 3825 h) (ap (mending_as b) e)) p
 
-  pub mend_accepted : v.verdict ≡ Accepted → mend_rows (length b / 255) 0 b ≡ whole out v.count
+  pub mend_accepted : v.verdict ≡ (Ok tt) → mend_rows (length b / 255) 0 b ≡ whole out v.count
   mend_accepted e = by (mend_rows (length b / 255) 0 b) refl
     where
       by : (w : Whole) → mend_rows (length b / 255) 0 b ≡ w → w ≡ whole out v.count
@@ -279,18 +279,18 @@ module _ (b : List ℕ) (m : length b % 255 ≡ 0) (h : length b ≤ 3825) (v : 
           let m = mended_as_lem (whole c k) f in
           ap₂ whole (sym m.leaves) (sym (ap (λ (x : Counted). x.count) m.answers))
       by (broken i) f =
-          let x : Accepted ≡ Refused (Repair i) = sym e ∙ ap (λ (x : Counted). x.verdict) (mended_as_lem (broken i) f).answers in
+          let x : (Ok tt) ≡ Err (Repair i) = sym e ∙ ap (λ (x : Counted). x.verdict) (mended_as_lem (broken i) f).answers in
           let z : ◌≡◌ {A = ℕ} 0 1 = cc in
           absurd (omega arith)
 
-  pub mend_refused : (r : Refusal) → v.verdict ≡ Refused r → (i : ℕ) × (r ≡ Repair i) × (mend_rows (length b / 255) 0 b ≡ broken i)
+  pub mend_refused : (r : Refusal) → v.verdict ≡ Err r → (i : ℕ) × (r ≡ Repair i) × (mend_rows (length b / 255) 0 b ≡ broken i)
   mend_refused r e = by (mend_rows (length b / 255) 0 b) refl
     where
       by : (w : Whole) → mend_rows (length b / 255) 0 b ≡ w → (i : ℕ) × (r ≡ Repair i) × (w ≡ broken i)
       by (whole c k) f =
-          let x : Refused r ≡ Accepted = sym e ∙ ap (λ (x : Counted). x.verdict) (mended_as_lem (whole c k) f).answers in
+          let x : Err r ≡ (Ok tt) = sym e ∙ ap (λ (x : Counted). x.verdict) (mended_as_lem (whole c k) f).answers in
           let z : ◌≡◌ {A = ℕ} 0 1 = cc in
           absurd (omega arith)
       by (broken i) f =
-          let x : Refused r ≡ Refused (Repair i) = sym e ∙ ap (λ (x : Counted). x.verdict) (mended_as_lem (broken i) f).answers in
+          let x : Err r ≡ Err (Repair i) = sym e ∙ ap (λ (x : Counted). x.verdict) (mended_as_lem (broken i) f).answers in
           (i, cc, refl)

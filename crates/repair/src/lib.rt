@@ -9,12 +9,12 @@ ghost use Rattle.repair.specs.Repair.{nothing_mended, mending_of, Mends};
 mod rows;
 
 use packet::Packet;
-use refusals::{Refusal, Verdict};
+use refusals::Refusal;
 
 // What mending answers, and how many bytes it mended; 0 beside a refusal.
 #[derive(Clone, Copy)]
 pub struct Counted {
-    pub verdict: Verdict,
+    pub verdict: Result<(), Refusal>,
     pub count: u32,
 }
 
@@ -38,7 +38,7 @@ fn refused(refusal: Refusal) -> Counted
     ensures { result ≡ nothing_mended refusal }
 {
     Counted {
-        verdict: Verdict::Refused(refusal),
+        verdict: Err(refusal),
         count: 0,
     }
 }
@@ -52,7 +52,7 @@ fn told(ended: usize) -> Counted
         return refused(Refusal::Repair(ended as u32));
     }
     Counted {
-        verdict: Verdict::Accepted,
+        verdict: Ok(()),
         count: (ended - 15) as u32,
     }
 }

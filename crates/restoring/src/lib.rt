@@ -5,24 +5,21 @@ ghost use Rattle.std.specs.Prelude.{◌≡◌};
 ghost use Rattle.columns.specs.Columns.{hand_columns_of};
 
 use places::Place;
-use refusals::{Refusal, Verdict};
+use refusals::Refusal;
 
 mod lost;
 mod write;
 
 // Writes the file of `n` bytes that a place in column order holds to the start of the output, whose other bytes stay; bytes of empty slots are restored. Refused: 9
 // where no record has such a place over this store, 15, 23, 22, 31, 32, 24, 26; then nothing is written.
-pub fn hand_columns(p: Place, store: &[u8], n: usize, out: &mut [u8]) -> Verdict
+pub fn hand_columns(p: Place, store: &[u8], n: usize, out: &mut [u8]) -> Result<(), Refusal>
     ensures { (result ≡ (hand_columns_of p store.now n out.old).answer)
         × (out.new ≡ (hand_columns_of p store.now n out.old).output) }
 {
-    let verdict = weighing::weigh(p, store, n);
-    if let Verdict::Refused(refusal) = verdict {
-        return Verdict::Refused(refusal);
-    }
+    weighing::weigh(p, store, n)?;
     if out.len() < n {
-        return Verdict::Refused(Refusal::Output);
+        return Err(Refusal::Output);
     }
     write::write_file(p, store, n, out);
-    Verdict::Accepted
+    Ok(())
 }

@@ -6,7 +6,7 @@ ghost use Rattle.std.specs.Prelude.{◌≡◌};
 ghost use Rattle.places.specs.Places.{good};
 ghost use Rattle.places.specs.Room.{lowest_start};
 
-use places::{Found, Record};
+use places::Record;
 
 mod free;
 mod ranges;
@@ -39,12 +39,12 @@ pub fn is_good(held: Record, n: usize) -> bool
 
 // The lowest start at which `size` bytes fit a store of `n` bytes and meet no place. It is 0 or the end of a place in use: a byte
 // lower they would meet that place.
-pub fn lowest_start(held: Record, n: usize, size: usize) -> Found
+pub fn lowest_start(held: Record, n: usize, size: usize) -> Option<usize>
     ensures { result ≡ lowest_start n size held.places }
 {
     let end = ranges::usable(n);
     if free::is_free(held, end, size, 0) {
-        return Found::At(0);
+        return Some(0);
     }
     let mut best = end + 1;
     let mut i: usize = 0;
@@ -61,8 +61,8 @@ pub fn lowest_start(held: Record, n: usize, size: usize) -> Found
         i += 1;
     }
     if best <= end {
-        Found::At(best)
+        Some(best)
     } else {
-        Found::Nothing
+        None
     }
 }

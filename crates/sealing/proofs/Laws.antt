@@ -9,13 +9,13 @@ use lib.Dec.{eqb}
 use lib.ListN.{length, take}
 use lib.Seq.{sets}
 use Rattle.ground.specs.Bits.{sum}
-use Rattle.refusals.specs.declared.Verdict.TheVariants.{Accepted, Refused}
 use Rattle.refusals.specs.declared.Refusal.TheVariants.{Output}
 use Rattle.crc.specs.Crc.{ones, crc32_of}
 use Rattle.crc.specs.Table.{Rule, feed_by}
 use Rattle.crc.proofs.Parts.{fed_more, fed_all}
 use Rattle.crc.proofs.Walk.{feed_by_table}
 use Rattle.sealing.specs.Sealing.{four_bytes, seal_verdict, sealed_at, crc_in, agrees, crc_agrees}
+use Rattle.std.specs.Prelude.{Ok, Err}
 
 -- the header x goes in first, to the register at its start, then the payload y
 pub crc_fed : (t : List ℕ) → Rule 32 0x04C11DB7 32 t → (x y : List ℕ) (z r s : ℕ) → z ≡ ones 32
@@ -46,10 +46,10 @@ pub seal_told : (out : List ℕ) (n : ℕ) → n + 4 ≤ length out → sealed_a
 unfolding sealed_at
 seal_told out n h = rw (le-leb (n + 4) (length out) h) refl
 
-pub seal_served : (room n : ℕ) → n + 4 ≤ room → Accepted ≡ seal_verdict room n
+pub seal_served : (room n : ℕ) → n + 4 ≤ room → (Ok tt) ≡ seal_verdict room n
 unfolding seal_verdict
 seal_served room n h = rw (le-leb (n + 4) room h) refl
 
-pub seal_refused : (out : List ℕ) (n : ℕ) → length out < n + 4 → (Refused Output ≡ seal_verdict (length out) n) × (out ≡ sealed_at out n)
+pub seal_refused : (out : List ℕ) (n : ℕ) → length out < n + 4 → (Err Output ≡ seal_verdict (length out) n) × (out ≡ sealed_at out n)
 unfolding seal_verdict sealed_at
 seal_refused out n h = rw (lt-leb (n + 4) (length out) h) (refl, refl)

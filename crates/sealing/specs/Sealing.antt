@@ -2,10 +2,11 @@
 -- Assumes nothing.
 use Rattle.std.specs.Prelude.{Bool, cond, ◌&&◌, List, [], ◌∷◌, ◌++◌, ℕ, ◌+◌, ◌-◌, ◌*◌, ◌/◌, ◌%◌, eqb, leb, length, get_or, take}
 use Rattle.std.proofs.lemmas.List.Edits.{sets}
-use Rattle.refusals.specs.declared.Verdict.{Verdict}
-use Rattle.refusals.specs.declared.Verdict.TheVariants.{Accepted, Refused}
 use Rattle.refusals.specs.declared.Refusal.TheVariants.{Output}
 use Rattle.crc.specs.Crc.{crc32_of}
+use Rattle.refusals.specs.declared.Refusal.{Refusal}
+use Rattle.std.specs.Prelude.{Result}
+use Rattle.std.specs.Prelude.{Ok, Err}
 
 -- a number as four bytes, the most significant first
 abbrev pub four_bytes : ℕ → List ℕ
@@ -16,8 +17,8 @@ unfoldable pub sealed : List ℕ → List ℕ
 sealed b = b ++ four_bytes (crc32_of b)
 
 -- refusal 26 where there is no room behind the first n of `room` bytes
-unfoldable pub seal_verdict : ℕ → ℕ → Verdict
-seal_verdict room n = cond (leb (n + 4) room) Accepted (Refused Output)
+unfoldable pub seal_verdict : ℕ → ℕ → Result (Unit {0}) Refusal
+seal_verdict room n = cond (leb (n + 4) room) (Ok tt) (Err Output)
 
 -- the CRC of the first n bytes, written behind them; beside a refusal nothing is
 unfoldable pub sealed_at : List ℕ → ℕ → List ℕ

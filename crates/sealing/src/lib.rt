@@ -5,25 +5,25 @@ ghost use Rattle.std.specs.Prelude.{◌≡◌, length};
 ghost use Rattle.sealing.specs.Sealing.{seal_verdict, sealed_at, crc_agrees};
 
 use packet::Packet;
-use refusals::{Refusal, Verdict};
+use refusals::Refusal;
 
 // Writes the CRC of the first n bytes behind them. Refused, and nothing written: 26 where there is no room for it.
-pub fn seal(out: &mut [u8], n: usize) -> Verdict
+pub fn seal(out: &mut [u8], n: usize) -> Result<(), Refusal>
     ensures { (result ≡ seal_verdict (length out.old) n) × (out.new ≡ sealed_at out.old n) }
 {
     let len = out.len();
     if len < Packet::CRC {
-        return Verdict::Refused(Refusal::Output);
+        return Err(Refusal::Output);
     }
     if len - Packet::CRC < n {
-        return Verdict::Refused(Refusal::Output);
+        return Err(Refusal::Output);
     }
     let sum = checksum::crc32(&out[..n]);
     out[n] = (sum / 16777216 % 256) as u8;
     out[n + 1] = (sum / 65536 % 256) as u8;
     out[n + 2] = (sum / 256 % 256) as u8;
     out[n + 3] = (sum % 256) as u8;
-    Verdict::Accepted
+    Ok(())
 }
 
 // Whether the CRC as sent is that of the packet's header and of a payload, which may be the repaired one. What is too short for a header has none.

@@ -10,7 +10,6 @@ use borrow.Author.Tests.{eq-eqb, le-leb}
 use lib.Dec.{eqb}
 use lib.ListN.{length, take, replicate}
 use lib.Seq.{take_all}
-use Rattle.refusals.specs.declared.Verdict.TheVariants.{Accepted, Refused}
 use Rattle.refusals.specs.declared.Refusal.{Refusal}
 use Rattle.refusals.specs.declared.Refusal.TheVariants.{Short}
 use Rattle.code.specs.Code.{distance}
@@ -23,6 +22,7 @@ use Rattle.repair.specs.declared.Counted.{Counted}
 use Rattle.repair.specs.Repair.{Mending, mending_as, mending_of, Mends}
 use Rattle.single.specs.declared.Mended.{Mended}
 use Rattle.single.specs.Single.{mended_as, mend_of, repair_row_of, RepairCounts}
+use Rattle.std.specs.Prelude.{Ok, Err}
 
 pub mend_one : (row : List ℕ) (r : Counted) (out : List ℕ) → length row ≡ 255 → Mends (mending_of row) r out
     → ◌≡◌ {A = Mended} (record { verdict = r.verdict; row = out; count = r.count }) (mend_of row)
@@ -55,7 +55,7 @@ mend_one row r out n p =
 
 -- what is answered, by the length and the repair
 abbrev answer : List ℕ → Bool → Repaired → Mended
-answer row t a = cond t (mended_as row a) (record { verdict = Refused Short; row = replicate 255 0; count = 0 })
+answer row t a = cond t (mended_as row a) (record { verdict = Err Short; row = replicate 255 0; count = 0 })
 
 pub repair_counts : RepairCounts
 unfolding repair_row_of mend_of
@@ -70,12 +70,12 @@ repair_counts row = record {
     few true none e = omega arith
     few false a e = omega arith
 
-    told : (t : Bool) (a : Repaired) → (answer row t a).verdict ≡ Accepted → (answer row t a).count ≡ distance row (answer row t a).row
+    told : (t : Bool) (a : Repaired) → (answer row t a).verdict ≡ (Ok tt) → (answer row t a).count ≡ distance row (answer row t a).row
     told true (found s) v = refl
     told true none v = let z : ◌≡◌ {A = ℕ} 0 1 = cc in absurd (omega arith)
     told false a v = let z : ◌≡◌ {A = ℕ} 0 1 = cc in absurd (omega arith)
 
-    none_told : (t : Bool) (a : Repaired) (r : Refusal) → (answer row t a).verdict ≡ Refused r → (answer row t a).count ≡ 0
+    none_told : (t : Bool) (a : Repaired) (r : Refusal) → (answer row t a).verdict ≡ Err r → (answer row t a).count ≡ 0
     none_told true (found s) r v = let z : ◌≡◌ {A = ℕ} 0 1 = cc in absurd (omega arith)
     none_told true none r v = refl
     none_told false a r v = refl

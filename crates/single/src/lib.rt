@@ -5,13 +5,13 @@
 ghost use Rattle.std.specs.Prelude.{◌≡◌};
 ghost use Rattle.single.specs.Single.{mend_of, repair_row_of};
 
-use refusals::{Refusal, Verdict};
+use refusals::Refusal;
 
 // The corrected row, and the number of bytes at which it differs from the row that came, 0 to 8; beside a refusal the row as it came, or zeros where no row
 // came, and 0.
 #[derive(Clone, Copy)]
 pub struct Mended {
-    pub verdict: Verdict,
+    pub verdict: Result<(), Refusal>,
     pub row: [u8; 255],
     pub count: u32,
 }
@@ -37,7 +37,7 @@ pub fn repair_row(row: &[u8]) -> Mended
     let mut held = [0u8; 255];
     if row.len() != 255 {
         return Mended {
-            verdict: Verdict::Refused(Refusal::Short),
+            verdict: Err(Refusal::Short),
             row: held,
             count: 0,
         };

@@ -8,8 +8,6 @@ use Rattle.refusals.specs.declared.Refusal.{Refusal}
 use Rattle.refusals.specs.declared.Refusal.TheVariants.{Unknown, Slot}
 use Rattle.places.specs.declared.Place.{Place}
 use Rattle.places.specs.declared.Record.{Record}
-use Rattle.places.specs.declared.Found.{Found}
-use Rattle.places.specs.declared.Found.TheVariants.{At, Nothing}
 use Rattle.places.specs.Places.{Name, unused, good, place_named}
 use Rattle.contents.specs.Contents.{Slot as Content, contents, any_wrong, filled, lowest_empty}
 use Rattle.contents.proofs.Filled.{filled-all}
@@ -18,6 +16,8 @@ use Rattle.standing.specs.declared.Standing.{Standing}
 use Rattle.standing.specs.declared.Standing.TheVariants.{Filled, Refused}
 use Rattle.standing.specs.Status.{standing_in, status_found, status_of}
 use Rattle.standing.proofs.SurveyLaws.{Tallied}
+use Rattle.std.specs.Prelude.{Option}
+use Rattle.std.specs.Prelude.{Some, None}
 
 -- ---- by the contents of the slots
 
@@ -26,12 +26,12 @@ module _ (c : List Content) where
   unfolding standing_in
   standing_wrong w = rw w
 
-  pub standing_sound : (p : Place) (t : Seen) → Tallied p c t → (e : Found) → lowest_empty c 0 ≡ e → Filled t.filled e ≡ standing_in c
+  pub standing_sound : (p : Place) (t : Seen) → Tallied p c t → (e : Option ℕ) → lowest_empty c 0 ≡ e → Filled t.filled e ≡ standing_in c
   unfolding standing_in
   standing_sound p t a e l = rw (a.right, sym a.filled, l)
 
   -- every slot is filled
-  pub standing_full : filled c ≡ length c → standing_in c ≡ Filled (length c) Nothing
+  pub standing_full : filled c ≡ length c → standing_in c ≡ Filled (length c) None
   unfolding standing_in
   standing_full e = let f = filled-all c 0 e in rw (f.0, e, f.1)
 
@@ -47,21 +47,21 @@ module _ (h : Record) (s : List ℕ) (x : Name) where
     unfolding status_of
     status_good = rw b
 
-    pub status_unknown : place_named h.places x ≡ Nothing → Refused Unknown ≡ status_of h s x
+    pub status_unknown : place_named h.places x ≡ None → Refused Unknown ≡ status_of h s x
     status_unknown a = ap (status_found h s) (sym a) ∙ status_good
 
-    pub status_found_lem : (i : ℕ) → place_named h.places x ≡ At i → standing_in (contents (get_or h.places i unused) s) ≡ status_of h s x
+    pub status_found_lem : (i : ℕ) → place_named h.places x ≡ Some i → standing_in (contents (get_or h.places i unused) s) ≡ status_of h s x
     status_found_lem i a = ap (status_found h s) (sym a) ∙ status_good
 
 -- ---- two stores of one length, with the same contents at the place
 
 module _ (h : Record) (s t : List ℕ) (x : Name) (l : length s ≡ length t)
-    (same : (i : ℕ) → place_named h.places x ≡ At i → contents (get_or h.places i unused) s ≡ contents (get_or h.places i unused) t) where
+    (same : (i : ℕ) → place_named h.places x ≡ Some i → contents (get_or h.places i unused) s ≡ contents (get_or h.places i unused) t) where
   pub status_same : status_of h s x ≡ status_of h t x
   unfolding status_of
   status_same =
       ap₂ (λ (n : ℕ) (x : Standing). cond (good n h.places) x (Refused Refusal.Record)) l (by (place_named h.places x) same)
     where
-      by : (e : Found) → ((i : ℕ) → e ≡ At i → contents (get_or h.places i unused) s ≡ contents (get_or h.places i unused) t) → status_found h s e ≡ status_found h t e
-      by (At i) f = ap standing_in (f i refl)
-      by Nothing f = refl
+      by : (e : Option ℕ) → ((i : ℕ) → e ≡ Some i → contents (get_or h.places i unused) s ≡ contents (get_or h.places i unused) t) → status_found h s e ≡ status_found h t e
+      by (Some i) f = ap standing_in (f i refl)
+      by None f = refl

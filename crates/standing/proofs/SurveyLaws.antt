@@ -9,8 +9,6 @@ use native.Mathlib.Omega.{arith}
 use borrow.Author.Tests.{le-leb, lt-leb}
 use lib.ListN.{length, length-append}
 use Rattle.places.specs.declared.Place.{Place}
-use Rattle.places.specs.declared.Found.{Found}
-use Rattle.places.specs.declared.Found.TheVariants.{At, Nothing}
 use Rattle.places.specs.Places.{end_of}
 use Rattle.contents.specs.Slots.{length_at}
 use Rattle.contents.specs.Contents.{Slot as Content, holding, bytes_at, slot_at, length_fits, contents, any_wrong, filled, lowest_empty, joined}
@@ -22,6 +20,8 @@ use Rattle.contents.proofs.Places.{length-contents}
 use Rattle.standing.specs.declared.Seen.{Seen}
 use Rattle.standing.specs.Survey.{nothing_seen, before, seen_in, seen_of}
 use Rattle.standing.proofs.StandLaws.{Stands, stands_first, stands_next}
+use Rattle.std.specs.Prelude.{Option}
+use Rattle.std.specs.Prelude.{Some, None}
 
 -- ---- what is seen
 
@@ -48,8 +48,8 @@ module _ (c : List Content) where
 pub record Tallied (p : Place) (c : List Content) (t : Seen) : Type 0 where
   pub right : any_wrong c ≡ false
   pub filled : t.filled ≡ filled c
-  pub none : t.empty ≡ p.count → lowest_empty c 0 ≡ Nothing
-  pub some : (t.empty ≡ p.count → ⊥) → lowest_empty c 0 ≡ At t.empty
+  pub none : t.empty ≡ p.count → lowest_empty c 0 ≡ None
+  pub some : (t.empty ≡ p.count → ⊥) → lowest_empty c 0 ≡ Some t.empty
   pub bytes : t.bytes ≡ length (joined c)
 
 -- what was seen of any slots
@@ -65,7 +65,7 @@ module _ (p : Place) (s : List ℕ) (h : end_of p ≤ length s) (t : Seen) where
       c : List Content
       c = contents p s
 
-      by : (b : Bool) (o : Found) → any_wrong c ≡ b → lowest_empty c 0 ≡ o
+      by : (b : Bool) (o : Option ℕ) → any_wrong c ≡ b → lowest_empty c 0 ≡ o
           → t ≡ cond b nothing_seen (record { sound = true; filled = filled c; empty = before o (length c); bytes = length (joined c) }) → Sees p c t
       by true o w l e = record { wrong = λ x. w; sound = λ x. absurd (true≢false (sym x ∙ ap (λ (y : Seen). y.sound) e)) }
       by false o w l e = record {
@@ -79,20 +79,20 @@ module _ (p : Place) (s : List ℕ) (h : end_of p ≤ length s) (t : Seen) where
         };
       }
         where
-          none : (o : Found) → lowest_empty c 0 ≡ o → before o (length c) ≡ p.count → lowest_empty c 0 ≡ Nothing
-          none (At i) l x = absurd (omega (arith, x, (lowest-found c i l).below, length-contents p s))
-          none Nothing l x = l
+          none : (o : Option ℕ) → lowest_empty c 0 ≡ o → before o (length c) ≡ p.count → lowest_empty c 0 ≡ None
+          none (Some i) l x = absurd (omega (arith, x, (lowest-found c i l).below, length-contents p s))
+          none None l x = l
 
-          some : (o : Found) → lowest_empty c 0 ≡ o → (t.empty ≡ p.count → ⊥) → t.empty ≡ before o (length c) → o ≡ At t.empty
-          some (At i) l x e = ap At (sym e)
-          some Nothing l x e = absurd (x (e ∙ length-contents p s))
+          some : (o : Option ℕ) → lowest_empty c 0 ≡ o → (t.empty ≡ p.count → ⊥) → t.empty ≡ before o (length c) → o ≡ Some t.empty
+          some (Some i) l x e = ap Some (sym e)
+          some None l x e = absurd (x (e ∙ length-contents p s))
 
 -- ---- k slots of c were seen, f of them filled, e before the lowest empty one, with b bytes; d are those that are left
 
 -- either no empty one was seen, or the lowest was
 pub data Lowest (c d : List Content) (f e k : ℕ) : Type 0 where
   none : f ≡ k → e ≡ k → lowest_empty d k ≡ lowest_empty c 0 → Lowest c d f e k
-  some : f < k → e < k → lowest_empty c 0 ≡ At e → Lowest c d f e k
+  some : f < k → e < k → lowest_empty c 0 ≡ Some e → Lowest c d f e k
 
 pub record Tally (c d : List Content) (f e b k : ℕ) : Type 0 where
   pub right : any_wrong d ≡ any_wrong c
@@ -111,16 +111,16 @@ module _ (c d : List Content) (f e k n g h : ℕ) where
   lowest-next : (x : List ℕ) → length x ≡ n → Lowest c (holding x ∷ d) f e k → More f n g → Lead e k g h → Lowest c d g h (k + 1)
   lowest-next [] i l (inl w) v = absurd (w.0 (sym i))
   lowest-next [] i (none a b z) (inr w) (inl v) = absurd (omega (arith, w.1, v.0))
-  lowest-next [] i (none a b z) (inr w) (inr v) = some (omega (arith, w.1)) (omega (arith, v.1)) (sym z ∙ ap At (sym (v.1 ∙ b)))
+  lowest-next [] i (none a b z) (inr w) (inr v) = some (omega (arith, w.1)) (omega (arith, v.1)) (sym z ∙ ap Some (sym (v.1 ∙ b)))
   lowest-next [] i (some a b z) (inr w) (inl v) = absurd (omega (arith, w.1, v.0))
-  lowest-next [] i (some a b z) (inr w) (inr v) = some (omega (arith, w.1)) (omega (arith, v.1)) (z ∙ ap At (sym v.1))
+  lowest-next [] i (some a b z) (inr w) (inr v) = some (omega (arith, w.1)) (omega (arith, v.1)) (z ∙ ap Some (sym v.1))
   lowest-next (y ∷ x) i l (inr w) v = absurd (omega (arith, w.0))
   lowest-next (y ∷ x) i (none a b z) (inl w) (inl v) =
       let j : k + 1 ≡ suc k = omega arith in
       none v.0 v.1 (ap (lowest_empty d) j ∙ z)
   lowest-next (y ∷ x) i (none a b z) (inl w) (inr v) = absurd (v.0 (omega (arith, w.1)))
   lowest-next (y ∷ x) i (some a b z) (inl w) (inl v) = absurd (omega (arith, w.1, v.0))
-  lowest-next (y ∷ x) i (some a b z) (inl w) (inr v) = some (omega (arith, w.1)) (omega (arith, v.1)) (z ∙ ap At (sym v.1))
+  lowest-next (y ∷ x) i (some a b z) (inl w) (inr v) = some (omega (arith, w.1)) (omega (arith, v.1)) (z ∙ ap Some (sym v.1))
 
   count_next : (x : List ℕ) → length x ≡ n → More f n g → g + filled d ≡ f + filled (holding x ∷ d)
   count_next [] i (inl w) = absurd (w.0 (sym i))
@@ -174,8 +174,8 @@ module _ (p : Place) (s : List ℕ) (at f e b k : ℕ) (v : Surveying p s at f e
           all = omega (arith, v.stands.within, length-contents p s)
 
           lowest : Lowest (contents p s) [] f e k → e ≡ before (lowest_empty (contents p s) 0) (length (contents p s))
-          lowest (none x y z) = y ∙ all ∙ ap (λ (o : Found). before o (length (contents p s))) z
-          lowest (some x y z) = ap (λ (o : Found). before o (length (contents p s))) (sym z)
+          lowest (none x y z) = y ∙ all ∙ ap (λ (o : Option ℕ). before o (length (contents p s))) z
+          lowest (some x y z) = ap (λ (o : Option ℕ). before o (length (contents p s))) (sym z)
 
   module _ (h : k < p.count) (n : ℕ) (l : n ≡ length_at s at) where
     length-here : length_at s (slot_at p k) ≡ n

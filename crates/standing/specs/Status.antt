@@ -4,20 +4,20 @@ use Rattle.std.specs.Prelude.{cond, List, ℕ, length, get_or}
 use Rattle.refusals.specs.declared.Refusal.{Refusal}
 use Rattle.refusals.specs.declared.Refusal.TheVariants.{Unknown, Slot}
 use Rattle.places.specs.declared.Record.{Record}
-use Rattle.places.specs.declared.Found.{Found}
-use Rattle.places.specs.declared.Found.TheVariants.{At, Nothing}
 use Rattle.places.specs.Places.{Name, unused, good, place_named}
 use Rattle.contents.specs.Contents.{Slot as Content, contents, any_wrong, filled, lowest_empty}
 use Rattle.standing.specs.declared.Standing.{Standing}
 use Rattle.standing.specs.declared.Standing.TheVariants.{Filled, Refused}
+use Rattle.std.specs.Prelude.{Option}
+use Rattle.std.specs.Prelude.{Some, None}
 
 -- by the slots alone
 unfoldable pub standing_in : List Content → Standing
 standing_in c = cond (any_wrong c) (Refused Slot) (Filled (filled c) (lowest_empty c 0))
 
-abbrev pub status_found : Record → List ℕ → Found → Standing
-status_found h s (At i) = standing_in (contents (get_or h.places i unused) s)
-status_found h s Nothing = Refused Unknown
+abbrev pub status_found : Record → List ℕ → Option ℕ → Standing
+status_found h s (Some i) = standing_in (contents (get_or h.places i unused) s)
+status_found h s None = Refused Unknown
 
 unfoldable pub status_of : Record → List ℕ → Name → Standing
 status_of h s x =

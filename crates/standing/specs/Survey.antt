@@ -2,20 +2,20 @@
 -- Assumes nothing.
 use Rattle.std.specs.Prelude.{true, false, cond, List, ℕ, leb, length}
 use Rattle.places.specs.declared.Place.{Place}
-use Rattle.places.specs.declared.Found.{Found}
-use Rattle.places.specs.declared.Found.TheVariants.{At, Nothing}
 use Rattle.places.specs.Places.{end_of}
 use Rattle.contents.specs.Contents.{Slot as Content, contents, any_wrong, filled, lowest_empty, joined}
 use Rattle.standing.specs.declared.Seen.{Seen}
+use Rattle.std.specs.Prelude.{Option}
+use Rattle.std.specs.Prelude.{Some, None}
 
 -- nothing is counted where a length is wrong or the place passes the end of the store
 abbrev pub nothing_seen : Seen
 nothing_seen = record { sound = false; filled = 0; empty = 0; bytes = 0 }
 
 -- of n slots, those before the lowest empty one; all where none is empty
-abbrev pub before : Found → ℕ → ℕ
-before (At i) n = i
-before Nothing n = n
+abbrev pub before : Option ℕ → ℕ → ℕ
+before (Some i) n = i
+before None n = n
 
 -- by the slots alone
 unfoldable pub seen_in : List Content → Seen

@@ -8,7 +8,7 @@ ghost use Rattle.contents.specs.Contents.{contents};
 ghost use Rattle.standing.specs.Survey.{nothing_seen, seen_of};
 ghost use Rattle.standing.specs.Status.{standing_in, status_of};
 
-use places::{Found, Place, Record};
+use places::{Place, Record};
 use refusals::Refusal;
 
 // What a pass saw: whether the place lies in the store and every length is right, and then how many slots are filled, how many stand before the lowest empty
@@ -24,7 +24,7 @@ pub struct Seen {
 // How a resource stands: the number of filled slots, and the lowest empty one.
 #[derive(Clone, Copy)]
 pub enum Standing {
-    Filled(u32, Found),
+    Filled(u32, Option<usize>),
     Refused(Refusal),
 }
 
@@ -87,9 +87,9 @@ fn stands(p: Place, store: &[u8]) -> Standing
         return Standing::Refused(Refusal::Slot);
     }
     if seen.empty == p.count {
-        return Standing::Filled(seen.filled, Found::Nothing);
+        return Standing::Filled(seen.filled, None);
     }
-    Standing::Filled(seen.filled, Found::At(seen.empty as usize))
+    Standing::Filled(seen.filled, Some(seen.empty as usize))
 }
 
 // How many slots of the place of a resource and type are filled, and the lowest empty one. Refused: 9, 10, 15.
@@ -99,7 +99,7 @@ pub fn status(held: Record, store: &[u8], resource: u16, kind: u8) -> Standing
     if !room::is_good(held, store.len()) {
         return Standing::Refused(Refusal::Record);
     }
-    let Found::At(i) = places::find_place(held, resource, kind) else {
+    let Some(i) = places::find_place(held, resource, kind) else {
         return Standing::Refused(Refusal::Unknown);
     };
     stands(held.places[i], store)

@@ -34,7 +34,7 @@ pub fn put_in(
         return Offered::Refused(Refusal::Slot);
     }
     if n == 0 {
-        contents::put_slot(store, at, payload);
+        let _ = contents::put_slot(store, at, payload);
         return Offered::Stored(mended);
     }
     let from = at + 2;

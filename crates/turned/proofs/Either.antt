@@ -17,7 +17,6 @@ use Rattle.pack.proofs.Laws.{fields_of, packet_sent, packet_edition}
 use Rattle.places.specs.declared.Place.{Place}
 use Rattle.places.specs.declared.Record.{Record}
 use Rattle.opening.specs.Open.{Opening}
-use Rattle.packet.specs.declared.Reading.TheVariants.{Sent}
 use Rattle.record.specs.Offer.{read_for, Offering, differs, offer_of}
 use Rattle.record.specs.Told.{offered_told}
 use Rattle.promises.specs.Calls.{Answer, State, step, fresh}
@@ -31,6 +30,7 @@ use Rattle.promises.proofs.Graded.{graded_from_fresh}
 use Rattle.turned.specs.Wrong.{all_in, taking_either}
 use Rattle.promises.proofs.Example.{one, byte, protected}
 use Rattle.turned.proofs.Turned.{room, opened, begun, held}
+use Rattle.std.specs.Prelude.{Ok}
 
 abbrev first : Settings
 first = record { resource = 5; kind = 1; update = 0; protection = 1; rows = 1; size = 255; edition = 1; order = 0 }
@@ -76,7 +76,7 @@ another e =
     omega (arith, packet_edition first byte 0 protected-first.fit protected-first.count (omega arith), ap (λ (p : Place). p.edition) begun.place)
 
 -- at the place that is open it is read
-sent_reads : read_for opened.held sent ≡ Sent (fields_of first byte 0)
+sent_reads : read_for opened.held sent ≡ Ok (fields_of first byte 0)
 sent_reads =
     let copy = whole_copy first byte protected-first 0 (omega arith) in
     read-there one byte protected 0 0 opened begun sent (copy_name first byte protected-first 0 (omega arith) sent copy) ∙ copy_reads first byte protected-first 0 (omega arith) sent copy

@@ -33,7 +33,6 @@ use Rattle.contents.proofs.Places.{reading_slots, storing-sets}
 use Rattle.contents.specs.Slots.{stored}
 use Rattle.columns.specs.Handing.{Handing, hand_tables}
 use Rattle.handing.specs.Hand.{hand_rows, hand_joined, hand_contents, hand_out_of}
-use Rattle.refusals.specs.declared.Verdict.{Verdict}
 use Rattle.refusals.specs.Told.{accepted_with, verdict_told}
 use Rattle.code.specs.Mend.{whole, behind, altered_in}
 use Rattle.opening.specs.Open.{Opening, open_of}
@@ -52,6 +51,7 @@ use Rattle.promises.proofs.Judged.{not_different}
 use Rattle.promises.proofs.Demand.{Collecting, copy_reads_there, opened_collecting}
 use Rattle.promises.proofs.Fresh.{takes, taken, opens}
 use Rattle.turned.proofs.Turned.{zero_row, wrong_row, wrong-bytes, zero_coded}
+use Rattle.std.specs.Prelude.{Err}
 
 abbrev two : Settings
 two = record { resource = 5; kind = 1; update = 0; protection = 1; rows = 1; size = 510; edition = 2; order = 0 }
@@ -223,7 +223,7 @@ unfolding hand_out_of
 handed_of t c l e out = rw (ap (λ (n : ℕ). good n held.places) l ∙ begun.sound, begun.named, begun.place, e) refl
 
 -- nothing came
-missing : hand_contents (place_of two 1 0) (holding [] ∷ []) 478 zeros ≡ record { answer = Verdict.Refused (Missing 0); output = zeros }
+missing : hand_contents (place_of two 1 0) (holding [] ∷ []) 478 zeros ≡ record { answer = Err (Missing 0); output = zeros }
 unfolding hand_contents
 missing = refl
 
@@ -259,7 +259,7 @@ first-row-lost d = by (agrees altered body) refl
         omega arith
     by false e =
         let kept : (offer_by first_row_only held store altered).store ≡ store = ap (λ (o : Offering). o.store) (offered_first ∙ ap (λ (b : Bool). offer_judged (place_of two 1 0) store (cond b (put 0 body 0) (refuse Crc))) e) in
-        let handed : hand_out_of held (offer_by first_row_only held store altered).store (settings_name two) 478 zeros ≡ record { answer = Verdict.Refused (Missing 0); output = zeros } =
+        let handed : hand_out_of held (offer_by first_row_only held store altered).store (settings_name two) 478 zeros ≡ record { answer = Err (Missing 0); output = zeros } =
         ap (λ (t : List ℕ). hand_out_of held t (settings_name two) 478 zeros) kept ∙ handed_of store (holding []) refl empty zeros ∙ missing in
         let z : ◌≡◌ {A = ℕ} 21 0 = ap (λ (h : Handing). (verdict_told h.answer).number) (sym handed) ∙ ap (λ (a : Answer). a.told.number) told in
         omega arith

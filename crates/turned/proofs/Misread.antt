@@ -6,7 +6,6 @@ use mathlib.Core.List.{List, [], ◌∷◌, ◌++◌, flatten}
 use Prim.Native.Nat.{ℕ, ◌+◌}
 use native.Mathlib.Omega.{arith}
 use lib.ListN.{length, get_or, replicate}
-use Rattle.refusals.specs.declared.Verdict.TheVariants.{Accepted}
 use Rattle.ground.specs.Bits.{sum}
 use Rattle.field.specs.Field.{product, carryless, reduce}
 use Rattle.crc.specs.Crc.{bit, bits, feed, crc, crc32_of}
@@ -24,6 +23,7 @@ use Rattle.handing.specs.Hand.{hand_rows}
 use Rattle.handing.proofs.HandLaws.{rows-coded}
 use Rattle.turned.proofs.Turned.{zero_row, wrong_row, wrong-near, wrong-bytes}
 use Rattle.turned.specs.Misreadings.{info_by_rows, information_first, agrees_before, kept_if_fits, cut_zeros}
+use Rattle.std.specs.Prelude.{Ok}
 
 abbrev five : List ℕ
 five = 10 ∷ 11 ∷ 12 ∷ 13 ∷ 14 ∷ []
@@ -76,7 +76,7 @@ not_kept e =
 abbrev ending : List ℕ
 ending = 7 ∷ 0 ∷ []
 
-pub zeros_handed : hand_rows 1 (coded_file 0 1 ending) 2 (9 ∷ 9 ∷ []) ≡ record { answer = Accepted; output = ending }
+pub zeros_handed : hand_rows 1 (coded_file 0 1 ending) 2 (9 ∷ 9 ∷ []) ≡ record { answer = (Ok tt); output = ending }
 zeros_handed = rows-coded 1 (omega arith) ending (9 ∷ 9 ∷ []) (omega arith)
 
 pub not_cut : cut_zeros (undone 0 1 (coded_file 0 1 ending) 239 0) ≡ ending → ⊥

@@ -13,12 +13,10 @@ use Rattle.refusals.specs.Told.{Told}
 use Rattle.layout.specs.Layout.{undone}
 use Rattle.code.specs.Code.{Bytes}
 use Rattle.packet.specs.declared.Packet.{Packet}
-use Rattle.packet.specs.declared.Reading.TheVariants.{Sent}
 use Rattle.settings.specs.Settings.{settings_fit}
 use Rattle.pack.specs.Pack.{payload_of, packet_of}
 use Rattle.pack.proofs.Laws.{fields_of, payload_some, payload_most, payload_rows, joined-file}
 use Rattle.places.specs.declared.Place.{Place}
-use Rattle.places.specs.declared.Found.TheVariants.{At}
 use Rattle.places.specs.Places.{settings_name, end_of, place_named, place_of}
 use Rattle.places.proofs.Facts.{named_facts}
 use Rattle.contents.specs.Contents.{Slot as Content, holding, slot_at, slot_of}
@@ -40,6 +38,8 @@ use Rattle.promises.proofs.Demand.{read-there, Collecting, copy_go}
 use Rattle.promises.proofs.Slots.{held_found}
 use Rattle.promises.proofs.Example.{one, byte, protected}
 use Rattle.turned.proofs.Turned.{packet, opened, begun}
+use Rattle.std.specs.Prelude.{Ok}
+use Rattle.std.specs.Prelude.{Some}
 
 -- ---- two files of one byte
 
@@ -86,7 +86,7 @@ later = packet_of one other 0
 later-copy : Copy one other 0 later
 later-copy = whole_copy one other protected-other 0 (omega arith)
 
-later_reads : read_for full.held later ≡ Sent (fields_of one other 0)
+later_reads : read_for full.held later ≡ Ok (fields_of one other 0)
 later_reads = read-there one byte protected 0 0 full there later (copy_name one other protected-other 0 (omega arith) later later-copy) ∙ copy_reads one other protected-other 0 (omega arith) later later-copy
 
 later-judged : judge (place_at full 0) (fields_of one other 0) later ≡ put 0 (payload_of one other 0) (bytes_altered later (payload_of one other 0))
@@ -142,9 +142,9 @@ changed e =
 -- the slot that it names was not empty
 not_empty : (i n : ℕ) (b : List ℕ) (m : ℕ) → Carried full later i n b m → slot_in full i n ≡ holding [] → ⊥
 not_empty i n b m c e =
-    let read : Sent c.fields ≡ Sent (fields_of one other 0) = sym c.read ∙ later_reads in
+    let read : Ok c.fields ≡ Ok (fields_of one other 0) = sym c.read ∙ later_reads in
     let fields : c.fields ≡ fields_of one other 0 = cc in
-    let at : At i ≡ At 0 = sym (held_found full (packet_name c.fields) i c.held) ∙ ap (λ (f : Packet). place_named full.held.places (packet_name f)) fields ∙ there.named in
+    let at : Some i ≡ Some 0 = sym (held_found full (packet_name c.fields) i c.held) ∙ ap (λ (f : Packet). place_named full.held.places (packet_name f)) fields ∙ there.named in
     let first : i ≡ 0 = cc in
     let zeroth : n ≡ 0 = c.number ∙ ap (λ (f : Packet). f.number) fields in
     let none : holding [] ≡ holding (payload_of one byte 0) =

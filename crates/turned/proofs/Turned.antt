@@ -8,7 +8,6 @@ use native.Mathlib.Omega.{arith}
 use lib.ListN.{length, get_or, replicate}
 use Rattle.ground.specs.Bits.{sum}
 use Rattle.refusals.specs.declared.Refusal.TheVariants.{Missing}
-use Rattle.refusals.specs.declared.Verdict.TheVariants.{Refused}
 use Rattle.refusals.specs.Told.{verdict_told}
 use Rattle.field.specs.Field.{product, carryless, reduce}
 use Rattle.code.specs.Code.{Bytes, Coded, add, scale, distance}
@@ -21,7 +20,6 @@ use Rattle.code.proofs.Distance.{distance_self, coded_unique}
 use Rattle.code.proofs.Exact.{repair-coded}
 use Rattle.pack.specs.Pack.{packet_of}
 use Rattle.places.specs.declared.Place.{Place}
-use Rattle.places.specs.declared.Found.TheVariants.{At, Nothing}
 use Rattle.places.specs.Places.{Name, settings_name, first_from, fresh_record, place_of, in_rows}
 use Rattle.contents.specs.Contents.{Slot as Content, holding, contents}
 use Rattle.opening.specs.Open.{Opening}
@@ -43,6 +41,8 @@ use Rattle.promises.proofs.Own.{some_carry}
 use Rattle.promises.proofs.Demand.{Collecting, opened_collecting}
 use Rattle.promises.proofs.Fresh.{takes, taken}
 use Rattle.promises.proofs.Slots.{held_found, found-held, status_by_slots}
+use Rattle.std.specs.Prelude.{Err}
+use Rattle.std.specs.Prelude.{Some, None}
 
 -- ---- the example
 
@@ -109,7 +109,7 @@ pub losing-turned : OffersBySlots losing → ⊥
 unfolding losing
 losing-turned d = stored_changes opened packet (0 ∷ []) (d opened packet refl) refl
 
-empty-handed : hand_out_of opened.held opened.store (settings_name one) 1 (0 ∷ []) ≡ record { answer = Refused (Missing 0); output = 0 ∷ [] }
+empty-handed : hand_out_of opened.held opened.store (settings_name one) 1 (0 ∷ []) ≡ record { answer = Err (Missing 0); output = 0 ∷ [] }
 unfolding hand_contents
 empty-handed =
     out-found opened.held opened.store (settings_name one) begun.sound 1 (0 ∷ []) 0 begun.named
@@ -127,7 +127,7 @@ losing_breaks_demand_3 d =
 
 none_open : (s : List ℕ) (r : Name) (i : ℕ) → Held (fresh s) r i → ⊥
 unfolding first_from
-none_open s r i h = let e : Nothing ≡ At i = held_found (fresh s) r i h in let z : ◌≡◌ {A = ℕ} 0 1 = cc in omega arith
+none_open s r i h = let e : None ≡ Some i = held_found (fresh s) r i h in let z : ◌≡◌ {A = ℕ} 0 1 = cc in omega arith
 
 accepts_held : (x : State) (q : List ℕ) (y : State) {v : List ℕ} → Accepts x q y v → (r : Name) × (i : ℕ) × Held x r i
 accepts_held x q y (Accepts.stored i n b m c empty full others) = (packet_name c.fields, i, c.held)

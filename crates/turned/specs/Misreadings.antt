@@ -7,11 +7,7 @@ use Rattle.code.specs.Repair.{checks_of}
 use Rattle.layout.specs.Layout.{info_of}
 use Rattle.refusals.specs.Told.{Told}
 use Rattle.packet.specs.declared.Packet.{Packet}
-use Rattle.packet.specs.declared.Reading.{Reading}
-use Rattle.packet.specs.declared.Reading.TheVariants.{Sent, Refused}
 use Rattle.places.specs.declared.Place.{Place}
-use Rattle.places.specs.declared.Found.{Found}
-use Rattle.places.specs.declared.Found.TheVariants.{At, Nothing}
 use Rattle.places.specs.Places.{place_named}
 use Rattle.contents.specs.Contents.{slot_at}
 use Rattle.contents.specs.Slots.{stored}
@@ -23,6 +19,11 @@ use Rattle.promises.specs.Calls.{State, Program, step, telling}
 use Rattle.promises.specs.Calls.Call.{offering}
 use Rattle.promises.specs.Statements.{place_at}
 use Rattle.turned.specs.Wrong.{offering_by}
+use Rattle.refusals.specs.declared.Refusal.{Refusal}
+use Rattle.std.specs.Prelude.{Result}
+use Rattle.std.specs.Prelude.{Option}
+use Rattle.std.specs.Prelude.{Ok, Err}
+use Rattle.std.specs.Prelude.{Some, None}
 
 -- tables filled row by row
 unfoldable pub info_by_rows : ℕ → List ℕ → ℕ → ℕ → List ℕ
@@ -45,13 +46,13 @@ abbrev pub put_at : Place → List ℕ → Judged → List ℕ
 put_at p s (refuse r) = s
 put_at p s (put k b m) = stored s (slot_at p k) b
 
-abbrev pub put_found : State → Packet → List ℕ → Found → List ℕ
-put_found x f q (At i) = put_at (place_at x i) x.store (judge (place_at x i) f q)
-put_found x f q Nothing = x.store
+abbrev pub put_found : State → Packet → List ℕ → Option ℕ → List ℕ
+put_found x f q (Some i) = put_at (place_at x i) x.store (judge (place_at x i) f q)
+put_found x f q None = x.store
 
-abbrev pub put_read : State → List ℕ → Reading → List ℕ
-put_read x q (Sent f) = put_found x f q (place_named x.held.places (packet_name f))
-put_read x q (Refused r) = x.store
+abbrev pub put_read : State → List ℕ → Result Packet Refusal → List ℕ
+put_read x q (Ok f) = put_found x f q (place_named x.held.places (packet_name f))
+put_read x q (Err r) = x.store
 
 unfoldable pub replacing : Told → Program
 replacing a =

@@ -9,8 +9,6 @@ use Rattle.packet.specs.Packet.{fields_in}
 use Rattle.packet.specs.Edition.{edition_of}
 use Rattle.places.specs.declared.Place.{Place}
 use Rattle.places.specs.declared.Record.{Record}
-use Rattle.places.specs.declared.Found.{Found}
-use Rattle.places.specs.declared.Found.TheVariants.{At, Nothing}
 use Rattle.places.specs.Places.{unused, in_use, place_named}
 use Rattle.ground.specs.Lists.{listed}
 use Rattle.layout.specs.Layout.{spot_of}
@@ -22,6 +20,8 @@ use Rattle.record.specs.Offer.{offer_by, offer_of}
 use Rattle.record.specs.Told.{offered_told}
 use Rattle.promises.specs.Calls.{Answer, telling, State, Outcome, Program, step}
 use Rattle.promises.specs.Calls.Call.{packing, opening, offering, asking, handing, closing}
+use Rattle.std.specs.Prelude.{Option}
+use Rattle.std.specs.Prelude.{Some, None}
 
 -- it refuses everything
 unfoldable pub refusing : Program
@@ -115,9 +115,9 @@ abbrev pub file_in : ℕ → (ℕ → List ℕ) → ℕ → List ℕ
 file_in m row n = listed (λ i. get_or (row ((spot_of m i).table * m + (spot_of m i).row)) (spot_of m i).column 0) n 0
 
 -- where `step` hands out, the file is read from rows that are made of what came in another way
-abbrev pub handed_by : (ℕ → ℕ → List Content → ℕ → List ℕ) → State → ℕ → List ℕ → Found → List ℕ
-handed_by row x n out Nothing = out
-handed_by row x n out (At i) =
+abbrev pub handed_by : (ℕ → ℕ → List Content → ℕ → List ℕ) → State → ℕ → List ℕ → Option ℕ → List ℕ
+handed_by row x n out None = out
+handed_by row x n out (Some i) =
     file_in (get_or x.held.places i unused).rows
     (row (get_or x.held.places i unused).rows (get_or x.held.places i unused).slot (contents (get_or x.held.places i unused) x.store)) n ++ drop n out
 

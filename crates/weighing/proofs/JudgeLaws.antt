@@ -9,7 +9,6 @@ use lib.Dec.{eqb}
 use Rattle.ground.proofs.Truth.{differ, not_no}
 use Rattle.code.specs.Search.{Repaired}
 use Rattle.code.specs.Search.Repaired.{found, none}
-use Rattle.places.specs.declared.Found.{Found}
 use Rattle.places.specs.Room.{lowest_from}
 use Rattle.contents.specs.Contents.{Slot as Content}
 use Rattle.standing.specs.Survey.{before}
@@ -19,6 +18,7 @@ use Rattle.columns.specs.InnerJudge.{is_nothing, beyond_in, spoilt, fault_of}
 use Rattle.columns.proofs.Lowest.{lowest_left, left-first, left_end, left_here, left-next, none-next}
 use Rattle.columns.proofs.ZeroLaws.{each_beyond}
 use Rattle.weighing.specs.Inner.{Judges}
+use Rattle.std.specs.Prelude.{Option}
 
 -- ---- one row
 
@@ -89,15 +89,15 @@ module _ (m size : ℕ) (c : List Content) (n rows : ℕ) where
   module _ (coded clear : Bool) (q : ℕ) (v : Judging m size c n rows coded clear q) where
     pub judging_end : rows ≤ q → Judges m size c n rows (record { lacks = rows; coded = coded; clear = clear })
     judging_end h = record {
-      lacking = ap (λ (o : Found). before o rows) (sym (left_end (lacks m size c) rows q h) ∙ v.lacking);
-      coded = λ e. sym (and-true coded) ∙ ap (λ (o : Found). coded && is_nothing o) (sym (left_end (uncoded m size c) rows q h)) ∙ v.codes;
-      clear = λ e. sym (and-true clear) ∙ ap (λ (o : Found). clear && is_nothing o) (sym (left_end (spoilt m size c n) rows q h)) ∙ v.clears;
+      lacking = ap (λ (o : Option ℕ). before o rows) (sym (left_end (lacks m size c) rows q h) ∙ v.lacking);
+      coded = λ e. sym (and-true coded) ∙ ap (λ (o : Option ℕ). coded && is_nothing o) (sym (left_end (uncoded m size c) rows q h)) ∙ v.codes;
+      clear = λ e. sym (and-true clear) ∙ ap (λ (o : Option ℕ). clear && is_nothing o) (sym (left_end (spoilt m size c n) rows q h)) ∙ v.clears;
     }
 
     module _ (h : q < rows) (r : ℕ) (told : r ≡ fault_of m size c n q) where
       pub judging_lacks : r ≡ 1 → Judges m size c n rows (record { lacks = q; coded = coded; clear = clear })
       judging_lacks e = record {
-        lacking = ap (λ (o : Found). before o rows) (sym (left_here (lacks m size c) rows q h (fault_first m size c n q r told e)) ∙ v.lacking);
+        lacking = ap (λ (o : Option ℕ). before o rows) (sym (left_here (lacks m size c) rows q h (fault_first m size c n q r told e)) ∙ v.lacking);
         coded = λ z. absurd (omega arith);
         clear = λ z. absurd (omega arith);
       }

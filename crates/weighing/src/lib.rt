@@ -7,33 +7,33 @@ ghost use Rattle.columns.specs.Columns.{hand_columns_of, weighed_of};
 ghost use Rattle.columns.specs.InnerJudge.{Shaped, hand_judged};
 
 use places::Place;
-use refusals::{Refusal, Verdict};
+use refusals::Refusal;
 
 mod judge;
 mod lengths;
 
 // What Hand out of `n` bytes answers for a place in column order if the output has room. Refused: 9 where no record has such a place over this store, 15, 23, 22, 31, 32, 24.
-pub fn weigh(p: Place, store: &[u8], n: usize) -> Verdict
+pub fn weigh(p: Place, store: &[u8], n: usize) -> Result<(), Refusal>
     ensures { result ≡ weighed_of p store.now n }
 {
     if !lengths::is_tabled(p, store.len()) {
-        return Verdict::Refused(Refusal::Record);
+        return Err(Refusal::Record);
     }
     let seen = standing::survey(p, store);
     if !seen.sound {
-        return Verdict::Refused(Refusal::Slot);
+        return Err(Refusal::Slot);
     }
     if !lengths::length_serves(p, n) {
-        return Verdict::Refused(Refusal::Size);
+        return Err(Refusal::Size);
     }
     if !lengths::lengths_fit(p, store, n) {
-        return Verdict::Refused(Refusal::Shape);
+        return Err(Refusal::Shape);
     }
     weigh_rows(p, store, n)
 }
 
 // The same where no length is wrong: what is left is judged row by row.
-fn weigh_rows(p: Place, store: &[u8], n: usize) -> Verdict
+fn weigh_rows(p: Place, store: &[u8], n: usize) -> Result<(), Refusal>
     requires { Shaped p store.now n × (hand_columns_of p store.now n (replicate n 0) ≡ hand_judged p store.now n (replicate n 0)) }
     ensures { result ≡ weighed_of p store.now n }
 {
@@ -41,13 +41,13 @@ fn weigh_rows(p: Place, store: &[u8], n: usize) -> Verdict
     let judged = judge::judge(p, store, n, rows);
     let lacks = judged.lacks;
     if lacks < rows {
-        return Verdict::Refused(Refusal::Lost(lacks));
+        return Err(Refusal::Lost(lacks));
     }
     if !judged.coded {
-        return Verdict::Refused(Refusal::Code);
+        return Err(Refusal::Code);
     }
     if !judged.clear {
-        return Verdict::Refused(Refusal::Padding);
+        return Err(Refusal::Padding);
     }
-    Verdict::Accepted
+    Ok(())
 }

@@ -37,8 +37,8 @@ overflow_add-result c = omega arith
 pub overflow_mul-result-in-Repeat-2 : goal.overflow_mul-result-in-Repeat-2
 overflow_mul-result-in-Repeat-2 c = omega arith
 
-pub enum_known-offered-in-Refused-1 : goal.enum_known-offered-in-Refused-1
-enum_known-offered-in-Refused-1 c = omega arith
+pub enum_known-offered-in-Err-1 : goal.enum_known-offered-in-Err-1
+enum_known-offered-in-Err-1 c = omega arith
 
 pub returns-in-Stored : goal.returns-in-Stored
 returns-in-Stored c = sym (zero-add _) ∙ told c.in-Stored.is
@@ -46,5 +46,5 @@ returns-in-Stored c = sym (zero-add _) ∙ told c.in-Stored.is
 pub returns-in-Repeat : goal.returns-in-Repeat
 returns-in-Repeat c = sym (zero-add _) ∙ told c.in-Repeat.is
 
-pub returns-in-Refused : goal.returns-in-Refused
-returns-in-Refused c = c.refused.ensures ∙ told c.in-Refused.is
+pub returns-in-Err : goal.returns-in-Err
+returns-in-Err c = c.refused.ensures ∙ told c.in-Err.is

@@ -12,8 +12,8 @@ enum_known-verdict c = omega arith
 pub shape_of-out : goal.shape_of-out
 shape_of-out c = omega arith
 
-pub returns-in-Accepted : goal.returns-in-Accepted
-returns-in-Accepted c = puts_accepted _ _ _ _ _ c.in-Accepted.is c.put.ensures
+pub returns-in-Ok : goal.returns-in-Ok
+returns-in-Ok c = puts_accepted _ _ _ _ _ c.in-Ok.is c.put.ensures
 
-pub returns-in-Refused : goal.returns-in-Refused
-returns-in-Refused c = puts-refused _ _ _ _ _ c.in-Refused.is c.refused.ensures
+pub returns-in-Err : goal.returns-in-Err
+returns-in-Err c = puts-refused _ _ _ _ _ c.in-Err.is c.refused.ensures

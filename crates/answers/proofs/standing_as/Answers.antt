@@ -15,13 +15,13 @@ told e = ap (λ (y : Standing). word_of (answer_of (standing_told y))) (sym e)
 pub enum_known-standing : goal.enum_known-standing
 enum_known-standing c = omega arith
 
-pub enum_known-standing-in-Refused-1 : goal.enum_known-standing-in-Refused-1
-enum_known-standing-in-Refused-1 c = omega arith
+pub enum_known-standing-in-Err-1 : goal.enum_known-standing-in-Err-1
+enum_known-standing-in-Err-1 c = omega arith
 
 pub returns-in-Filled : goal.returns-in-Filled
 returns-in-Filled c = c.filled_as.ensures ∙ told c.in-Filled.is
 
-pub returns-in-Refused : goal.returns-in-Refused
-returns-in-Refused c =
+pub returns-in-Err : goal.returns-in-Err
+returns-in-Err c =
     let fit : mir.Val.Fits mir.Syntax.w64 c.refused.result = search (rules, c.refused.type_inv) in
-    fits_word fit.fits ∙ ap word_of c.refused.ensures ∙ told c.in-Refused.is
+    fits_word fit.fits ∙ ap word_of c.refused.ensures ∙ told c.in-Err.is

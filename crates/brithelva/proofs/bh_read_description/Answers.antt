@@ -13,10 +13,10 @@ enum_known-r c = omega arith
 pub shape_of-values : goal.shape_of-values
 shape_of-values c = omega arith
 
-pub returns-in-Attributes : goal.returns-in-Attributes
-returns-in-Attributes c =
-    describe_given _ _ _ _ _ (sym c.read.ensures ∙ c.in-Attributes.is) c.put_numbers.ensures
+pub returns-in-Ok : goal.returns-in-Ok
+returns-in-Ok c =
+    describe_given _ _ _ _ _ (sym c.read.ensures ∙ c.in-Ok.is) c.put_numbers.ensures
 
-pub returns-in-Refused : goal.returns-in-Refused
-returns-in-Refused c =
-    describe_refused _ _ _ _ (sym c.read.ensures ∙ c.in-Refused.is) c.refused.ensures
+pub returns-in-Err : goal.returns-in-Err
+returns-in-Err c =
+    describe_refused _ _ _ _ (sym c.read.ensures ∙ c.in-Err.is) c.refused.ensures

@@ -7,9 +7,9 @@ use lib.ListN.{length}
 use native.Mathlib.Omega.{arith}
 use borrow.Author.Rules.{rules}
 use borrow.Author.Tests.{eq-eqb, ne_eqb}
-use Rattle.refusals.specs.declared.Verdict.TheVariants.{Accepted}
 use Rattle.encoding.specs.Encode.{encode_of}
 use Rattle.encoding.proofs.encode_row.Goals as goal
+use Rattle.std.specs.Prelude.{Ok}
 
 pub returns-then-info-ne239 : goal.returns-then-info-ne239
 unfolding encode_of
@@ -22,4 +22,4 @@ pub returns : goal.returns
 unfolding encode_of
 returns c =
     rw (eq-eqb (length c.args.info.now) 239 (omega arith))
-    (ap (λ (l : List ℕ). record { verdict = Accepted; checks = l }) c.row_checks.ensures)
+    (ap (λ (l : List ℕ). record { verdict = (Ok tt); checks = l }) c.row_checks.ensures)

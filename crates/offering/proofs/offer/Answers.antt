@@ -6,9 +6,7 @@ use native.Mathlib.Omega.{arith}
 use borrow.Author.Rules.{rules}
 use lib.Dec.{eqb}
 use lib.ListN.{length, get_or}
-use Rattle.packet.specs.declared.Reading.TheVariants.{Sent}
 use Rattle.packet.specs.Packet.{read_by}
-use Rattle.places.specs.declared.Found.TheVariants.{At}
 use Rattle.places.specs.Places.{Name, unused, names, good, place_named}
 use Rattle.places.proofs.Steps.{mapped_length}
 use Rattle.places.proofs.Keeping.{good-at}
@@ -17,6 +15,8 @@ use Rattle.record.specs.Offer.{name_in}
 use Rattle.record.proofs.OfferCases.{told, come, refusal_read, offer_bad}
 use Rattle.record.proofs.OfferReads.{offer-short, offer-nowhere, offer_unread_at, named-at, offer-read-at}
 use Rattle.offering.proofs.offer.Goals as goal
+use Rattle.std.specs.Prelude.{Ok}
+use Rattle.std.specs.Prelude.{Some}
 
 pub returns-then-not-is_good : goal.returns-then-not-is_good
 returns-then-not-is_good c = told (offer_bad _ _ _ (sym c.is_good.ensures ∙ c.if-not-is_good.true))
@@ -56,18 +56,18 @@ pub offset_bounds-held-i : goal.offset_bounds-held-i
 offset_bounds-held-i c =
     let name : ◌≡◌ {A = Name} (record { resource = c.resource_in.result; kind = c.kind_in.result }) (name_in c.args.packet.now) = λ i. record { resource = c.resource_in.ensures i; kind = c.kind_in.ensures i } in
     let found : place_named c.args.held.places (name_in c.args.packet.now) ≡ c.find_place.result = sym (c.find_place.ensures ∙ ap (place_named c.args.held.places) name) in
-    let named : place_named c.args.held.places (name_in c.args.packet.now) ≡ At c.in-At.i = found ∙ c.in-At.is in
+    let named : place_named c.args.held.places (name_in c.args.packet.now) ≡ Some c.in-Some.i = found ∙ c.in-Some.is in
     let eight : length c.args.held.places ≡ 8 = search (rules, mapped_length) in
-    let below : c.in-At.i < 8 = omega (arith, (found-names _ _ _ named).0, eight) in
+    let below : c.in-Some.i < 8 = omega (arith, (found-names _ _ _ named).0, eight) in
     omega (arith, below)
 
 pub bounds-held-i : goal.bounds-held-i
 bounds-held-i c =
     let name : ◌≡◌ {A = Name} (record { resource = c.resource_in.result; kind = c.kind_in.result }) (name_in c.args.packet.now) = λ i. record { resource = c.resource_in.ensures i; kind = c.kind_in.ensures i } in
     let found : place_named c.args.held.places (name_in c.args.packet.now) ≡ c.find_place.result = sym (c.find_place.ensures ∙ ap (place_named c.args.held.places) name) in
-    let named : place_named c.args.held.places (name_in c.args.packet.now) ≡ At c.in-At.i = found ∙ c.in-At.is in
+    let named : place_named c.args.held.places (name_in c.args.packet.now) ≡ Some c.in-Some.i = found ∙ c.in-Some.is in
     let eight : length c.args.held.places ≡ 8 = search (rules, mapped_length) in
-    let below : c.in-At.i < 8 = omega (arith, (found-names _ _ _ named).0, eight) in
+    let below : c.in-Some.i < 8 = omega (arith, (found-names _ _ _ named).0, eight) in
     below
 
 pub enum_known-reading : goal.enum_known-reading
@@ -81,7 +81,7 @@ returns-in_default-reading c =
     let well : good (length c.args.store.now) c.args.held.places ≡ true = sym c.is_good.ensures ∙ c.if-not-is_good.false in
     let name : ◌≡◌ {A = Name} (record { resource = c.resource_in.result; kind = c.kind_in.result }) (name_in c.args.packet.now) = λ i. record { resource = c.resource_in.ensures i; kind = c.kind_in.ensures i } in
     let found : place_named c.args.held.places (name_in c.args.packet.now) ≡ c.find_place.result = sym (c.find_place.ensures ∙ ap (place_named c.args.held.places) name) in
-    let named : place_named c.args.held.places (name_in c.args.packet.now) ≡ At c.in-At.i = found ∙ c.in-At.is in
+    let named : place_named c.args.held.places (name_in c.args.packet.now) ≡ Some c.in-Some.i = found ∙ c.in-Some.is in
     let s = c.args in
     told (offer_unread_at s.held s.store.now s.packet.now well _ named _ (sym c.read_at-reading.ensures ∙ refusal_read _ _ _ c.in_default-reading.is c.refusal_in.ensures))
 
@@ -90,14 +90,14 @@ offer_at-requires c =
     let well : good (length c.args.store.now) c.args.held.places ≡ true = sym c.is_good.ensures ∙ c.if-not-is_good.false in
     let name : ◌≡◌ {A = Name} (record { resource = c.resource_in.result; kind = c.kind_in.result }) (name_in c.args.packet.now) = λ i. record { resource = c.resource_in.ensures i; kind = c.kind_in.ensures i } in
     let found : place_named c.args.held.places (name_in c.args.packet.now) ≡ c.find_place.result = sym (c.find_place.ensures ∙ ap (place_named c.args.held.places) name) in
-    let named : place_named c.args.held.places (name_in c.args.packet.now) ≡ At c.in-At.i = found ∙ c.in-At.is in
-    let read : read_by (not (eqb (get_or c.args.held.places c.in-At.i unused).order 1)) c.args.packet.now ≡ Sent c.in-Sent.fields = sym c.read_at-reading.ensures ∙ c.in-Sent.is in
+    let named : place_named c.args.held.places (name_in c.args.packet.now) ≡ Some c.in-Some.i = found ∙ c.in-Some.is in
+    let read : read_by (not (eqb (get_or c.args.held.places c.in-Some.i unused).order 1)) c.args.packet.now ≡ Ok c.in-Ok.fields = sym c.read_at-reading.ensures ∙ c.in-Ok.is in
     let s = c.args in
     let g = well in
     let w = named in
     let r = read in
     let n = found-names _ _ _ w in
-    let p = get_or s.held.places c.in-At.i unused in
+    let p = get_or s.held.places c.in-Some.i unused in
     (r, good-at _ _ _ g n.0, ap (names p) (named-at s.held s.store.now s.packet.now g _ w _ r) ∙ n.1)
 
 pub shape_of-store : goal.shape_of-store
@@ -108,7 +108,7 @@ returns c =
     let well : good (length c.args.store.now) c.args.held.places ≡ true = sym c.is_good.ensures ∙ c.if-not-is_good.false in
     let name : ◌≡◌ {A = Name} (record { resource = c.resource_in.result; kind = c.kind_in.result }) (name_in c.args.packet.now) = λ i. record { resource = c.resource_in.ensures i; kind = c.kind_in.ensures i } in
     let found : place_named c.args.held.places (name_in c.args.packet.now) ≡ c.find_place.result = sym (c.find_place.ensures ∙ ap (place_named c.args.held.places) name) in
-    let named : place_named c.args.held.places (name_in c.args.packet.now) ≡ At c.in-At.i = found ∙ c.in-At.is in
-    let read : read_by (not (eqb (get_or c.args.held.places c.in-At.i unused).order 1)) c.args.packet.now ≡ Sent c.in-Sent.fields = sym c.read_at-reading.ensures ∙ c.in-Sent.is in
+    let named : place_named c.args.held.places (name_in c.args.packet.now) ≡ Some c.in-Some.i = found ∙ c.in-Some.is in
+    let read : read_by (not (eqb (get_or c.args.held.places c.in-Some.i unused).order 1)) c.args.packet.now ≡ Ok c.in-Ok.fields = sym c.read_at-reading.ensures ∙ c.in-Ok.is in
     let s = c.args in
     come (offer-read-at s.held s.store.now s.packet.now well _ named _ read) c.offer_at.ensures

@@ -16,4 +16,4 @@ returns-in_default c =
     sym (ap nowhere (sym c.read_fields-reading.ensures ∙ refusal_read _ _ _ c.in_default.is c.refusal_in.ensures))
 
 pub returns : goal.returns
-returns c = sym (ap nowhere (sym c.read_fields-reading.ensures ∙ c.in-Sent.is))
+returns c = sym (ap nowhere (sym c.read_fields-reading.ensures ∙ c.in-Ok.is))

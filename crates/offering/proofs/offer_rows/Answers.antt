@@ -29,12 +29,12 @@ slice_bounds-mend-end c =
 pub enum_known-verdict : goal.enum_known-verdict
 enum_known-verdict c = omega arith
 
-pub returns-in-Refused : goal.returns-in-Refused
-returns-in-Refused c =
+pub returns-in-Err : goal.returns-in-Err
+returns-in-Err c =
     let b : List ℕ = c.args.payload.now in
     let part : take (length b) c.copy_in.new.store ≡ b = copied_part b c.copy_in.new.store (omega arith) c.copy_in.ensures in
     let mended : Mends (mending_of b) c.mend-counted.result c.mend-counted.new.rows = subst (λ (l : List ℕ). Mends (mending_of l) c.mend-counted.result c.mend-counted.new.rows) part c.mend-counted.ensures in
-    told (rows-broken b c.requires.4 c.requires.3 _ _ mended _ _ _ _ _ c.in-Refused.is)
+    told (rows-broken b c.requires.4 c.requires.3 _ _ mended _ _ _ _ _ c.in-Err.is)
 
 pub enum_told-1 : goal.enum_told-1
 enum_told-1 c = omega arith

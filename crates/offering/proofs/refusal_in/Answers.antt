@@ -10,5 +10,5 @@ enum_known-reading c = omega arith
 pub enum_told-1 : goal.enum_told-1
 enum_told-1 c = omega arith
 
-pub returns-in-Refused : goal.returns-in-Refused
-returns-in-Refused c = sym (ap refusal_in c.in-Refused.is)
+pub returns-in-Err : goal.returns-in-Err
+returns-in-Err c = sym (ap refusal_in c.in-Err.is)

@@ -4,13 +4,13 @@ use Prim.Native.Nat.{◌<◌}
 use native.Mathlib.Omega.{arith}
 use borrow.Author.Rules.{rules}
 use lib.ListN.{length, set}
-use Rattle.refusals.specs.declared.Verdict.TheVariants.{Accepted}
 use Rattle.places.specs.declared.Place.{Place}
 use Rattle.places.proofs.Steps.{mapped_length}
 use Rattle.opening.specs.Open.{take, plan_of}
 use Rattle.opening.proofs.PlanLaws.{Taking, taking, planned-refuse, planned-take, open_refused, open_taken}
 use Rattle.opening.proofs.OpenLaws.{open_below, open_room, open_start}
 use Rattle.opening.proofs.open.Goals as goal
+use Rattle.std.specs.Prelude.{Ok}
 
 pub enum_known-refusal : goal.enum_known-refusal
 enum_known-refusal c = omega arith
@@ -64,6 +64,6 @@ returns-in-Take c =
     let a = c.args in
     let o = open_taken a.held a.store.now a.settings a.count _ _ plan_is in
     record {
-      answers = ap (λ (p : Place). record { «record» = record { places = set a.held.places c.in-Take.i p }; verdict = Accepted }) c.place_of.ensures ∙ o.answers;
+      answers = ap (λ (p : Place). record { «record» = record { places = set a.held.places c.in-Take.i p }; verdict = (Ok tt) }) c.place_of.ensures ∙ o.answers;
       leaves = c.clear_slots.ensures ∙ o.leaves;
     }

@@ -28,13 +28,13 @@ returns-then-not-count_fits c =
 pub enum_told-1 : goal.enum_told-1
 enum_told-1 c = omega arith
 
-pub returns-in-At : goal.returns-in-At
-returns-in-At c =
+pub returns-in-Some : goal.returns-in-Some
+returns-in-Some c =
     let sound : good c.args.n c.args.held.places ≡ true = sym c.is_good.ensures ∙ c.if-not-is_good.false in
     let fit : settings_fit c.args.settings ≡ true = sym c.settings_fit.ensures ∙ c.if-not-settings_fit.false in
     let counted : count_fits c.args.count ≡ true = sym c.count_fits.ensures ∙ c.if-not-count_fits.false in
     sym (ap planned (plan_held _ _ _ _ sound fit counted _
-    (sym c.find_place.ensures ∙ c.in-At.is)))
+    (sym c.find_place.ensures ∙ c.in-Some.is)))
 
 pub enum_told-in_default : goal.enum_told-in_default
 enum_told-in_default c = omega arith

@@ -1,11 +1,11 @@
 -- The two searches are those of the plan: an unused place, then the lowest start.
 use mathlib.Core.Path.{◌≡◌, sym, ap, ◌∙◌}
 use native.Mathlib.Omega.{arith}
-use Rattle.places.specs.declared.Found.TheVariants.{At}
 use Rattle.places.specs.Places.{first_unused}
 use Rattle.opening.specs.Inner.{planned}
 use Rattle.opening.proofs.PlanLaws.{room-full, room-none, room_take}
 use Rattle.opening.proofs.room_for.Goals as goal
+use Rattle.std.specs.Prelude.{Some}
 
 pub enum_known-place : goal.enum_known-place
 enum_known-place c = omega arith
@@ -24,10 +24,10 @@ enum_told-in_default-lowest_start c = omega arith
 
 pub returns-in_default-lowest_start : goal.returns-in_default-lowest_start
 returns-in_default-lowest_start c =
-    let unused : first_unused c.args.held.places ≡ At c.in-At.place = sym c.find_unused.ensures ∙ c.in-At.is in
+    let unused : first_unused c.args.held.places ≡ Some c.in-Some.place = sym c.find_unused.ensures ∙ c.in-Some.is in
     sym (ap planned (room-none _ _ _ _ unused (sym c.lowest_start.ensures ∙ c.in_default-lowest_start.is)))
 
 pub returns : goal.returns
 returns c =
-    let unused : first_unused c.args.held.places ≡ At c.in-At.place = sym c.find_unused.ensures ∙ c.in-At.is in
-    sym (ap planned (room_take _ _ _ _ unused _ (sym c.lowest_start.ensures ∙ c.in-At-lowest_start.is)))
+    let unused : first_unused c.args.held.places ≡ Some c.in-Some.place = sym c.find_unused.ensures ∙ c.in-Some.is in
+    sym (ap planned (room_take _ _ _ _ unused _ (sym c.lowest_start.ensures ∙ c.in-Some-lowest_start.is)))

@@ -8,8 +8,8 @@ use Rattle.restoring.proofs.hand_columns.Goals as goal
 pub enum_known-verdict : goal.enum_known-verdict
 enum_known-verdict c = omega arith
 
-pub returns-in-Refused : goal.returns-in-Refused
-returns-in-Refused c = weighed_refused _ _ _ _ (sym c.weigh-verdict.ensures ∙ c.in-Refused.is) _
+pub returns-in-Err : goal.returns-in-Err
+returns-in-Err c = weighed_refused _ _ _ _ (sym c.weigh-verdict.ensures ∙ c.in-Err.is) _
 
 pub enum_told-1 : goal.enum_told-1
 enum_told-1 c = omega arith
