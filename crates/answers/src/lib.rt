@@ -1,12 +1,9 @@
 // Answers as one number: the header include/brithelva.h says how. Each takes whatever value there is of its type.
 #![tactic(auto)]
 
-ghost use Rattle.std.specs.Prelude.{◌≡◌};
-ghost use Rattle.refusals.specs.Told.{refused_as, verdict_told};
-ghost use Rattle.pack.specs.Told.{packed_told};
+ghost use Rattle.std.specs.Prelude.{◌≡◌, Ok};
+ghost use Rattle.refusals.specs.Told.{refused_as, verdict_told, length_told};
 ghost use Rattle.record.specs.Told.{offered_told};
-ghost use Rattle.attributes.specs.Told.{composed_told};
-ghost use Rattle.standing.specs.declared.Standing.TheVariants.{Filled};
 ghost use Rattle.standing.specs.Told.{standing_told};
 ghost use Rattle.face.specs.Face.{answer_of, valued, Says, puts_if};
 ghost use Rattle.answers.specs.Answers.{word_of};
@@ -35,40 +32,30 @@ pub fn verdict_of(verdict: Result<(), Refusal>) -> u64
     }
 }
 
-// What packing answers: a packet's length as the value.
-pub fn packed_as(packed: Result<usize, Refusal>) -> u64
-    ensures { result ≡ word_of (answer_of (packed_told packed)) }
+// What packing answers, and what writing a description answers: the length that was written as the value.
+pub fn length_as(written: Result<usize, Refusal>) -> u64
+    ensures { result ≡ word_of (answer_of (length_told written)) }
 {
-    match packed {
-        Ok(n) => 256 * (n as u64 % TOP),
-        Err(r) => refused(r),
-    }
-}
-
-// What writing a description answers: its length as the value.
-pub fn composed_as(composed: Result<usize, Refusal>) -> u64
-    ensures { result ≡ word_of (answer_of (composed_told composed)) }
-{
-    match composed {
+    match written {
         Ok(n) => 256 * (n as u64 % TOP),
         Err(r) => refused(r),
     }
 }
 
 // What offering answers: as the value twice the bytes mended, and 1 more where the slot held the payload already.
-pub fn offered_as(offered: Offered) -> u64
+pub fn offered_as(offered: Result<Offered, Refusal>) -> u64
     ensures { result ≡ answer_of (offered_told offered) }
 {
     match offered {
-        Offered::Stored(mended) => 256 * (2 * mended as u64),
-        Offered::Repeat(mended) => 256 * (2 * mended as u64 + 1),
-        Offered::Refused(r) => refused(r),
+        Ok(Offered::Stored(mended)) => 256 * (2 * mended as u64),
+        Ok(Offered::Repeat(mended)) => 256 * (2 * mended as u64 + 1),
+        Err(r) => refused(r),
     }
 }
 
 // The filled slots, and the lowest empty one plus one in front of them where there is one.
 fn filled_as(n: u32, lowest: Option<usize>) -> u64
-    ensures { result ≡ word_of (answer_of (standing_told (Filled n lowest))) }
+    ensures { result ≡ word_of (answer_of (standing_told (Ok (record { filled = n; lowest = lowest })))) }
 {
     match lowest {
         Some(i) => 256 * ((n as u64 + 16777216 * (i as u64 % 4294967296 + 1)) % TOP),
@@ -77,12 +64,12 @@ fn filled_as(n: u32, lowest: Option<usize>) -> u64
 }
 
 // What status answers: the filled slots and the lowest empty one.
-pub fn standing_as(standing: Standing) -> u64
+pub fn standing_as(standing: Result<Standing, Refusal>) -> u64
     ensures { result ≡ word_of (answer_of (standing_told standing)) }
 {
     match standing {
-        Standing::Filled(n, lowest) => filled_as(n, lowest),
-        Standing::Refused(r) => refused(r),
+        Ok(s) => filled_as(s.filled, s.lowest),
+        Err(r) => refused(r),
     }
 }
 

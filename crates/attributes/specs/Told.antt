@@ -1,7 +1,7 @@
 -- What reading and writing a description tell: document 02, R-4. The attributes are thirty numbers, each text's beginning and length, each time's six numbers.
 -- Assumes nothing.
 use Rattle.std.specs.Prelude.{List, [], ◌∷◌, ℕ}
-use Rattle.refusals.specs.Told.{Told, accepted_with, refused_as}
+use Rattle.refusals.specs.Told.{Told, accepted_with, refused_as, length_told}
 use Rattle.attributes.specs.declared.Description.{Description}
 use Rattle.refusals.specs.declared.Refusal.{Refusal}
 use Rattle.std.specs.Prelude.{Result}
@@ -22,5 +22,4 @@ described_told (Err r) = refused_as r
 
 -- the value is the length that was written
 abbrev pub composed_told : Result ℕ Refusal → Told
-composed_told (Ok n) = accepted_with (n ∷ [])
-composed_told (Err r) = refused_as r
+composed_told = length_told

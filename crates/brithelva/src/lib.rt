@@ -2,16 +2,16 @@
 // include/brithelva.h documents them for C.
 #![tactic(auto)]
 
-ghost use Rattle.std.specs.Prelude.{◌≡◌, true, false, length};
-ghost use Rattle.refusals.specs.Told.{verdict_told};
+ghost use Rattle.std.specs.Prelude.{◌≡◌, true, false, length, MatchResult};
+ghost use Rattle.refusals.specs.Told.{refused_as};
 ghost use Rattle.crc.specs.Crc.{crc32_of};
 ghost use Rattle.settings.specs.Settings.{meant_edition, meant_order, house};
 ghost use Rattle.holding.specs.Layout.{record_length, record_bytes};
 ghost use Rattle.face.specs.Face.{answer_of, Says, Keeps, encode_says, repair_says, reading_says, read_says, pack_says, open_says, offer_says, status_says, hand_says, close_says};
 ghost use Rattle.listing.specs.Listing.{describe_says, compose_says};
 
-use opening::Kept;
 use packet::Packet;
+use places::Record;
 use refusals::Refusal;
 use settings::Settings;
 
@@ -41,10 +41,10 @@ pub fn bh_encode_row(info: &[u8], checks: &mut [u8]) -> u64
 pub fn bh_repair_row(row: &[u8], fixed: &mut [u8]) -> u64
     ensures { Says (repair_says row.now fixed.old) result fixed.new }
 {
-    let mended = single::repair_row(row);
-    let verdict = mended.verdict;
-    let answer = answers::put_if(verdict, &mended.row, fixed);
-    answers::with_value(answer, mended.count)
+    match single::repair_row(row) {
+        Ok(mended) => answers::with_value(face::put(&mended.row, fixed), mended.count),
+        Err(r) => answers::refused(r),
+    }
 }
 
 // The fields of a packet as nine numbers and its edition, at the start of `fields`.
@@ -98,7 +98,7 @@ pub fn bh_pack_as(
         order,
     };
     let packed = pack::pack(file, settings, number, out);
-    answers::packed_as(packed)
+    answers::length_as(packed)
 }
 
 // The same in the edition and the order that are meant where none is named.
@@ -142,18 +142,21 @@ pub fn bh_pack_house(
     ensures { Says (pack_says file.now (house resource kind update) number out.old) result out.new }
 {
     let packed = pack::pack_house(file, resource, kind, update, number, out);
-    answers::packed_as(packed)
+    answers::length_as(packed)
 }
 
-// Puts the record that a call answers back into its bytes. Its verdict is the answer.
-fn put_kept(held: &mut [u8], kept: Kept) -> u64
+// Puts the record that a call hands over back into its bytes; beside a refusal they stay.
+fn put_kept(held: &mut [u8], kept: Result<Record, Refusal>) -> u64
     requires { length held.old ≡ record_length }
-    ensures { (result ≡ answer_of (verdict_told kept.verdict)) × (held.new ≡ record_bytes kept.«record») }
+    ensures { MatchResult kept (λ k. (result ≡ 0) × (held.new ≡ record_bytes k)) (λ r. (result ≡ answer_of (refused_as r)) × (held.new ≡ held.old)) }
 {
-    let next = kept.record;
-    holding::put_record(next, held);
-    let verdict = kept.verdict;
-    answers::verdict_of(verdict)
+    match kept {
+        Ok(next) => {
+            holding::put_record(next, held);
+            0
+        }
+        Err(r) => answers::refused(r),
+    }
 }
 
 // Opens a place of the record in an edition and an order: the record's bytes and the slots' lengths in the store change, or nothing does.
@@ -308,5 +311,5 @@ pub fn bh_write_description(values: &[u64], text: &[u8], out: &mut [u8]) -> u64
     }
     let d = listing::description_of(values);
     let composed = composing::write(text, d, out);
-    answers::composed_as(composed)
+    answers::length_as(composed)
 }

@@ -20,7 +20,7 @@ use Rattle.contents.proofs.Places.{length-contents, reading_slots}
 use Rattle.contents.proofs.Slots.{slot-empty}
 use Rattle.standing.specs.declared.Seen.{Seen}
 use Rattle.standing.specs.Survey.{seen_of}
-use Rattle.standing.proofs.SurveyLaws.{Tallied, sees}
+use Rattle.standing.proofs.SurveyLaws.{Tallied, seen_right, seen_not}
 use Rattle.losses.specs.Losses.{lost_at}
 use Rattle.columns.specs.Columns.{sent_length, row_restored, row_in, restored}
 use Rattle.columns.specs.InnerWrite.{Writable}
@@ -28,6 +28,7 @@ use Rattle.columns.specs.InnerBytes.{sent_of, aim_of, Known, LostBelow, Nearer}
 use Rattle.columns.proofs.Nearing.{nearer_then, nearer_all}
 use Rattle.columns.proofs.Standings.{sent_below, sent_back, number-below}
 use Rattle.columns.proofs.Coming.{slot-below, slot-lost}
+use Rattle.std.specs.Prelude.{Some, None, Option, IsSome}
 
 module _ (p : Place) (s : List ℕ) (n : ℕ) (w : Writable p s n) where
   abbrev sent : List ℕ
@@ -70,13 +71,13 @@ module _ (p : Place) (s : List ℕ) (n : ℕ) (w : Writable p s n) where
 
   -- ---- no slot is empty
 
-  module _ (t : Seen) (e : t ≡ seen_of p s) (full : t.filled ≡ p.count) where
+  pub surveyed : (o : Option Seen) → o ≡ seen_of p s → IsSome o
+  surveyed None e = differ (sym (seen_not p s w.ends None e refl) ∙ w.right)
+  surveyed (Some t) e = refl
+
+  module _ (o : Option Seen) (t : Seen) (e : o ≡ seen_of p s) (is : o ≡ Some t) (full : t.filled ≡ p.count) where
     tallied : Tallied p (contents p s) t
-    tallied = by t.sound refl
-      where
-        by : (b : Bool) → t.sound ≡ b → Tallied p (contents p s) t
-        by true q = (sees p s w.ends t e).sound q
-        by false q = differ (sym ((sees p s w.ends t e).wrong q) ∙ w.right)
+    tallied = seen_right p s w.ends o t e is
 
     some : (k : ℕ) → k < p.count → length_at s (slot_at p k) ≡ 0 → ⊥
     some k h z =

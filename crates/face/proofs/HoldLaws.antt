@@ -10,9 +10,8 @@ use lib.ListN.{length}
 use Rattle.settings.specs.declared.Settings.{Settings}
 use Rattle.places.specs.declared.Record.{Record}
 use Rattle.places.specs.Places.{Name}
-use Rattle.opening.specs.declared.Kept.{Kept}
 use Rattle.record.specs.declared.Offered.{Offered}
-use Rattle.opening.specs.Open.{open_of, Opens, close_of}
+use Rattle.opening.specs.Open.{open_of, close_of}
 use Rattle.refusals.specs.Told.{verdict_told}
 use Rattle.record.specs.Offer.{offer_of}
 use Rattle.record.specs.Told.{offered_told}
@@ -30,16 +29,15 @@ module _ (h s : List ℕ) where
         let t : eqb (length h) record_length ≡ false = ne_eqb (length h) record_length d in
         record { answers = rw t e; holds = rw t; leaves = rw t }
 
-    pub open_says_lem : (held : Record) (kept : Kept) (h' s' : List ℕ) → length h ≡ record_length → held ≡ record_in h → Opens held s g count kept s'
-        → h' ≡ record_bytes kept.«record» → r ≡ answer_of (verdict_told kept.verdict) → Keeps (open_says h s g count) r h' s'
+    pub open_says_lem : (held : Record) (h' s' : List ℕ) → length h ≡ record_length → held ≡ record_in h → s' ≡ (open_of held s g count).store
+        → h' ≡ record_bytes (open_of held s g count).kept.«record» → r ≡ answer_of (verdict_told (open_of held s g count).kept.verdict) → Keeps (open_says h s g count) r h' s'
     unfolding open_says
-    open_says_lem held kept h' s' n e o b a =
+    open_says_lem held h' s' n e o b a =
         let t : eqb (length h) record_length ≡ true = eq-eqb (length h) record_length n in
-        let k : kept ≡ (open_of (record_in h) s g count).kept = o.answers ∙ ap (λ (y : Record). (open_of y s g count).kept) e in
         record {
-          answers = rw t (a ∙ ap (λ (y : Kept). answer_of (verdict_told y.verdict)) k);
-          holds = rw t (b ∙ ap (λ (y : Kept). record_bytes y.«record») k);
-          leaves = rw t (o.leaves ∙ ap (λ (y : Record). (open_of y s g count).store) e);
+          answers = rw t (a ∙ ap (λ (y : Record). answer_of (verdict_told (open_of y s g count).kept.verdict)) e);
+          holds = rw t (b ∙ ap (λ (y : Record). record_bytes (open_of y s g count).kept.«record») e);
+          leaves = rw t (o ∙ ap (λ (y : Record). (open_of y s g count).store) e);
         }
 
   module _ (x : Name) (r : ℕ) where
@@ -49,15 +47,14 @@ module _ (h s : List ℕ) where
         let t : eqb (length h) record_length ≡ false = ne_eqb (length h) record_length d in
         record { answers = rw t e; holds = rw t; leaves = rw t }
 
-    pub close_says_lem : (held : Record) (kept : Kept) (h' : List ℕ) → length h ≡ record_length → held ≡ record_in h → kept ≡ close_of held s x
-        → h' ≡ record_bytes kept.«record» → r ≡ answer_of (verdict_told kept.verdict) → Keeps (close_says h s x) r h' s
+    pub close_says_lem : (held : Record) (h' : List ℕ) → length h ≡ record_length → held ≡ record_in h
+        → h' ≡ record_bytes (close_of held s x).«record» → r ≡ answer_of (verdict_told (close_of held s x).verdict) → Keeps (close_says h s x) r h' s
     unfolding close_says
-    close_says_lem held kept h' n e o b a =
+    close_says_lem held h' n e b a =
         let t : eqb (length h) record_length ≡ true = eq-eqb (length h) record_length n in
-        let k : kept ≡ close_of (record_in h) s x = o ∙ ap (λ (y : Record). close_of y s x) e in
         record {
-          answers = rw t (a ∙ ap (λ (y : Kept). answer_of (verdict_told y.verdict)) k);
-          holds = rw t (b ∙ ap (λ (y : Kept). record_bytes y.«record») k);
+          answers = rw t (a ∙ ap (λ (y : Record). answer_of (verdict_told (close_of y s x).verdict)) e);
+          holds = rw t (b ∙ ap (λ (y : Record). record_bytes (close_of y s x).«record») e);
           leaves = rw t;
         }
 
@@ -68,13 +65,13 @@ module _ (h s : List ℕ) where
         let t : eqb (length h) record_length ≡ false = ne_eqb (length h) record_length d in
         record { answers = rw t e; holds = rw t; leaves = rw t }
 
-    pub offer_says_lem : (held : Record) (o : Offered) (s' : List ℕ) → length h ≡ record_length → held ≡ record_in h → o ≡ (offer_of held s q).answer → s' ≡ (offer_of held s q).store
+    pub offer_says_lem : (held : Record) (o : Result Offered Refusal) (s' : List ℕ) → length h ≡ record_length → held ≡ record_in h → o ≡ (offer_of held s q).answer → s' ≡ (offer_of held s q).store
         → r ≡ answer_of (offered_told o) → Keeps (offer_says h s q) r h s'
     unfolding offer_says
     offer_says_lem held o s' n e a l d =
         let t : eqb (length h) record_length ≡ true = eq-eqb (length h) record_length n in
         record {
-          answers = rw t (d ∙ ap (λ (y : Offered). answer_of (offered_told y)) (a ∙ ap (λ (y : Record). (offer_of y s q).answer) e));
+          answers = rw t (d ∙ ap (λ (y : Result Offered Refusal). answer_of (offered_told y)) (a ∙ ap (λ (y : Record). (offer_of y s q).answer) e));
           holds = rw t;
           leaves = rw t (l ∙ ap (λ (y : Record). (offer_of y s q).store) e);
         }

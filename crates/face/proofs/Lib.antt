@@ -5,3 +5,4 @@ pub mod HoldLaws
 pub mod StatusLaws
 pub mod RefusedLaws
 pub mod FollowLaws
+pub mod PutBack

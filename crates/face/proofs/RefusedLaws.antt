@@ -12,6 +12,7 @@ use Rattle.refusals.specs.declared.Refusal.{Refusal}
 use Rattle.refusals.specs.declared.Refusal.TheVariants.{Output}
 use Rattle.refusals.specs.Told.{Told, refused_as, verdict_told}
 use Rattle.encoding.specs.Encode.{encode_of}
+use Rattle.single.specs.declared.Corrected.{Corrected}
 use Rattle.single.specs.Single.{repair_row_of}
 use Rattle.settings.specs.declared.Settings.{Settings}
 use Rattle.packet.specs.Packet.{read_by}
@@ -32,7 +33,7 @@ use Rattle.record.proofs.OfferLaws.{offer-refused}
 use Rattle.handing.proofs.HandLaws.{hand_refused}
 use Rattle.code.specs.Code.{Bytes}
 use Rattle.holding.specs.Layout.{record_length, record_in, record_bytes}
-use Rattle.face.specs.Face.{Said, Kept, answer_of, bad_record, puts, puts_if, valued, with_value, encode_says, repair_says, read_says, pack_says, open_says, close_says, offer_says, hand_says}
+use Rattle.face.specs.Face.{Said, Kept, answer_of, bad_record, puts, puts_if, valued, with_value, encode_says, repaired_says, repair_says, read_says, pack_says, open_says, close_says, offer_says, hand_says}
 use Rattle.face.specs.Statements.{number_in, OutputKept, RecordKept, RefusalsChangeNothing}
 use Rattle.holding.proofs.LayoutLaws.{bytes-again}
 use Rattle.std.specs.Prelude.{Result}
@@ -89,8 +90,11 @@ encode-refused_keeps info out = put_if_kept (verdict_told (encode_of info).verdi
 
 pub repair-refused_keeps : (row out : List ℕ) → SaidKept (repair_says row out) out
 unfolding repair_says
-repair-refused_keeps row out = valued-kept (repair_row_of row).count (puts_if (verdict_told (repair_row_of row).verdict) (repair_row_of row).row out) out
-    (put_if_kept (verdict_told (repair_row_of row).verdict) (repair_row_of row).row out)
+repair-refused_keeps row out = by (repair_row_of row)
+  where
+    by : (a : Result Corrected Refusal) → SaidKept (repaired_says a out) out
+    by (Ok m) = valued-kept m.count (puts m.row out) out (put-kept m.row out)
+    by (Err r) = λ d. refl
 
 pub read-refused_keeps : (rows : Bool) (q out : List ℕ) → SaidKept (read_says rows q out) out
 unfolding read_says
@@ -128,7 +132,7 @@ open_refused_keeps h s g count bytes =
     let p = refused_plan (record_in h) s g count r e in
     (refused-record (record_in h) s g count r p, refused-store (record_in h) s g count r p))
 
-close-refused-record : (h : Record) (s : List ℕ) (x : Name) (r : Refusal) → (close_of h s x).verdict ≡ Err r → (close_of h s x).«record» ≡ h
+pub close-refused-record : (h : Record) (s : List ℕ) (x : Name) (r : Refusal) → (close_of h s x).verdict ≡ Err r → (close_of h s x).«record» ≡ h
 unfolding close_of
 close-refused-record h s x r = by (not (good (length s) h.places)) (place_named h.places x)
   where
@@ -147,12 +151,12 @@ pub offer-refused_keeps : (h s q : List ℕ) → AllKept (offer_says h s q) h s
 unfolding offer_says
 offer-refused_keeps h s q = by (eqb (length h) record_length) (offer_of (record_in h) s q).answer refl
   where
-    by : (t : Bool) (a : Offered) → (offer_of (record_in h) s q).answer ≡ a
+    by : (t : Bool) (a : Result Offered Refusal) → (offer_of (record_in h) s q).answer ≡ a
         → AllKept (cond t (record { answer = answer_of (offered_told a); held = h; store = (offer_of (record_in h) s q).store }) (record { answer = bad_record; held = h; store = s })) h s
     by false a e d = (refl, refl)
-    by true (Stored m) e d = absurd (d (omega arith))
-    by true (Repeat m) e d = absurd (d (omega arith))
-    by true (Offered.Refused r) e d = (refl, offer-refused (record_in h) s q r e)
+    by true (Ok (Stored m)) e d = absurd (d (omega arith))
+    by true (Ok (Repeat m)) e d = absurd (d (omega arith))
+    by true (Err r) e d = (refl, offer-refused (record_in h) s q r e)
 
 pub hand_refused_keeps : (h s : List ℕ) (x : Name) (n : ℕ) (out : List ℕ) → SaidKept (hand_says h s x n out) out
 unfolding hand_says

@@ -14,7 +14,7 @@ use Rattle.refusals.specs.declared.Refusal.{Refusal}
 use Rattle.refusals.specs.declared.Refusal.TheVariants.{Output}
 use Rattle.refusals.specs.Refusals.{number_of}
 use Rattle.encoding.specs.declared.Encoded.{Encoded}
-use Rattle.single.specs.declared.Mended.{Mended}
+use Rattle.single.specs.declared.Corrected.{Corrected}
 use Rattle.encoding.specs.Encode.{encode_of}
 use Rattle.single.specs.Single.{repair_row_of}
 use Rattle.packet.specs.declared.Packet.{Packet}
@@ -22,7 +22,7 @@ use Rattle.packet.specs.Packet.{read_by}
 use Rattle.refusals.specs.Told.{refused_as, verdict_told}
 use Rattle.refusals.proofs.Told.{number_not_0}
 use Rattle.packet.specs.Told.{field_list}
-use Rattle.face.specs.Face.{Said, Says, answer_of, puts, puts_if, valued, with_value, encode_says, repair_says, reading_says, read_says}
+use Rattle.face.specs.Face.{Said, Says, answer_of, puts, puts_if, valued, with_value, encode_says, repaired_says, repair_says, reading_says, read_says}
 use Rattle.std.specs.Prelude.{Result}
 use Rattle.std.specs.Prelude.{Ok, Err}
 
@@ -57,12 +57,18 @@ pub encode_says_lem : (info out : List ℕ) (r : ℕ) (x : List ℕ) (made : Enc
 unfolding encode_says
 encode_says_lem info out r x made e s = says_as (ap (λ (m : Encoded). puts_if (verdict_told m.verdict) m.checks out) e) s
 
-pub repair_says_lem : (row out : List ℕ) (a r : ℕ) (x : List ℕ) (made : Mended) → made ≡ repair_row_of row → Says (puts_if (verdict_told made.verdict) made.row out) a x
-    → r ≡ valued made.count a → Says (repair_says row out) r x
-unfolding repair_says
-repair_says_lem row out a r x made e s v =
-    says_as (ap (λ (m : Mended). with_value m.count (puts_if (verdict_told m.verdict) m.row out)) e)
-    (record { answers = v ∙ ap (valued made.count) s.answers; leaves = s.leaves })
+-- a row that was repaired is put, with its count as the value; a refusal is answered
+module _ (row out : List ℕ) (r : ℕ) where
+  repaired_as : (a b : Result Corrected Refusal) (x : List ℕ) → a ≡ b → Says (repaired_says b out) r x → Says (repaired_says a out) r x
+  repaired_as a b x e s = says_as (ap (λ (y : Result Corrected Refusal). repaired_says y out) (sym e)) s
+
+  pub repair_put : (m : Corrected) (a : ℕ) (x : List ℕ) → repair_row_of row ≡ Ok m → Says (puts m.row out) a x → r ≡ valued m.count a → Says (repair_says row out) r x
+  unfolding repair_says
+  repair_put m a x e s v = repaired_as (repair_row_of row) (Ok m) x e (record { answers = v ∙ ap (valued m.count) s.answers; leaves = s.leaves })
+
+  pub repair_refused : (z : Refusal) → repair_row_of row ≡ Err z → r ≡ answer_of (refused_as z) → Says (repair_says row out) r out
+  unfolding repair_says
+  repair_refused z e s = repaired_as (repair_row_of row) (Err z) out e (record { answers = s; leaves = refl })
 
 -- an answer with a value, and one that is a refusal already
 pub valued_accepted : (v a : ℕ) → a ≡ 0 → valued v a ≡ 256 * v

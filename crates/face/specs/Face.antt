@@ -5,6 +5,7 @@ use Rattle.refusals.specs.declared.Refusal.{Refusal}
 use Rattle.refusals.specs.declared.Refusal.TheVariants.{Output}
 use Rattle.refusals.specs.Told.{Told, accepted_with, refused_as, verdict_told}
 use Rattle.encoding.specs.Encode.{encode_of}
+use Rattle.single.specs.declared.Corrected.{Corrected}
 use Rattle.single.specs.Single.{repair_row_of}
 use Rattle.settings.specs.declared.Settings.{Settings}
 use Rattle.packet.specs.Packet.{read_by}
@@ -20,7 +21,7 @@ use Rattle.standing.specs.Told.{standing_told}
 use Rattle.handing.specs.Hand.{hand_out_of}
 use Rattle.holding.specs.Layout.{record_length, record_in, record_bytes}
 use Rattle.packet.specs.declared.Packet.{Packet}
-use Rattle.std.specs.Prelude.{Result}
+use Rattle.std.specs.Prelude.{Result, Ok, Err}
 
 -- values as one: 0 for none, v for one; for two, as of a Status with an empty slot, n + 2^24 · (i + 1)
 abbrev pub value_in : List ℕ → ℕ
@@ -64,8 +65,12 @@ with_value v p = record { answer = valued v p.answer; output = p.output }
 unfoldable pub encode_says : List ℕ → List ℕ → Said
 encode_says info out = puts_if (verdict_told (encode_of info).verdict) (encode_of info).checks out
 
+abbrev pub repaired_says : Result Corrected Refusal → List ℕ → Said
+repaired_says (Ok m) out = with_value m.count (puts m.row out)
+repaired_says (Err r) out = record { answer = answer_of (refused_as r); output = out }
+
 unfoldable pub repair_says : List ℕ → List ℕ → Said
-repair_says row out = with_value (repair_row_of row).count (puts_if (verdict_told (repair_row_of row).verdict) (repair_row_of row).row out)
+repair_says row out = repaired_says (repair_row_of row) out
 
 -- ---- fields: 1 to 8, 7 only where rows are judged, 26; the values that reading tells are put, nine numbers in the table's order and the edition
 

@@ -100,10 +100,7 @@ pub(crate) fn hand_usable(p: Place, store: &[u8], n: usize, out: &mut [u8]) -> R
     ensures { (result ≡ (hand_contents p (contents p store.now) n out.old).answer)
         × (out.new ≡ (hand_contents p (contents p store.now) n out.old).output) }
 {
-    let seen = standing::survey(p, store);
-    if !seen.sound {
-        return Err(Refusal::Slot);
-    }
+    let seen = standing::survey(p, store).ok_or(Refusal::Slot)?;
     if seen.empty != p.count {
         return Err(Refusal::Missing(seen.empty));
     }

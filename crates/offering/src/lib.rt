@@ -2,29 +2,18 @@
 // Refusals in the order 9, then 1 to 8 as the field reader gives them, 7 passed over at a place in column order (document 02, R-8), then 10, 11, 33 (R-9), and 12 to 16.
 #![tactic(auto)]
 
-ghost use Rattle.std.specs.Prelude.{◌≡◌, true, not, ◌+◌, ◌/◌, ◌%◌, ◌≤◌, eqb, length};
+ghost use Rattle.std.specs.Prelude.{◌≡◌, Ok, true, not, ◌+◌, ◌/◌, ◌%◌, ◌≤◌, eqb, length};
 ghost use Rattle.packet.specs.Packet.{resource_in, kind_in, read_by, read_of};
-ghost use Rattle.packet.specs.declared.Reading.TheVariants.{Sent};
 ghost use Rattle.places.specs.Places.{names, fits};
 ghost use Rattle.contents.specs.Contents.{slot_at};
 ghost use Rattle.code.specs.Mend.{mend_rows};
 ghost use Rattle.record.specs.Offer.{packet_name, differs, judge_mended, judge, offer_judged, offer_of};
-ghost use Rattle.record.specs.InnerOffer.{Comes, refusal_in, nowhere};
+ghost use Rattle.record.specs.InnerOffer.{Comes, nowhere};
 
 use packet::Packet;
 use places::{Place, Record};
 use record::Offered;
 use refusals::Refusal;
-
-// The refusal that a reading is. Of one that is none this is never asked.
-fn refusal_in(reading: Result<Packet, Refusal>) -> Refusal
-    ensures { result ≡ refusal_in reading }
-{
-    match reading {
-        Err(refusal) => refusal,
-        Ok(_) => Refusal::Short,
-    }
-}
 
 // The resource that a packet names: its bytes 3 and 4.
 fn resource_in(packet: &[u8]) -> u16
@@ -53,14 +42,11 @@ fn read_at(p: Place, packet: &[u8]) -> Result<Packet, Refusal>
 }
 
 // A packet that no place is for: what reading its fields refuses comes first.
-fn offer_nowhere(packet: &[u8]) -> Offered
+fn offer_nowhere(packet: &[u8]) -> Result<Offered, Refusal>
     ensures { result ≡ nowhere (read_of packet.now) }
 {
-    let reading = fields::read_fields(packet);
-    let Ok(_) = reading else {
-        return Offered::Refused(refusal_in(reading));
-    };
-    Offered::Refused(Refusal::Unknown)
+    fields::read_fields(packet)?;
+    Err(Refusal::Unknown)
 }
 
 // Refusal 11.
@@ -80,44 +66,40 @@ fn differs(p: Place, fields: Packet) -> bool
 }
 
 // A packet with protection: each row of its payload is repaired first, and the repaired payload goes on. There are fifteen rows at most.
-fn offer_rows(p: Place, store: &mut [u8], number: u32, packet: &[u8], payload: &[u8]) -> Offered
+fn offer_rows(p: Place, store: &mut [u8], number: u32, packet: &[u8], payload: &[u8]) -> Result<Offered, Refusal>
     requires { (slot_at p number + (p.slot + 2) ≤ length store.old) × (14 ≤ length packet.now) × (length payload.now ≤ p.slot) × (length payload.now ≤ 3825) × (length payload.now % 255 ≡ 0) }
     ensures { Comes (offer_judged p store.old (judge_mended number packet.now (mend_rows (length payload.now / 255) 0 payload.now))) result store.new }
 {
     let n = payload.len();
     let mut buffer = [0u8; Packet::PROTECTED];
     slices::copy_in(&mut buffer, 0, payload);
-    let counted = repair::mend(&mut buffer[..n]);
-    let verdict = counted.verdict;
-    if let Err(refusal) = verdict {
-        return Offered::Refused(refusal);
-    }
+    let mended = repair::mend(&mut buffer[..n])?;
     let repaired = &buffer[..n];
     storing::put_in(
         p,
         store,
         number,
         repaired,
-        counted.count,
+        mended,
         sealing::agrees(packet, repaired),
     )
 }
 
 // A packet that was read, at the place that holds its resource and type.
-fn offer_at(p: Place, store: &mut [u8], fields: Packet, packet: &[u8]) -> Offered
-    requires { (read_by (not (eqb p.order 1)) packet.now ≡ Sent fields) × (fits (length store.old) p ≡ true) × (names p (packet_name fields) ≡ true) }
+fn offer_at(p: Place, store: &mut [u8], fields: Packet, packet: &[u8]) -> Result<Offered, Refusal>
+    requires { (read_by (not (eqb p.order 1)) packet.now ≡ Ok fields) × (fits (length store.old) p ≡ true) × (names p (packet_name fields) ≡ true) }
     ensures { Comes (offer_judged p store.old (judge p fields packet.now)) result store.new }
 {
     if differs(p, fields) {
-        return Offered::Refused(Refusal::Other);
+        return Err(Refusal::Other);
     }
     if edition::edition_of(fields) != p.edition {
-        return Offered::Refused(Refusal::Edition);
+        return Err(Refusal::Edition);
     }
     let end = packet.len() - Packet::CRC;
     let payload = &packet[Packet::HEADER..end];
     if (p.slot as usize) < payload.len() {
-        return Offered::Refused(Refusal::Wide);
+        return Err(Refusal::Wide);
     }
     if !settings::row_wise(fields.protection, p.order) {
         return storing::put_in(
@@ -134,14 +116,14 @@ fn offer_at(p: Place, store: &mut [u8], fields: Packet, packet: &[u8]) -> Offere
 
 // Offers one packet to the place that holds its resource and type. Its payload, repaired under protection, goes into the slot of its number if that is empty; a slot
 // that holds it already stays as it is. Refused, the store is as it came.
-pub fn offer(held: Record, store: &mut [u8], packet: &[u8]) -> Offered
+pub fn offer(held: Record, store: &mut [u8], packet: &[u8]) -> Result<Offered, Refusal>
     ensures { (result ≡ (offer_of held store.old packet.now).answer) × (store.new ≡ (offer_of held store.old packet.now).store) }
 {
     if !room::is_good(held, store.len()) {
-        return Offered::Refused(Refusal::Record);
+        return Err(Refusal::Record);
     }
     if packet.len() < Packet::HEADER + 1 + Packet::CRC {
-        return Offered::Refused(Refusal::Short);
+        return Err(Refusal::Short);
     }
     let Some(i) = places::find_place(held, resource_in(packet), kind_in(packet)) else {
         return offer_nowhere(packet);
@@ -149,7 +131,7 @@ pub fn offer(held: Record, store: &mut [u8], packet: &[u8]) -> Offered
     let p = held.places[i];
     let reading = read_at(p, packet);
     let Ok(fields) = reading else {
-        return Offered::Refused(refusal_in(reading));
+        return Err(reading.unwrap_err());
     };
     offer_at(p, store, fields, packet)
 }

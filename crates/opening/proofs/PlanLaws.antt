@@ -14,9 +14,9 @@ use Rattle.places.specs.declared.Record.{Record}
 use Rattle.places.specs.Places.{settings_name, cover_of, place_of, count_fits, good, place_named, first_unused}
 use Rattle.places.specs.Room.{lowest_start}
 use Rattle.contents.specs.Slots.{cleared}
-use Rattle.opening.specs.declared.Planned.TheVariants.{Refuse, Take}
+
 use Rattle.opening.specs.Inner.{planned}
-use Rattle.opening.specs.Open.{Plan, refuse, take, with_start, with_unused, with_holder, plan_of, Opening, carried_out, open_of, Opens}
+use Rattle.opening.specs.Open.{renewed, Plan, refuse, take, with_start, with_unused, with_holder, plan_of, Opening, carried_out, open_of, Opens}
 use Rattle.std.specs.Prelude.{Option}
 use Rattle.std.specs.Prelude.{Ok, Err}
 use Rattle.std.specs.Prelude.{Some, None}
@@ -134,13 +134,15 @@ module _ (h : Record) (n : ℕ) (g : Settings) (count : ℕ) where
 
 -- ---- a plan as the code holds it
 
-pub planned-refuse : (p : Plan) (r : Refusal) → planned p ≡ Refuse r → p ≡ refuse r
+pub planned-refuse : (p : Plan) (r : Refusal) → planned p ≡ Err r → p ≡ refuse r
 planned-refuse (refuse q) r e = cc
 planned-refuse (take i start) r e = let z : ◌≡◌ {A = ℕ} 0 1 = cc in absurd (omega arith)
 
-pub planned-take : (p : Plan) (i start : ℕ) → planned p ≡ Take i start → p ≡ take i start
+pub planned-take : (p : Plan) (i start : ℕ) → planned p ≡ Ok (i, start) → p ≡ take i start
 planned-take (refuse q) i start e = let z : ◌≡◌ {A = ℕ} 0 1 = cc in absurd (omega arith)
-planned-take (take j x) i start e = cc
+planned-take (take j x) i start e =
+    let both : ◌≡◌ {A = ℕ × ℕ} (j, x) (i, start) = cc in
+    ap (λ (p : ℕ × ℕ). take p.0 p.1) both
 
 -- ---- what is carried out
 
@@ -149,13 +151,13 @@ unfolding open_of
 open_by h s g count p e = ap (carried_out h s g count) e
 
 pub open_refused : (h : Record) (s : List ℕ) (g : Settings) (count : ℕ) (r : Refusal) → plan_of h (length s) g count ≡ refuse r
-    → Opens h s g count (record { «record» = h; verdict = Err r }) s
+    → Opens h s g count (Err r) s
 open_refused h s g count r e =
     let o = open_by h s g count (refuse r) e in
-    record { answers = ap (λ (x : Opening). x.kept) (sym o); leaves = ap (λ (x : Opening). x.store) (sym o) }
+    record { answers = ap (λ (x : Opening). renewed x.kept) (sym o); leaves = ap (λ (x : Opening). x.store) (sym o) }
 
 pub open_taken : (h : Record) (s : List ℕ) (g : Settings) (count i start : ℕ) → plan_of h (length s) g count ≡ take i start
-    → Opens h s g count (record { «record» = record { places = set h.places i (place_of g count start) }; verdict = (Ok tt) }) (cleared s start count (g.size + 2))
+    → Opens h s g count (Ok (record { places = set h.places i (place_of g count start) })) (cleared s start count (g.size + 2))
 open_taken h s g count i start e =
     let o = open_by h s g count (take i start) e in
-    record { answers = ap (λ (x : Opening). x.kept) (sym o); leaves = ap (λ (x : Opening). x.store) (sym o) }
+    record { answers = ap (λ (x : Opening). renewed x.kept) (sym o); leaves = ap (λ (x : Opening). x.store) (sym o) }

@@ -6,7 +6,7 @@ ghost use Rattle.std.specs.Prelude.{◌≡◌, ◌+◌, ◌*◌, ◌≤◌, leng
 ghost use Rattle.settings.specs.Settings.{house};
 ghost use Rattle.places.specs.Places.{first_unused};
 ghost use Rattle.contents.specs.Slots.{cleared};
-ghost use Rattle.opening.specs.Open.{with_unused, plan_of, Opens, close_of};
+ghost use Rattle.opening.specs.Open.{with_unused, plan_of, Opens, renewed, close_of};
 ghost use Rattle.opening.specs.Inner.{planned};
 
 pub use places::fresh;
@@ -14,48 +14,35 @@ use places::{Place, Record};
 use refusals::Refusal;
 use settings::Settings;
 
-// The record after open or close, and what is answered. Beside a refusal the record is as it came.
-#[derive(Clone, Copy)]
-pub struct Kept {
-    pub record: Record,
-    pub verdict: Result<(), Refusal>,
-}
-
-// What open is to do: to refuse, or to take the place of a number from a start on.
-#[derive(Clone, Copy)]
-pub(crate) enum Planned {
-    Refuse(Refusal),
-    Take(usize, usize),
-}
-
 // An unused place and the lowest start for `size` bytes.
-fn room_for(held: Record, n: usize, size: usize) -> Planned
+fn room_for(held: Record, n: usize, size: usize) -> Result<(usize, usize), Refusal>
     ensures { result ≡ planned (with_unused held n size (first_unused held.places)) }
 {
-    let Some(place) = places::find_unused(held) else {
-        return Planned::Refuse(Refusal::Full);
-    };
-    let Some(start) = room::lowest_start(held, n, size) else {
-        return Planned::Refuse(Refusal::Room);
-    };
-    Planned::Take(place, start)
+    let place = places::find_unused(held).ok_or(Refusal::Full)?;
+    let start = room::lowest_start(held, n, size).ok_or(Refusal::Room)?;
+    Ok((place, start))
 }
 
 // All that open judges, for a store of n bytes.
-fn plan_open(held: Record, n: usize, settings: Settings, count: u32) -> Planned
+fn plan_open(
+    held: Record,
+    n: usize,
+    settings: Settings,
+    count: u32,
+) -> Result<(usize, usize), Refusal>
     ensures { result ≡ planned (plan_of held n settings count) }
 {
     if !room::is_good(held, n) {
-        return Planned::Refuse(Refusal::Record);
+        return Err(Refusal::Record);
     }
     if !fitting::settings_fit(settings) {
-        return Planned::Refuse(Refusal::Field);
+        return Err(Refusal::Field);
     }
     if !places::count_fits(count) {
-        return Planned::Refuse(Refusal::Field);
+        return Err(Refusal::Field);
     }
     if let Some(_) = places::find_place(held, settings.resource, settings.kind) {
-        return Planned::Refuse(Refusal::Held);
+        return Err(Refusal::Held);
     }
     room_for(held, n, places::cover_of(count, settings.size))
 }
@@ -76,25 +63,20 @@ fn clear_slots(store: &mut [u8], start: usize, count: usize, width: usize)
 }
 
 // Opens a place for the `count` packets of a file under `settings`: the first unused one, from the lowest start at which its slots fit
-// the store and meet no other place. Each of its slots is then empty. Refused, record and store are as they came.
-pub fn open(held: Record, store: &mut [u8], settings: Settings, count: u32) -> Kept
+// the store and meet no other place. Each of its slots is then empty. Refused, the store is as it came.
+pub fn open(
+    held: Record,
+    store: &mut [u8],
+    settings: Settings,
+    count: u32,
+) -> Result<Record, Refusal>
     ensures { Opens held store.old settings count result store.new }
 {
-    match plan_open(held, store.len(), settings, count) {
-        Planned::Refuse(refusal) => Kept {
-            record: held,
-            verdict: Err(refusal),
-        },
-        Planned::Take(i, start) => {
-            clear_slots(store, start, count as usize, settings.size as usize + 2);
-            let mut next = held;
-            next.places[i] = places::place_of(settings, count, start as u32);
-            Kept {
-                record: next,
-                verdict: Ok(()),
-            }
-        }
-    }
+    let (i, start) = plan_open(held, store.len(), settings, count)?;
+    clear_slots(store, start, count as usize, settings.size as usize + 2);
+    let mut next = held;
+    next.places[i] = places::place_of(settings, count, start as u32);
+    Ok(next)
 }
 
 // The same under the house setting.
@@ -105,28 +87,20 @@ pub fn open_house(
     kind: u8,
     update: u8,
     count: u32,
-) -> Kept
+) -> Result<Record, Refusal>
     ensures { Opens held store.old (house resource kind update) count result store.new }
 {
     open(held, store, settings::house(resource, kind, update), count)
 }
 
-// Makes the place that holds a resource and a type unused, all its fields 0. The store stays. Refused, the record is as it came.
-pub fn close(held: Record, store: &[u8], resource: u16, kind: u8) -> Kept
-    ensures { result ≡ close_of held store.now (record { resource = resource; kind = kind }) }
+// Makes the place that holds a resource and a type unused, all its fields 0. The store stays.
+pub fn close(held: Record, store: &[u8], resource: u16, kind: u8) -> Result<Record, Refusal>
+    ensures { result ≡ renewed (close_of held store.now (record { resource = resource; kind = kind })) }
 {
     if !room::is_good(held, store.len()) {
-        return Kept {
-            record: held,
-            verdict: Err(Refusal::Record),
-        };
+        return Err(Refusal::Record);
     }
-    let Some(i) = places::find_place(held, resource, kind) else {
-        return Kept {
-            record: held,
-            verdict: Err(Refusal::Unknown),
-        };
-    };
+    let i = places::find_place(held, resource, kind).ok_or(Refusal::Unknown)?;
     let mut next = held;
     next.places[i] = Place {
         resource: 0,
@@ -140,8 +114,5 @@ pub fn close(held: Record, store: &[u8], resource: u16, kind: u8) -> Kept
         edition: 0,
         order: 0,
     };
-    Kept {
-        record: next,
-        verdict: Ok(()),
-    }
+    Ok(next)
 }

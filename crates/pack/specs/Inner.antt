@@ -6,20 +6,21 @@ use Rattle.settings.specs.declared.Settings.{Settings}
 use Rattle.settings.specs.Settings.{settings_fit}
 use Rattle.layout.specs.Layout.{tables_of, coded_file}
 use Rattle.pack.specs.Pack.{largest_file, coded_length, count_of}
-use Rattle.pack.specs.declared.Plan.{Plan}
-use Rattle.pack.specs.declared.Plan.TheVariants.{Stop, Go}
+use Rattle.refusals.specs.declared.Refusal.{Refusal}
+use Rattle.std.specs.Prelude.{Result}
+use Rattle.std.specs.Prelude.{Ok, Err}
 
 -- the bytes of payload n, for a file of len bytes
 abbrev pub payload_length : Settings → ℕ → ℕ → ℕ
 payload_length g len n = min g.size (coded_length g len - n * g.size)
 
 -- the first of the refusals 17, 23, 25, 6; or the count of packets and the length of the payload
-unfoldable pub plan_of : Settings → ℕ → ℕ → Plan
+unfoldable pub plan_of : Settings → ℕ → ℕ → Result (ℕ × ℕ) Refusal
 plan_of g len n =
-    cond (not (settings_fit g)) (Stop Field)
-    (cond (eqb len 0 || ltb largest_file len) (Stop Size)
-    (cond (ltb 1048575 (count_of g len)) (Stop Count)
-    (cond (leb (count_of g len) n) (Stop Number) (Go (count_of g len) (payload_length g len n)))))
+    cond (not (settings_fit g)) (Err Field)
+    (cond (eqb len 0 || ltb largest_file len) (Err Size)
+    (cond (ltb 1048575 (count_of g len)) (Err Count)
+    (cond (leb (count_of g len) n) (Err Number) (Ok ((count_of g len), (payload_length g len n))))))
 
 -- what a plan that goes on has found: packet n of a file of len bytes can be made
 pub record Packable (g : Settings) (len n : ℕ) : Type 0 where

@@ -1,7 +1,7 @@
 -- What packing tells: document 01, sections 4 and 6.
 -- Assumes nothing.
 use Rattle.std.specs.Prelude.{[], ◌∷◌}
-use Rattle.refusals.specs.Told.{Told, accepted_with, refused_as}
+use Rattle.refusals.specs.Told.{Told, length_told}
 use Rattle.refusals.specs.declared.Refusal.{Refusal}
 use Rattle.std.specs.Prelude.{Result}
 use Rattle.std.specs.Prelude.{Ok, Err}
@@ -9,5 +9,4 @@ use Rattle.std.specs.Prelude.{ℕ}
 
 -- the length of the packet that was written, or the refusal
 abbrev pub packed_told : Result ℕ Refusal → Told
-packed_told (Ok n) = accepted_with (n ∷ [])
-packed_told (Err r) = refused_as r
+packed_told = length_told

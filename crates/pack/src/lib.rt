@@ -11,13 +11,6 @@ use packet::Packet;
 use refusals::Refusal;
 use settings::Settings;
 
-// Whether a packet can be made; its count of packets and the length of its payload.
-#[derive(Clone, Copy)]
-enum Plan {
-    Stop(Refusal),
-    Go(u32, usize),
-}
-
 // The longest file.
 const LARGEST_FILE: usize = 16777216;
 
@@ -33,32 +26,32 @@ fn coded_length(settings: Settings, len: usize) -> usize
     255 * rows * words::over(len, 239 * rows)
 }
 
-// The first of the refusals 17, 23, 25, 6; or what packet `number` of a file of `len` bytes will be.
-fn judge(settings: Settings, len: usize, number: u32) -> Plan
+// The first of the refusals 17, 23, 25, 6; or the count of packets of a file of `len` bytes, and the length of the payload of packet `number`.
+fn judge(settings: Settings, len: usize, number: u32) -> Result<(u32, usize), Refusal>
     ensures { result ≡ plan_of settings len number }
 {
     if !fitting::settings_fit(settings) {
-        return Plan::Stop(Refusal::Field);
+        return Err(Refusal::Field);
     }
     if len == 0 {
-        return Plan::Stop(Refusal::Size);
+        return Err(Refusal::Size);
     }
     if LARGEST_FILE < len {
-        return Plan::Stop(Refusal::Size);
+        return Err(Refusal::Size);
     }
     let coded = coded_length(settings, len);
     let size = settings.size as usize;
     let count = words::over(coded, size);
     if 1048575 < count {
-        return Plan::Stop(Refusal::Count);
+        return Err(Refusal::Count);
     }
     if count <= number as usize {
-        return Plan::Stop(Refusal::Number);
+        return Err(Refusal::Number);
     }
-    Plan::Go(
+    Ok((
         count as u32,
         words::lesser(size, coded - number as usize * size),
-    )
+    ))
 }
 
 // The bytes of `src` from `from` on, n of them, at the start of `out`.
@@ -160,11 +153,8 @@ fn put_packet(
 pub fn pack(file: &[u8], settings: Settings, number: u32, out: &mut [u8]) -> Result<usize, Refusal>
     ensures { Packs (pack_of file.now settings number out.old) result out.new }
 {
-    let plan = judge(settings, file.len(), number);
-    match plan {
-        Plan::Stop(refusal) => Err(refusal),
-        Plan::Go(count, size) => put_packet(file, settings, number, count, size, out),
-    }
+    let (count, size) = judge(settings, file.len(), number)?;
+    put_packet(file, settings, number, count, size, out)
 }
 
 // The same under the house setting.

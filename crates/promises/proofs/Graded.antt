@@ -21,13 +21,15 @@ use Rattle.promises.specs.Statements.{bytes_altered, Protected, Copy, Graded, Me
 use Rattle.promises.proofs.Judged.{copy-judged}
 use Rattle.promises.proofs.Demand.{Collecting, own, copy_reads_there, fair-run, begun}
 use Rattle.promises.proofs.Fresh.{opens}
+use Rattle.refusals.specs.declared.Refusal.{Refusal}
+use Rattle.std.specs.Prelude.{Ok, Result}
 
 module _ (g : Settings) (file : List ℕ) (p : Protected g file) (i start : ℕ) (x : State) (c : Collecting g file p i start x) where
   module _ (n : ℕ) (below : n < count_of g (length file)) (q : List ℕ) (cp : Copy g file n q) where
     abbrev mended : ℕ
     mended = bytes_altered q (payload_of g file n)
 
-    answers : ((offer_of x.held x.store q).answer ≡ Stored mended) ⊎ ((offer_of x.held x.store q).answer ≡ Repeat mended)
+    answers : ((offer_of x.held x.store q).answer ≡ Ok (Stored mended)) ⊎ ((offer_of x.held x.store q).answer ≡ Ok (Repeat mended))
     answers =
         let said : (offer_of x.held x.store q).answer ≡ answered (judge (own g file p i start) (fields_of g file n) q) (contents (own g file p i start) x.store) =
         offer-answer x.held x.store q c.sound (fields_of g file n) (copy_reads_there g file p i start n below q cp x c) i c.named
@@ -38,7 +40,7 @@ module _ (g : Settings) (file : List ℕ) (p : Protected g file) (i start : ℕ)
   graded : Graded step g file x
   unfolding step
   graded n below q cp =
-      ⊎_map (ap (λ (a : Offered). telling (offered_told a))) (ap (λ (a : Offered). telling (offered_told a))) (answers n below q cp)
+      ⊎_map (ap (λ (a : Result Offered Refusal). telling (offered_told a))) (ap (λ (a : Result Offered Refusal). telling (offered_told a))) (answers n below q cp)
 
 pub mended_is_altered : MendedIsAltered step
 mended_is_altered g file p x answer cs fair =

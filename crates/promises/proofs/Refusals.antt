@@ -14,7 +14,7 @@ use Rattle.pack.specs.Told.{packed_told}
 use Rattle.pack.proofs.Plans.{pack-refused}
 use Rattle.places.specs.declared.Record.{Record}
 use Rattle.places.specs.Places.{Name, good, place_named}
-use Rattle.opening.specs.declared.Kept.{Kept}
+use Rattle.opening.specs.Open.{Kept}
 use Rattle.record.specs.declared.Offered.{Offered}
 use Rattle.opening.specs.Open.{Plan, refuse, take, plan_of, carried_out, open_of, closed_at, close_of}
 use Rattle.record.specs.Offer.{offer_of}
@@ -55,7 +55,7 @@ hand_keeps h s r n out = by (hand_out_of h s r n out).answer refl
 -- ---- offer: the store
 
 offer_keeps : (h : Record) (s q : List ℕ) → Turned (offered_told (offer_of h s q).answer) → (offer_of h s q).store ≡ s
-offer_keeps h s q d = offer_unstored h s q (λ m z. d (ap (λ (a : Offered). (offered_told a).number) z))
+offer_keeps h s q d = offer_unstored h s q (λ m z. d (ap (λ (a : Result Offered Refusal). (offered_told a).number) z))
 
 -- ---- open and close: the record and the store
 

@@ -16,7 +16,7 @@ use Rattle.places.specs.Places.{Name, settings_name, unused, good, place_named, 
 use Rattle.ground.proofs.Truth.{differ, and_both}
 use Rattle.places.proofs.Named.{name-same}
 use Rattle.contents.specs.Contents.{contents}
-use Rattle.opening.specs.declared.Kept.{Kept as Record-kept}
+use Rattle.opening.specs.Open.{Kept as Record-kept}
 use Rattle.opening.specs.Open.{Plan, refuse, take, plan_of, carried_out, Opening, open_of, closed_at, close_of}
 use Rattle.record.specs.declared.Offered.{Offered}
 use Rattle.record.specs.Offer.{name_in, offer_of}
@@ -39,6 +39,7 @@ use Rattle.promises.proofs.Views.{Kept, offer-leaves, step-leaves, step-length}
 use Rattle.std.specs.Prelude.{Option}
 use Rattle.std.specs.Prelude.{Err}
 use Rattle.std.specs.Prelude.{Some, None}
+use Rattle.std.specs.Prelude.{Result}
 
 -- two stores of one length that show the same at r's place
 pub record Like (r : Name) (h : Record) (s t : List ℕ) : Type 0 where
@@ -163,10 +164,10 @@ unfolding step
 named_step r (packing file g n out) h s t l e = (refl, l)
 named_step r (opening g count) h s t l e =
     (ap (λ (k : Record-kept). telling (verdict_told k.verdict)) (like_open r h s t l g count), open_own_like r h s t l g count (name-same (settings_name g) r e))
-named_step r (offering q) h s t l e = (ap (λ (a : Offered). telling (offered_told a)) (like_offer r h s t l q e), offer-own_like r h s t l q)
+named_step r (offering q) h s t l e = (ap (λ (a : Result Offered Refusal). telling (offered_told a)) (like_offer r h s t l q e), offer-own_like r h s t l q)
 named_step r (asking x) h s t l e =
     let same : x ≡ r = name-same x r e in
-    (ap (λ (a : Standing). telling (standing_told a)) (ap (status_of h s) same ∙ status_same h s t r l.sized l.seen ∙ sym (ap (status_of h t) same)), l)
+    (ap (λ (a : Result Standing Refusal). telling (standing_told a)) (ap (status_of h s) same ∙ status_same h s t r l.sized l.seen ∙ sym (ap (status_of h t) same)), l)
 named_step r (handing x n out) h s t l e =
     let same : x ≡ r = name-same x r e in (
       ap (λ (a : Handing). record { told = verdict_told a.answer; output = a.output })

@@ -38,8 +38,6 @@ use Rattle.record.specs.Told.{offered_told}
 use Rattle.record.proofs.OfferCases.{offer-placed, payload_length_lem, mended-plain, mended-rows, puts-known}
 use Rattle.record.proofs.OfferFacts.{Read, read-placed, same-file, mends_nothing, mends_rows, rows-judged, rows-protected}
 use Rattle.record.proofs.OfferLaws.{Placed, Sound, Case, refused, placed, offer_case, offer-sound}
-use Rattle.standing.specs.declared.Standing.{Standing}
-use Rattle.standing.specs.declared.Standing.TheVariants.{Filled}
 use Rattle.standing.specs.Status.{standing_in, status_of}
 use Rattle.standing.specs.Told.{standing_told}
 use Rattle.standing.proofs.StatusLaws.{status_found_lem}
@@ -49,6 +47,7 @@ use Rattle.promises.proofs.EachRow.{rows-near}
 use Rattle.std.specs.Prelude.{Option}
 use Rattle.std.specs.Prelude.{Ok}
 use Rattle.std.specs.Prelude.{Some, None}
+use Rattle.std.specs.Prelude.{Err}
 
 -- ---- the place that holds a resource and type
 
@@ -83,7 +82,7 @@ standing_slots : (c : List Content) → standing_told (standing_in c) ≡ slots_
 unfolding standing_in
 standing_slots c = by (any_wrong c) (lowest_empty c 0)
   where
-    by : (b : Bool) (f : Option ℕ) → standing_told (cond b (Standing.Refused Slot) (Filled (filled c) f)) ≡ cond b (refused_as Slot) (record { number = 0; values = filled c ∷ lowest_values f })
+    by : (b : Bool) (f : Option ℕ) → standing_told (cond b (Err Slot) (Ok (record { filled = filled c; lowest = f }))) ≡ cond b (refused_as Slot) (record { number = 0; values = filled c ∷ lowest_values f })
     by true f = refl
     by false (Some k) = refl
     by false None = refl
@@ -176,7 +175,7 @@ module _ (x : State) (q : List ℕ) where
         (others_stay x i n b used g w.below room)
     slot_said n b m e w (holding (y ∷ d)) z o = compared (same (y ∷ d) b) refl o
       where
-        compared : (t : Bool) → same (y ∷ d) b ≡ t → Says (storing x.store (slot_at (place_at x i) n) b (cond t (Repeat m) (Offered.Refused Conflict)))
+        compared : (t : Bool) → same (y ∷ d) b ≡ t → Says (storing x.store (slot_at (place_at x i) n) b (cond t (Ok (Repeat m)) (Err Conflict)))
         compared true h o = Accepts.again i n b m (carried n b m e w) (z ∙ ap holding (same_equal (y ∷ d) b h)) refl
         compared false h o = absurd (omega arith)
 

@@ -14,7 +14,6 @@ use Rattle.ground.proofs.Truth.{and_both, and_join}
 use Rattle.slices.specs.Slices.{same}
 use Rattle.refusals.specs.declared.Refusal.{Refusal}
 use Rattle.refusals.specs.declared.Refusal.TheVariants.{Unknown, Other, Edition, Wide, Crc, Slot, Conflict}
-use Rattle.repair.specs.declared.Counted.{Counted}
 use Rattle.repair.specs.Repair.{mending_of, Mends}
 use Rattle.repair.proofs.AllRows.{mend_refused}
 use Rattle.packet.specs.declared.Packet.{Packet}
@@ -27,25 +26,25 @@ use Rattle.contents.specs.Contents.{holding, bytes_at, slot_at, length_fits, slo
 use Rattle.contents.proofs.Bytes.{bytes-part}
 use Rattle.contents.proofs.Slots.{slot-holds, slot-wrong, slot-empty}
 use Rattle.record.specs.declared.Offered.{Offered}
-use Rattle.record.specs.declared.Offered.TheVariants.{Stored, Repeat, Refused}
+use Rattle.record.specs.declared.Offered.TheVariants.{Stored, Repeat}
 use Rattle.code.specs.Mend.{Mended, whole, broken, mend_rows}
 use Rattle.record.specs.Mend.{payload_in, mended_in}
 use Rattle.sealing.specs.Sealing.{agrees}
 use Rattle.record.specs.Offer.{packet_name, read_for, differs, Judged, refuse, put, judge_mended, mend_as, judge, Offering, storing, offer_judged, offer_of, judge_by, offer_by}
-use Rattle.record.specs.InnerOffer.{Comes, refusal_in}
+use Rattle.record.specs.InnerOffer.{Comes}
 use Rattle.record.specs.Put.{judge_crc, slot_has, put_of}
 use Rattle.std.specs.Prelude.{Result}
 use Rattle.std.specs.Prelude.{Ok, Err}
 use Rattle.std.specs.Prelude.{Some, None}
 
-abbrev pub said : Offered → List ℕ → Offering
+abbrev pub said : Result Offered Refusal → List ℕ → Offering
 said a s = record { answer = a; store = s }
 
 -- both parts of a contract, from what the offering is
-pub told : {o : Offering} {a : Offered} {s : List ℕ} → o ≡ said a s → Comes o a s
+pub told : {o : Offering} {a : Result Offered Refusal} {s : List ℕ} → o ≡ said a s → Comes o a s
 told e = (ap (λ (x : Offering). x.answer) (sym e), ap (λ (x : Offering). x.store) (sym e))
 
-pub come : {o o' : Offering} {a : Offered} {s : List ℕ} → o ≡ o' → Comes o' a s → Comes o a s
+pub come : {o o' : Offering} {a : Result Offered Refusal} {s : List ℕ} → o ≡ o' → Comes o' a s → Comes o a s
 come e c = (c.0 ∙ ap (λ (x : Offering). x.answer) (sym e), c.1 ∙ ap (λ (x : Offering). x.store) (sym e))
 
 -- ---- a payload and the slot of its number
@@ -53,7 +52,7 @@ come e c = (c.0 ∙ ap (λ (x : Offering). x.answer) (sym e), c.1 ∙ ap (λ (x 
 module _ (p : Place) (s : List ℕ) (k : ℕ) (b : List ℕ) (m : ℕ) (a : Bool) where
   -- the code's own start of the slot
   module _ (at : ℕ) (d : at ≡ slot_at p k) (r : Bool) (t : r ≡ slot_has p (length s) at (length b)) where
-    pub put-nowhere : r ≡ false → put_of p s k b m a ≡ said (Refused Refusal.Record) s
+    pub put-nowhere : r ≡ false → put_of p s k b m a ≡ said (Err Refusal.Record) s
     unfolding put_of
     put-nowhere e = rw (← d, sym t ∙ e) refl
 
@@ -74,7 +73,7 @@ module _ (p : Place) (s : List ℕ) (k : ℕ) (b : List ℕ) (m : ℕ) (a : Bool
 
 -- which starts at at and has the length n, where the CRC agrees with the payload
 
-pub put-crc : (p : Place) (s : List ℕ) (k : ℕ) (b : List ℕ) (m : ℕ) (a : Bool) → a ≡ false → offer_judged p s (judge_crc k b m a) ≡ said (Refused Crc) s
+pub put-crc : (p : Place) (s : List ℕ) (k : ℕ) (b : List ℕ) (m : ℕ) (a : Bool) → a ≡ false → offer_judged p s (judge_crc k b m a) ≡ said (Err Crc) s
 put-crc p s k b m a h = rw h refl
 
 module _ (p : Place) (s : List ℕ) (k : ℕ) (b : List ℕ) (m : ℕ) (a : Bool) (h : a ≡ true) (at : ℕ) (d : at ≡ slot_at p k) (n : ℕ) (e : n ≡ length_at s at) where
@@ -84,11 +83,11 @@ module _ (p : Place) (s : List ℕ) (k : ℕ) (b : List ℕ) (m : ℕ) (a : Bool
   slot-length : length_at s (slot_at p k) ≡ n
   slot-length = sym (e ∙ ap (length_at s) d)
 
-  pub put_wrong : length_fits p n ≡ false → offer_judged p s (judge_crc k b m a) ≡ said (Refused Slot) s
+  pub put_wrong : length_fits p n ≡ false → offer_judged p s (judge_crc k b m a) ≡ said (Err Slot) s
   put_wrong f = agreed ∙ rw (slot-wrong p s k (ap (length_fits p) slot-length ∙ f)) refl
 
-  pub put-empty : n ≡ 0 → offer_judged p s (judge_crc k b m a) ≡ said (Stored m) (stored s at b)
-  put-empty z = agreed ∙ rw (slot-empty p s k (slot-length ∙ z)) (ap (λ (x : ℕ). said (Stored m) (stored s x b)) (sym d))
+  pub put-empty : n ≡ 0 → offer_judged p s (judge_crc k b m a) ≡ said (Ok (Stored m)) (stored s at b)
+  put-empty z = agreed ∙ rw (slot-empty p s k (slot-length ∙ z)) (ap (λ (x : ℕ). said (Ok (Stored m)) (stored s x b)) (sym d))
 
   -- a slot that holds something, and r says whether that, as the code cuts it out, is the payload
   module _ (f : length_fits p n ≡ true) (full : n ≡ 0 → ⊥) (l : at + 2 + n ≤ length s) (r : Bool) (t : r ≡ same (take (at + 2 + n - (at + 2)) (drop (at + 2) s)) b) where
@@ -97,22 +96,22 @@ module _ (p : Place) (s : List ℕ) (k : ℕ) (b : List ℕ) (m : ℕ) (a : Bool
         let e : at + 2 + n - (at + 2) ≡ n = omega arith in
         t ∙ ap (λ (x : List ℕ). same x b) (ap (λ (x : ℕ). take x (drop (at + 2) s)) e ∙ sym (bytes-part s (at + 2) n l))
 
-    put_full : offer_judged p s (judge_crc k b m a) ≡ storing s (slot_at p k) b (cond r (Repeat m) (Refused Conflict))
+    put_full : offer_judged p s (judge_crc k b m a) ≡ storing s (slot_at p k) b (cond r (Ok (Repeat m)) (Err Conflict))
     put_full = agreed ∙ by n refl
       where
-        by : (l : ℕ) → n ≡ l → offer_judged p s (put k b m) ≡ storing s (slot_at p k) b (cond r (Repeat m) (Refused Conflict))
+        by : (l : ℕ) → n ≡ l → offer_judged p s (put k b m) ≡ storing s (slot_at p k) b (cond r (Ok (Repeat m)) (Err Conflict))
         by zero w = absurd (full w)
         by (suc l) w =
             let o : slot_of p s k ≡ holding (bytes_at s (slot_at p k + 2) (suc l)) =
             slot-holds p s k (suc l) (slot-length ∙ w) (sym (ap (length_fits p) w) ∙ f) in
             let y : same (bytes_at s (slot_at p k + 2) (suc l)) b ≡ r = sym (bytes_compared ∙ ap₂ (λ (x y : ℕ). same (bytes_at s (x + 2) y) b) d w) in
-            rw o (ap (λ (x : Bool). storing s (slot_at p k) b (cond x (Repeat m) (Refused Conflict))) y)
+            rw o (ap (λ (x : Bool). storing s (slot_at p k) b (cond x (Ok (Repeat m)) (Err Conflict))) y)
 
-    pub put_same : r ≡ true → offer_judged p s (judge_crc k b m a) ≡ said (Repeat m) s
-    put_same w = put_full ∙ ap (λ (x : Bool). storing s (slot_at p k) b (cond x (Repeat m) (Refused Conflict))) w
+    pub put_same : r ≡ true → offer_judged p s (judge_crc k b m a) ≡ said (Ok (Repeat m)) s
+    put_same w = put_full ∙ ap (λ (x : Bool). storing s (slot_at p k) b (cond x (Ok (Repeat m)) (Err Conflict))) w
 
-    pub put_conflict : r ≡ false → offer_judged p s (judge_crc k b m a) ≡ said (Refused Conflict) s
-    put_conflict w = put_full ∙ ap (λ (x : Bool). storing s (slot_at p k) b (cond x (Repeat m) (Refused Conflict))) w
+    pub put_conflict : r ≡ false → offer_judged p s (judge_crc k b m a) ≡ said (Err Conflict) s
+    put_conflict w = put_full ∙ ap (λ (x : Bool). storing s (slot_at p k) b (cond x (Ok (Repeat m)) (Err Conflict))) w
 
 -- ---- the payload of a packet
 
@@ -154,12 +153,12 @@ pub mended-crc : (k : ℕ) (q b : List ℕ) (n : ℕ) (m : Mended) → m ≡ who
 mended-crc k q b n m e r a = ap (judge_mended k q) e ∙ sym (ap (judge_crc k b n) a)
 
 -- what the repair of a payload's rows was answered
-module _ (b : List ℕ) (m : length b % 255 ≡ 0) (h : length b ≤ 3825) (v : Counted) (l : List ℕ) (w : Mends (mending_of b) v l) where
-  pub rows-broken : (p : Place) (s : List ℕ) (k : ℕ) (q : List ℕ) (r : Refusal) → v.verdict ≡ Err r
-      → offer_judged p s (judge_mended k q (mend_rows (length b / 255) 0 b)) ≡ said (Refused r) s
+module _ (b : List ℕ) (m : length b % 255 ≡ 0) (h : length b ≤ 3825) (v : Result ℕ Refusal) (l : List ℕ) (w : Mends (mending_of b) v l) where
+  pub rows-broken : (p : Place) (s : List ℕ) (k : ℕ) (q : List ℕ) (r : Refusal) → v ≡ Err r
+      → offer_judged p s (judge_mended k q (mend_rows (length b / 255) 0 b)) ≡ said (Err r) s
   rows-broken p s k q r e =
       let f = mend_refused b m h v l w r e in
-      ap (λ (x : Mended). offer_judged p s (judge_mended k q x)) f.2 ∙ ap (λ (x : Refusal). said (Refused x) s) (sym f.1)
+      ap (λ (x : Mended). offer_judged p s (judge_mended k q x)) f.2 ∙ ap (λ (x : Refusal). said (Err x) s) (sym f.1)
 
 module _ (p : Place) (f : Packet) (q : List ℕ) where
   pub judge-other : differs p f ≡ true → judge p f q ≡ refuse Other
@@ -234,22 +233,18 @@ module _ (k : ℕ) (b : List ℕ) (m : ℕ) where
 
 -- ---- an offer to a record
 
--- the refusal of a reading that is one
-pub refusal_read : (x : Result Packet Refusal) (r t : Refusal) → x ≡ Err r → t ≡ refusal_in x → x ≡ Err t
-refusal_read x r t e d = e ∙ ap Err (sym (d ∙ ap refusal_in e))
-
 module _ (h : Record) (s q : List ℕ) where
-  pub offer_bad : good (length s) h.places ≡ false → offer_of h s q ≡ said (Refused Refusal.Record) s
+  pub offer_bad : good (length s) h.places ≡ false → offer_of h s q ≡ said (Err Refusal.Record) s
   unfolding offer_by
   offer_bad g = rw g refl
 
   module _ (g : good (length s) h.places ≡ true) where
-    pub offer_unread : (r : Refusal) → read_for h q ≡ Err r → offer_of h s q ≡ said (Refused r) s
+    pub offer_unread : (r : Refusal) → read_for h q ≡ Err r → offer_of h s q ≡ said (Err r) s
     unfolding offer_by
     offer_unread r e = rw (g, e) refl
 
     module _ (f : Packet) (e : read_for h q ≡ Ok f) where
-      pub offer_unknown : place_named h.places (packet_name f) ≡ None → offer_of h s q ≡ said (Refused Unknown) s
+      pub offer_unknown : place_named h.places (packet_name f) ≡ None → offer_of h s q ≡ said (Err Unknown) s
       unfolding offer_by
       offer_unknown w = rw (g, e, w) refl
 

@@ -26,7 +26,7 @@ use Rattle.contents.proofs.Bytes.{length-stored}
 use Rattle.contents.proofs.Slots.{fits_made, fits-room}
 use Rattle.contents.proofs.Places.{reading_slots, storing-sets, storing-leaves, apart-meets}
 use Rattle.record.specs.declared.Offered.{Offered}
-use Rattle.record.specs.declared.Offered.TheVariants.{Stored, Repeat, Refused}
+use Rattle.record.specs.declared.Offered.TheVariants.{Stored, Repeat}
 use Rattle.code.specs.Mend.{altered_in}
 use Rattle.record.specs.Mend.{payload_in}
 use Rattle.settings.specs.Settings.{row_wise}
@@ -89,34 +89,34 @@ judge-copy o f q p a w s e z l =
 
 -- ---- at one place: the answer and what the place holds afterwards, by what it held
 
-abbrev pub answered : Judged → List Content → Offered
-answered (refuse r) c = Refused r
+abbrev pub answered : Judged → List Content → Result Offered Refusal
+answered (refuse r) c = Err r
 answered (put k b m) c = put_into (get_or c k wrong) b m
 
-abbrev pub kept : Offered → List Content → ℕ → List ℕ → List Content
-kept (Stored m) c k b = set c k (holding b)
-kept (Repeat m) c k b = c
-kept (Refused r) c k b = c
+abbrev pub kept : Result Offered Refusal → List Content → ℕ → List ℕ → List Content
+kept (Ok (Stored m)) c k b = set c k (holding b)
+kept (Ok (Repeat m)) c k b = c
+kept (Err r) c k b = c
 
 abbrev pub held_after : Judged → List Content → List Content
 held_after (refuse r) c = c
 held_after (put k b m) c = kept (put_into (get_or c k wrong) b m) c k b
 
 module _ (s : List ℕ) (at : ℕ) (b : List ℕ) where
-  storing-answer : (a : Offered) → (storing s at b a).answer ≡ a
-  storing-answer (Stored m) = refl
-  storing-answer (Repeat m) = refl
-  storing-answer (Refused r) = refl
+  storing-answer : (a : Result Offered Refusal) → (storing s at b a).answer ≡ a
+  storing-answer (Ok (Stored m)) = refl
+  storing-answer (Ok (Repeat m)) = refl
+  storing-answer (Err r) = refl
 
-  storing-length : (a : Offered) → length (storing s at b a).store ≡ length s
-  storing-length (Stored m) = length-stored s at b
-  storing-length (Repeat m) = refl
-  storing-length (Refused r) = refl
+  storing-length : (a : Result Offered Refusal) → length (storing s at b a).store ≡ length s
+  storing-length (Ok (Stored m)) = length-stored s at b
+  storing-length (Ok (Repeat m)) = refl
+  storing-length (Err r) = refl
 
-  storing-same : (a : Offered) → ((m : ℕ) → (storing s at b a).answer ≡ Stored m → ⊥) → (storing s at b a).store ≡ s
-  storing-same (Stored m) h = absurd (h m refl)
-  storing-same (Repeat m) h = refl
-  storing-same (Refused r) h = refl
+  storing-same : (a : Result Offered Refusal) → ((m : ℕ) → (storing s at b a).answer ≡ Ok (Stored m) → ⊥) → (storing s at b a).store ≡ s
+  storing-same (Ok (Stored m)) h = absurd (h m refl)
+  storing-same (Ok (Repeat m)) h = refl
+  storing-same (Err r) h = refl
 
 module _ (p : Place) (f : Packet) (s : List ℕ) where
   answer_at : (j : Judged) → Sound p f j → (offer_judged p s j).answer ≡ answered j (contents p s)
@@ -130,25 +130,25 @@ module _ (p : Place) (f : Packet) (s : List ℕ) where
   holds_at (put k b m) w h =
       by (put_into (slot_of p s k) b m) ∙ ap (λ (x : Content). kept (put_into x b m) (contents p s) k b) (sym (reading_slots p s k w.below))
     where
-      by : (a : Offered) → contents p (storing s (slot_at p k) b a).store ≡ kept a (contents p s) k b
-      by (Stored n) = storing-sets p s k b h w.below w.fits
-      by (Repeat x) = refl
-      by (Refused r) = refl
+      by : (a : Result Offered Refusal) → contents p (storing s (slot_at p k) b a).store ≡ kept a (contents p s) k b
+      by (Ok (Stored n)) = storing-sets p s k b h w.below w.fits
+      by (Ok (Repeat x)) = refl
+      by (Err r) = refl
 
   leaves_at : (j : Judged) → Sound p f j → (o : Place) → meets p o ≡ false → contents o (offer_judged p s j).store ≡ contents o s
   leaves_at (refuse r) w o m = refl
   leaves_at (put k b n) w o m = by (put_into (slot_of p s k) b n)
     where
-      by : (a : Offered) → contents o (storing s (slot_at p k) b a).store ≡ contents o s
-      by (Stored x) = storing-leaves p o s k b m w.below (fits-room p (length b) w.fits)
-      by (Repeat x) = refl
-      by (Refused r) = refl
+      by : (a : Result Offered Refusal) → contents o (storing s (slot_at p k) b a).store ≡ contents o s
+      by (Ok (Stored x)) = storing-leaves p o s k b m w.below (fits-room p (length b) w.fits)
+      by (Ok (Repeat x)) = refl
+      by (Err r) = refl
 
   length_at : (j : Judged) → length (offer_judged p s j).store ≡ length s
   length_at (refuse r) = refl
   length_at (put k b m) = storing-length s (slot_at p k) b (put_into (slot_of p s k) b m)
 
-  same_at : (j : Judged) → ((m : ℕ) → (offer_judged p s j).answer ≡ Stored m → ⊥) → (offer_judged p s j).store ≡ s
+  same_at : (j : Judged) → ((m : ℕ) → (offer_judged p s j).answer ≡ Ok (Stored m) → ⊥) → (offer_judged p s j).store ≡ s
   same_at (refuse r) h = refl
   same_at (put k b m) h = storing-same s (slot_at p k) b (put_into (slot_of p s k) b m) h
 
@@ -157,10 +157,10 @@ module _ (p : Place) (f : Packet) (s : List ℕ) where
   slots_kept (refuse r) w c k d = refl
   slots_kept (put i b m) w c k d = by (put_into (get_or c i wrong) b m)
     where
-      by : (a : Offered) → get_or (kept a c i b) k wrong ≡ get_or c k wrong
-      by (Stored x) = get_or-set_other c i k (holding b) wrong (λ (z : k ≡ i). d (z ∙ w.number))
-      by (Repeat x) = refl
-      by (Refused r) = refl
+      by : (a : Result Offered Refusal) → get_or (kept a c i b) k wrong ≡ get_or c k wrong
+      by (Ok (Stored x)) = get_or-set_other c i k (holding b) wrong (λ (z : k ≡ i). d (z ∙ w.number))
+      by (Ok (Repeat x)) = refl
+      by (Err r) = refl
 
 -- a slot that is empty, or holds the payload already, holds it afterwards
 pub held_after_lem : (c : List Content) (k : ℕ) (b : List ℕ) (m : ℕ) → k < length c → (get_or c k wrong ≡ holding []) ⊎ (get_or c k wrong ≡ holding b)
@@ -171,7 +171,7 @@ held_after_lem c k (x ∷ b) m h (inr e) = rw (e, same_self (x ∷ b)) e
 
 -- and what is answered is Stored or Repeat, with the bytes mended
 pub answer-after : (c : List Content) (k : ℕ) (b : List ℕ) (m : ℕ) → (get_or c k wrong ≡ holding []) ⊎ (get_or c k wrong ≡ holding b)
-    → (answered (put k b m) c ≡ Stored m) ⊎ (answered (put k b m) c ≡ Repeat m)
+    → (answered (put k b m) c ≡ Ok (Stored m)) ⊎ (answered (put k b m) c ≡ Ok (Repeat m))
 answer-after c k b m (inl e) = inl (rw e refl)
 answer-after c k [] m (inr e) = inl (rw e refl)
 answer-after c k (x ∷ b) m (inr e) = inr (rw (e, same_self (x ∷ b)) refl)
@@ -180,7 +180,7 @@ answer-after c k (x ∷ b) m (inr e) = inr (rw (e, same_self (x ∷ b)) refl)
 
 -- it is refused, or it comes to what the packet's place says
 pub data Case (h : Record) (s q : List ℕ) : Offering → Type 0 where
-  refused : (r : Refusal) → Case h s q (said (Refused r) s)
+  refused : (r : Refusal) → Case h s q (said (Err r) s)
   placed : good (length s) h.places ≡ true → (f : Packet) → read_for h q ≡ Ok f → (i : ℕ) → place_named h.places (packet_name f) ≡ Some i
       → Case h s q (offer_judged (get_or h.places i unused) s (judge (get_or h.places i unused) f q))
 
@@ -208,15 +208,15 @@ module _ (h : Record) (s q : List ℕ) where
       by o (placed g f e i w) = length_at (get_or h.places i unused) f s (judge (get_or h.places i unused) f q)
 
   -- refused, or a repeat: the store is as it was
-  pub offer_unstored : ((m : ℕ) → (offer_of h s q).answer ≡ Stored m → ⊥) → (offer_of h s q).store ≡ s
+  pub offer_unstored : ((m : ℕ) → (offer_of h s q).answer ≡ Ok (Stored m) → ⊥) → (offer_of h s q).store ≡ s
   offer_unstored = by (offer_of h s q) offer_case
     where
-      by : (o : Offering) → Case h s q o → ((m : ℕ) → o.answer ≡ Stored m → ⊥) → o.store ≡ s
+      by : (o : Offering) → Case h s q o → ((m : ℕ) → o.answer ≡ Ok (Stored m) → ⊥) → o.store ≡ s
       by o (refused r) d = refl
       by o (placed g f e i w) d = same_at (get_or h.places i unused) f s (judge (get_or h.places i unused) f q) d
 
-  pub offer-refused : (r : Refusal) → (offer_of h s q).answer ≡ Refused r → (offer_of h s q).store ≡ s
-  offer-refused r e = offer_unstored (λ (m : ℕ) (z : (offer_of h s q).answer ≡ Stored m). let o : ◌≡◌ {A = ℕ} 0 1 = cc in omega arith)
+  pub offer-refused : (r : Refusal) → (offer_of h s q).answer ≡ Err r → (offer_of h s q).store ≡ s
+  offer-refused r e = offer_unstored (λ (m : ℕ) (z : (offer_of h s q).answer ≡ Ok (Stored m)). let o : ◌≡◌ {A = ℕ} 0 1 = cc in omega arith)
 
   -- ---- the place that the packet names
   module _ (g : good (length s) h.places ≡ true) (f : Packet) (e : read_for h q ≡ Ok f) (i : ℕ) (w : place_named h.places (packet_name f) ≡ Some i) where
@@ -256,7 +256,7 @@ module _ (h : Record) (s q : List ℕ) where
 
 -- ---- two stores of one length that hold the same at the place of a resource
 
-same_answer : {o u : Offering} {a : Offered} {s t : List ℕ} → o ≡ said a s → u ≡ said a t → o.answer ≡ u.answer
+same_answer : {o u : Offering} {a : Result Offered Refusal} {s t : List ℕ} → o ≡ said a s → u ≡ said a t → o.answer ≡ u.answer
 same_answer e d = ap (λ (x : Offering). x.answer) e ∙ sym (ap (λ (x : Offering). x.answer) d)
 
 module _ (h : Record) (s t q : List ℕ) (n : length s ≡ length t) where
@@ -290,7 +290,7 @@ module _ (h : Record) (s t q : List ℕ) (n : length s ≡ length t) where
     abbrev Alike : Type 0
     Alike = contents (get_or h.places j unused) (offer_of h s q).store ≡ contents (get_or h.places j unused) (offer_of h t q).store
 
-    said_alike : (a : Offered) → offer_of h s q ≡ said a s → offer_of h t q ≡ said a t → Alike
+    said_alike : (a : Result Offered Refusal) → offer_of h s q ≡ said a s → offer_of h t q ≡ said a t → Alike
     said_alike a e d =
         ap (λ (o : Offering). contents (get_or h.places j unused) o.store) e ∙ c
         ∙ sym (ap (λ (o : Offering). contents (get_or h.places j unused) o.store) d)
@@ -302,11 +302,11 @@ module _ (h : Record) (s t q : List ℕ) (n : length s ≡ length t) where
         fields z g (Ok f) e =
             let i : place_named h.places (packet_name f) ≡ Some j = ap (place_named h.places) (read_name h q f e ∙ z) ∙ w in
             offer-holds h s q g f e j i ∙ ap (held_after (judge (get_or h.places j unused) f q)) c ∙ sym (offer-holds h t q (good-same true g) f e j i)
-        fields z g (Err x) e = said_alike (Refused x) (offer_unread h s q g x e) (offer_unread h t q (good-same true g) x e)
+        fields z g (Err x) e = said_alike (Err x) (offer_unread h s q g x e) (offer_unread h t q (good-same true g) x e)
 
         judged : name_in q ≡ r → (x : Bool) → good (length s) h.places ≡ x → Alike
         judged z true g = fields z g (read_for h q) refl
-        judged z false g = said_alike (Refused Refusal.Record) (offer_bad h s q g) (offer_bad h t q (good-same false g))
+        judged z false g = said_alike (Err Refusal.Record) (offer_bad h s q g) (offer_bad h t q (good-same false g))
 
         alike : (x : Bool) → same_name (name_in q) r ≡ x → Alike
         alike true z = judged (name-same _ _ z) (good (length s) h.places) refl

@@ -14,7 +14,6 @@ use Rattle.packet.specs.Packet.{read_by, read_of}
 use Rattle.places.specs.declared.Record.{Record}
 use Rattle.places.specs.Places.{unused, good, place_named}
 use Rattle.record.specs.declared.Offered.{Offered}
-use Rattle.record.specs.declared.Offered.TheVariants.{Refused}
 use Rattle.record.specs.Offer.{packet_name, name_in, in_columns, read_for, judge, offer_judged, offer_of}
 use Rattle.record.specs.InnerOffer.{nowhere}
 use Rattle.record.proofs.OfferCases.{said, offer_unread, offer_unknown, offer-placed}
@@ -35,12 +34,12 @@ unfolding read_by
 read_short rows q l = rw (lt-ltb (length q) 19 l)
 
 module _ (h : Record) (s q : List ℕ) (g : good (length s) h.places ≡ true) where
-  pub offer-short : length q < 19 → offer_of h s q ≡ said (Refused Short) s
+  pub offer-short : length q < 19 → offer_of h s q ≡ said (Err Short) s
   offer-short l = offer_unread h s q g Short (read_found h q (place_named h.places (name_in q)) refl ∙ read_short _ q l)
 
   -- no place holds what it names
-  pub offer-nowhere : place_named h.places (name_in q) ≡ None → (a : Offered) → a ≡ nowhere (read_of q) → offer_of h s q ≡ said a s
-  offer-nowhere w a e = by (read_of q) refl ∙ ap (λ (x : Offered). said x s) (sym e)
+  pub offer-nowhere : place_named h.places (name_in q) ≡ None → (a : Result Offered Refusal) → a ≡ nowhere (read_of q) → offer_of h s q ≡ said a s
+  offer-nowhere w a e = by (read_of q) refl ∙ ap (λ (x : Result Offered Refusal). said x s) (sym e)
     where
       by : (x : Result Packet Refusal) → read_of q ≡ x → offer_of h s q ≡ said (nowhere (read_of q)) s
       by (Err r) z =
@@ -51,7 +50,7 @@ module _ (h : Record) (s q : List ℕ) (g : good (length s) h.places ≡ true) w
 
   -- place i holds it
   module _ (i : ℕ) (w : place_named h.places (name_in q) ≡ Some i) where
-    pub offer_unread_at : (r : Refusal) → read_by (not (eqb (get_or h.places i unused).order 1)) q ≡ Err r → offer_of h s q ≡ said (Refused r) s
+    pub offer_unread_at : (r : Refusal) → read_by (not (eqb (get_or h.places i unused).order 1)) q ≡ Err r → offer_of h s q ≡ said (Err r) s
     offer_unread_at r e = offer_unread h s q g r (read_found h q (Some i) w ∙ e)
 
     module _ (f : Packet) (e : read_by (not (eqb (get_or h.places i unused).order 1)) q ≡ Ok f) where

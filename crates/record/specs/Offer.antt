@@ -70,38 +70,38 @@ abbrev pub judge : Place → Packet → List ℕ → Judged
 judge = judge_by mended_in
 
 -- what a payload comes to at what a slot holds; Stored and Repeat carry how many bytes of it were mended
-abbrev pub put_into : Content → List ℕ → ℕ → Offered
-put_into wrong b m = Offered.Refused Slot
-put_into (holding []) b m = Stored m
-put_into (holding (x ∷ a)) b m = cond (same (x ∷ a) b) (Repeat m) (Offered.Refused Conflict)
+abbrev pub put_into : Content → List ℕ → ℕ → Result Offered Refusal
+put_into wrong b m = Err Slot
+put_into (holding []) b m = Ok (Stored m)
+put_into (holding (x ∷ a)) b m = cond (same (x ∷ a) b) (Ok (Repeat m)) (Err Conflict)
 
 -- what is answered, and what the store then holds
 pub record Offering : Type 0 where
-  pub answer : Offered
+  pub answer : Result Offered Refusal
   pub store : List ℕ
 
 -- the store changes with the answer Stored alone
-abbrev pub storing : List ℕ → ℕ → List ℕ → Offered → Offering
-storing s at b (Stored m) = record { answer = Stored m; store = stored s at b }
-storing s at b (Repeat m) = record { answer = Repeat m; store = s }
-storing s at b (Offered.Refused r) = record { answer = Offered.Refused r; store = s }
+abbrev pub storing : List ℕ → ℕ → List ℕ → Result Offered Refusal → Offering
+storing s at b (Ok (Stored m)) = record { answer = Ok (Stored m); store = stored s at b }
+storing s at b (Ok (Repeat m)) = record { answer = Ok (Repeat m); store = s }
+storing s at b (Err r) = record { answer = Err r; store = s }
 
 abbrev pub offer_judged : Place → List ℕ → Judged → Offering
-offer_judged p s (refuse r) = record { answer = Offered.Refused r; store = s }
+offer_judged p s (refuse r) = record { answer = Err r; store = s }
 offer_judged p s (put k b m) = storing s (slot_at p k) b (put_into (slot_of p s k) b m)
 
 module _ (mend : ℕ → List ℕ → Mended) where
   abbrev pub offer_found : Record → List ℕ → Packet → List ℕ → Option ℕ → Offering
   offer_found h s f q (Some i) = offer_judged (get_or h.places i unused) s (judge_by mend (get_or h.places i unused) f q)
-  offer_found h s f q None = record { answer = Offered.Refused Unknown; store = s }
+  offer_found h s f q None = record { answer = Err Unknown; store = s }
 
   abbrev pub offer_read : Record → List ℕ → List ℕ → Result Packet Refusal → Offering
   offer_read h s q (Ok f) = offer_found h s f q (place_named h.places (packet_name f))
-  offer_read h s q (Err r) = record { answer = Offered.Refused r; store = s }
+  offer_read h s q (Err r) = record { answer = Err r; store = s }
 
   unfoldable pub offer_by : Record → List ℕ → List ℕ → Offering
   offer_by h s q =
-      cond (good (length s) h.places) (offer_read h s q (read_for h q)) (record { answer = Offered.Refused Refusal.Record; store = s })
+      cond (good (length s) h.places) (offer_read h s q (read_for h q)) (record { answer = Err Refusal.Record; store = s })
 
 abbrev pub offer_of : Record → List ℕ → List ℕ → Offering
 offer_of = offer_by mended_in

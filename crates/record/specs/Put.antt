@@ -5,8 +5,8 @@ use Rattle.refusals.specs.declared.Refusal.{Refusal}
 use Rattle.refusals.specs.declared.Refusal.TheVariants.{Crc}
 use Rattle.places.specs.declared.Place.{Place}
 use Rattle.contents.specs.Contents.{slot_at}
-use Rattle.record.specs.declared.Offered.TheVariants.{Refused}
 use Rattle.record.specs.Offer.{Judged, refuse, put, Offering, offer_judged}
+use Rattle.std.specs.Prelude.{Err}
 
 -- a payload of which m bytes were mended, with what is said of its CRC
 abbrev pub judge_crc : ℕ → List ℕ → ℕ → Bool → Judged
@@ -20,4 +20,4 @@ slot_has p size at n = leb (at + (p.slot + 2)) size && leb n p.slot
 unfoldable pub put_of : Place → List ℕ → ℕ → List ℕ → ℕ → Bool → Offering
 put_of p s number b m agreed =
     cond (slot_has p (length s) (slot_at p number) (length b)) (offer_judged p s (judge_crc number b m agreed))
-    (record { answer = Refused Refusal.Record; store = s })
+    (record { answer = Err Refusal.Record; store = s })

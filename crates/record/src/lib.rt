@@ -3,12 +3,9 @@
 // crates standing and readout.
 #![tactic(auto)]
 
-use refusals::Refusal;
-
-// What offering a packet answers. Stored and Repeat carry the bytes mended in this packet, all its rows together; 0 without protection.
+// What became of a packet that was taken. Both carry the bytes mended in it, all its rows together; 0 without protection.
 #[derive(Clone, Copy)]
 pub enum Offered {
     Stored(u32),
     Repeat(u32),
-    Refused(Refusal),
 }

@@ -1,6 +1,6 @@
 -- Each refusal's number and values, and what a verdict tells: document 01, section 6, and document 02, R-4, R-8 and R-9.
 -- Assumes nothing.
-use Rattle.std.specs.Prelude.{List, [], ◌∷◌, ℕ, get_or}
+use Rattle.std.specs.Prelude.{List, [], ◌∷◌, ℕ, get_or, Result, Ok, Err}
 use Rattle.refusals.specs.declared.Refusal.{Refusal}
 use Rattle.refusals.specs.declared.Refusal.TheVariants.{Short, Mark, Length, «Type», Protection, Number, Rows, Resource, Record, Unknown, Other, Wide, Repair, Crc, Slot, Conflict, Field, Held, Full, Room, Missing, Shape, Size, Padding, Count, Output, Line, Extra, Lost, Code, Edition}
 
@@ -75,3 +75,8 @@ values_of Edition = []
 -- its extra value, 0 where none is named
 abbrev pub value_of : Refusal → ℕ
 value_of r = get_or (values_of r) 0 0
+
+-- what a call hands over where a verdict accepts, and the verdict's refusal where it does not
+abbrev pub answered : {A : Type 0} → Result (Unit {0}) Refusal → A → Result A Refusal
+answered (Ok tt) x = Ok x
+answered (Err r) x = Err r

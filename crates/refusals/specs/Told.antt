@@ -1,10 +1,8 @@
 -- What a call answers, in document 01's own terms: a number, 0 where the call is accepted and else the refusal's (section 6), and the values beside it. Each enum that is an
 -- answer has such a definition by its cases, in the crate that owns the enum; the promises and the C face speak through them. Assumes nothing.
-use Rattle.std.specs.Prelude.{List, [], ℕ}
+use Rattle.std.specs.Prelude.{List, [], ◌∷◌, ℕ, Result, Ok, Err}
 use Rattle.refusals.specs.declared.Refusal.{Refusal}
 use Rattle.refusals.specs.Refusals.{number_of, values_of}
-use Rattle.std.specs.Prelude.{Result}
-use Rattle.std.specs.Prelude.{Ok, Err}
 
 pub record Told : Type 0 where
   pub number : ℕ
@@ -20,3 +18,8 @@ refused_as r = record { number = number_of r; values = values_of r }
 abbrev pub verdict_told : Result (Unit {0}) Refusal → Told
 verdict_told (Ok tt) = accepted_with []
 verdict_told (Err r) = refused_as r
+
+-- of a call that hands over how many bytes it wrote
+abbrev pub length_told : Result ℕ Refusal → Told
+length_told (Ok n) = accepted_with (n ∷ [])
+length_told (Err r) = refused_as r

@@ -29,10 +29,10 @@ use Rattle.errata.proofs.Mending.{mended-length}
 use Rattle.errata.proofs.Moved.{Found, errata_ordered, errata_found, errata_none}
 use Rattle.encoding.specs.Encode.{remainders_of}
 use Rattle.encoding.proofs.Feeding.{rest_there, rest_among, length_remainders}
-use Rattle.repair.specs.declared.Counted.{Counted}
-use Rattle.repair.specs.Repair.{Mending, nothing_mended, mending_as, mending_of, Mends}
+use Rattle.repair.specs.Repair.{Mending, mending_as, mending_of, Mends}
 use Rattle.repair.specs.InnerRows.{Resting, Ends, Finished, told_of}
 use Rattle.std.specs.Prelude.{Ok, Err}
+use Rattle.std.specs.Prelude.{Result}
 
 -- ---- the row at the front
 
@@ -220,32 +220,32 @@ ended-few b i rests w h part e r out p =
 
 -- ---- the call's ends
 
-pub ended-mended : (r : ℕ) → 15 ≤ r → told_of r ≡ record { verdict = (Ok tt); count = r - 15 }
+pub ended-mended : (r : ℕ) → 15 ≤ r → told_of r ≡ Ok (r - 15)
 unfolding told_of
 ended-mended r h = rw (le-ltb r 15 h) refl
 
-pub ended-broken : (r : ℕ) → r < 15 → told_of r ≡ nothing_mended (Repair r)
+pub ended-broken : (r : ℕ) → r < 15 → told_of r ≡ Err (Repair r)
 unfolding told_of
 ended-broken r h = rw (lt-ltb r 15 h) refl
 
-ends_mends : (b : List ℕ) (m : Whole) (r : ℕ) (v : Counted) (out : List ℕ) → Ends b m r out → v ≡ told_of r → Mends (mending_as b m) v out
+ends_mends : (b : List ℕ) (m : Whole) (r : ℕ) (v : Result ℕ Refusal) (out : List ℕ) → Ends b m r out → v ≡ told_of r → Mends (mending_as b m) v out
 ends_mends b (whole c k) r v out p e =
     let n : r - 15 ≡ k = omega (arith, p.0) in
-    record { answers = e ∙ ended-mended r (omega (arith, p.0)) ∙ ap (λ (x : ℕ). record { verdict = (Ok tt); count = x }) n; leaves = p.1 }
+    record { answers = e ∙ ended-mended r (omega (arith, p.0)) ∙ ap (λ (x : ℕ). Ok x) n; leaves = p.1 }
 ends_mends b (broken i) r v out p e =
-    record { answers = e ∙ ended-broken r (omega (arith, p.0, p.1)) ∙ ap (λ (k : ℕ). nothing_mended (Repair k)) p.1; leaves = p.2 }
+    record { answers = e ∙ ended-broken r (omega (arith, p.0, p.1)) ∙ ap (λ (k : ℕ). Err (Repair k)) p.1; leaves = p.2 }
 
-pub mend_short : (b : List ℕ) → (length b % 255 ≡ 0 → ⊥) → Mends (mending_of b) (nothing_mended Short) b
+pub mend_short : (b : List ℕ) → (length b % 255 ≡ 0 → ⊥) → Mends (mending_of b) (Err Short) b
 unfolding mending_of
 mend_short b h = rw (ne_eqb (length b % 255) 0 h) (record { answers = refl; leaves = refl })
 
 module _ (b : List ℕ) (m : length b % 255 ≡ 0) where
-  pub mend_long : 3825 < length b → Mends (mending_of b) (nothing_mended Short) b
+  pub mend_long : 3825 < length b → Mends (mending_of b) (Err Short) b
   unfolding mending_of
   mend_long h = rw (eq-eqb (length b % 255) 0 m, lt-leb (length b) 3825 h) (record { answers = refl; leaves = refl })
 
   module _ (h : length b ≤ 3825) where
-    pub mend_all : (r : ℕ) (v : Counted) (out : List ℕ) → Ends b (mend_rows (length b / 255) 0 b) r out → v ≡ told_of r → Mends (mending_of b) v out
+    pub mend_all : (r : ℕ) (v : Result ℕ Refusal) (out : List ℕ) → Ends b (mend_rows (length b / 255) 0 b) r out → v ≡ told_of r → Mends (mending_of b) v out
     unfolding mending_of
     mend_all r v out p e =
         rw (eq-eqb (length b % 255) 0 m, le-leb (length b) 3825 h) (ends_mends b (mend_rows (length b / 255) 0 b) r v out p e)
@@ -265,32 +265,34 @@ module _ (b : List ℕ) (m : length b % 255 ≡ 0) where
 
 -- ---- what an answer of `mend` tells of whole rows
 
-module _ (b : List ℕ) (m : length b % 255 ≡ 0) (h : length b ≤ 3825) (v : Counted) (out : List ℕ) (p : Mends (mending_of b) v out) where
+module _ (b : List ℕ) (m : length b % 255 ≡ 0) (h : length b ≤ 3825) (v : Result ℕ Refusal) (out : List ℕ) (p : Mends (mending_of b) v out) where
   mended_as_lem : (w : Whole) → mend_rows (length b / 255) 0 b ≡ w → Mends (mending_as b w) v out
   unfolding mending_of
   mended_as_lem w e =
       subst (λ (x : Mending). Mends x v out) (rw (eq-eqb (length b % 255) 0 m, le-leb (length b) 3825 h) (ap (mending_as b) e)) p
 
-  pub mend_accepted : v.verdict ≡ (Ok tt) → mend_rows (length b / 255) 0 b ≡ whole out v.count
-  mend_accepted e = by (mend_rows (length b / 255) 0 b) refl
+  pub mend_accepted : (n : ℕ) → v ≡ Ok n → mend_rows (length b / 255) 0 b ≡ whole out n
+  mend_accepted n e = by (mend_rows (length b / 255) 0 b) refl
     where
-      by : (w : Whole) → mend_rows (length b / 255) 0 b ≡ w → w ≡ whole out v.count
+      by : (w : Whole) → mend_rows (length b / 255) 0 b ≡ w → w ≡ whole out n
       by (whole c k) f =
           let m = mended_as_lem (whole c k) f in
-          ap₂ whole (sym m.leaves) (sym (ap (λ (x : Counted). x.count) m.answers))
+          let x : ◌≡◌ {A = Result ℕ Refusal} (Ok n) (Ok k) = sym e ∙ m.answers in
+          let z : k ≡ n = cc in
+          ap₂ whole (sym m.leaves) z
       by (broken i) f =
-          let x : (Ok tt) ≡ Err (Repair i) = sym e ∙ ap (λ (x : Counted). x.verdict) (mended_as_lem (broken i) f).answers in
+          let x : ◌≡◌ {A = Result ℕ Refusal} (Ok n) (Err (Repair i)) = sym e ∙ (mended_as_lem (broken i) f).answers in
           let z : ◌≡◌ {A = ℕ} 0 1 = cc in
           absurd (omega arith)
 
-  pub mend_refused : (r : Refusal) → v.verdict ≡ Err r → (i : ℕ) × (r ≡ Repair i) × (mend_rows (length b / 255) 0 b ≡ broken i)
+  pub mend_refused : (r : Refusal) → v ≡ Err r → (i : ℕ) × (r ≡ Repair i) × (mend_rows (length b / 255) 0 b ≡ broken i)
   mend_refused r e = by (mend_rows (length b / 255) 0 b) refl
     where
       by : (w : Whole) → mend_rows (length b / 255) 0 b ≡ w → (i : ℕ) × (r ≡ Repair i) × (w ≡ broken i)
       by (whole c k) f =
-          let x : Err r ≡ (Ok tt) = sym e ∙ ap (λ (x : Counted). x.verdict) (mended_as_lem (whole c k) f).answers in
+          let x : ◌≡◌ {A = Result ℕ Refusal} (Err r) (Ok k) = sym e ∙ (mended_as_lem (whole c k) f).answers in
           let z : ◌≡◌ {A = ℕ} 0 1 = cc in
           absurd (omega arith)
       by (broken i) f =
-          let x : Err r ≡ Err (Repair i) = sym e ∙ ap (λ (x : Counted). x.verdict) (mended_as_lem (broken i) f).answers in
+          let x : ◌≡◌ {A = Result ℕ Refusal} (Err r) (Err (Repair i)) = sym e ∙ (mended_as_lem (broken i) f).answers in
           (i, cc, refl)

@@ -1,13 +1,11 @@
 -- Vocabulary of the private functions that mend a payload. Nobody needs to believe it: no contract of a public call cites it.
 -- Assumes nothing.
-use Rattle.std.specs.Prelude.{◌≡◌, cond, List, ℕ, ◌+◌, ◌-◌, ◌*◌, ◌/◌, ◌%◌, ◌≤◌, ◌<◌, ltb, length, take, drop}
+use Rattle.std.specs.Prelude.{◌≡◌, cond, List, ℕ, ◌+◌, ◌-◌, ◌*◌, ◌/◌, ◌%◌, ◌≤◌, ◌<◌, ltb, length, take, drop, Result, Ok, Err}
+use Rattle.refusals.specs.declared.Refusal.{Refusal}
 use Rattle.refusals.specs.declared.Refusal.TheVariants.{Repair}
 use Rattle.code.specs.Search.{remainder}
 use Rattle.code.specs.Mend.{Mended as Rows, whole, broken}
 use Rattle.errata.specs.InnerErrata.{mended_by, entries}
-use Rattle.repair.specs.declared.Counted.{Counted}
-use Rattle.repair.specs.Repair.{nothing_mended}
-use Rattle.std.specs.Prelude.{Ok}
 
 -- whole rows, the first being row i of fifteen, and what each of them leaves
 pub record Resting (b : List ℕ) (i : ℕ) (rests : List ℕ) : Type 0 where
@@ -27,5 +25,5 @@ pub record Finished (r : ℕ) (b at c : List ℕ) (n : ℕ) (t : ℕ) (out : Lis
   pub added : 15 ≤ r → (t ≡ r + n) × (out ≡ mended_by b (entries at) (entries c) n)
 
 -- the answer, by what rows end as
-unfoldable pub told_of : ℕ → Counted
-told_of r = cond (ltb r 15) (nothing_mended (Repair r)) (record { verdict = (Ok tt); count = r - 15 })
+unfoldable pub told_of : ℕ → Result ℕ Refusal
+told_of r = cond (ltb r 15) (Err (Repair r)) (Ok (r - 15))

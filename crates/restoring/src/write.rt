@@ -69,7 +69,8 @@ pub(crate) fn write_file(p: Place, store: &[u8], n: usize, out: &mut [u8])
     ensures { out.new ≡ undone 1 p.rows (restored p.rows p.slot (contents p store.now) (sent_length p.rows n)) n 0 ++ drop n out.old }
 {
     write_known(p, store, n, out);
-    if standing::survey(p, store).filled == p.count {
+    let seen = standing::survey(p, store).unwrap();
+    if seen.filled == p.count {
         return;
     }
     lost::restore_rows(p, store, n, out);

@@ -13,8 +13,8 @@ refused_one κs a r s d e p q = (equation p q, refl)
 pub verdict_of_one : OneResult (ended_of _ answers.verdict_of.Kinds.ps answers.verdict_of.Kinds.r) answers.verdict_of.Reads.Learnt
 verdict_of_one κs a r s d e p q = (equation p q, refl)
 
-pub packed_as_one : OneResult (ended_of _ answers.packed_as.Kinds.ps answers.packed_as.Kinds.r) answers.packed_as.Reads.Learnt
-packed_as_one κs a r s d e p q = (equation p q, refl)
+pub length_as_one : OneResult (ended_of _ answers.length_as.Kinds.ps answers.length_as.Kinds.r) answers.length_as.Reads.Learnt
+length_as_one κs a r s d e p q = (equation p q, refl)
 
 pub offered_as_one : OneResult (ended_of _ answers.offered_as.Kinds.ps answers.offered_as.Kinds.r) answers.offered_as.Reads.Learnt
 offered_as_one κs a r s d e p q = (equation p q, refl)
@@ -28,5 +28,3 @@ put_if_one κs a r s d e p q = (equation p.answers q.answers, after 2 (lent (equ
 pub with_value_one : OneResult (ended_of _ answers.with_value.Kinds.ps answers.with_value.Kinds.r) answers.with_value.Reads.Learnt
 with_value_one κs a r s d e p q = (equation p q, refl)
 
-pub composed_as_one : OneResult (ended_of _ answers.composed_as.Kinds.ps answers.composed_as.Kinds.r) answers.composed_as.Reads.Learnt
-composed_as_one κs a r s d e p q = (equation p q, refl)

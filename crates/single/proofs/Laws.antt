@@ -18,14 +18,17 @@ use Rattle.code.specs.Search.Repaired.{found, none}
 use Rattle.code.specs.Repair.{repair_of}
 use Rattle.code.specs.Mend.{whole, behind, mend_rows}
 use Rattle.code.proofs.Exact.{repair-near}
-use Rattle.repair.specs.declared.Counted.{Counted}
 use Rattle.repair.specs.Repair.{Mending, mending_as, mending_of, Mends}
-use Rattle.single.specs.declared.Mended.{Mended}
+use Rattle.single.specs.declared.Corrected.{Corrected}
 use Rattle.single.specs.Single.{mended_as, mend_of, repair_row_of, RepairCounts}
-use Rattle.std.specs.Prelude.{Ok, Err}
+use Rattle.std.specs.Prelude.{◌+◌, Result, Ok, Err}
 
-pub mend_one : (row : List ℕ) (r : Counted) (out : List ℕ) → length row ≡ 255 → Mends (mending_of row) r out
-    → ◌≡◌ {A = Mended} (record { verdict = r.verdict; row = out; count = r.count }) (mend_of row)
+-- a count, with the row beside it
+abbrev pub with_row : List ℕ → Result ℕ Refusal → Result Corrected Refusal
+with_row out (Ok k) = Ok (record { row = out; count = k })
+with_row out (Err e) = Err e
+
+pub mend_one : (row : List ℕ) (r : Result ℕ Refusal) (out : List ℕ) → length row ≡ 255 → Mends (mending_of row) r out → with_row out r ≡ mend_of row
 unfolding mending_of mend_of mend_rows
 mend_one row r out n p =
     let m : Mends (alone (repair_of row)) r out =
@@ -44,38 +47,36 @@ mend_one row r out n p =
     alone : Repaired → Mending
     alone a = mending_as row (behind row a 0 (whole [] 0))
 
-    by : (a : Repaired) → r ≡ (alone a).answer → out ≡ (alone a).bytes → ◌≡◌ {A = Mended} (record { verdict = r.verdict; row = out; count = r.count }) (mended_as row a)
+    by : (a : Repaired) → r ≡ (alone a).answer → out ≡ (alone a).bytes → with_row out r ≡ mended_as row a
     by (found s) v o =
         let l : out ≡ s = o ∙ append-nil s in
-        let n : r.count ≡ distance row s = ap (λ (x : Counted). x.count) v ∙ add-zero (distance row s) in
-        λ i. record { verdict = (v i).verdict; row = l i; count = n i }
-    by none v o = λ i. record { verdict = (v i).verdict; row = o i; count = (v i).count }
+        let n : distance row s + 0 ≡ distance row s = add-zero (distance row s) in
+        ap (with_row out) v ∙ (λ i. Ok (record { row = l i; count = n i }))
+    by none v o = ap (with_row out) v
 
 -- ---- what is counted
 
 -- what is answered, by the length and the repair
-abbrev answer : List ℕ → Bool → Repaired → Mended
-answer row t a = cond t (mended_as row a) (record { verdict = Err Short; row = replicate 255 0; count = 0 })
+abbrev answer : List ℕ → Bool → Repaired → Result Corrected Refusal
+answer row t a = cond t (mended_as row a) (Err Short)
 
 pub repair_counts : RepairCounts
 unfolding repair_row_of mend_of
 repair_counts row = record {
   few = few (eqb (length row) 255) (repair_of row) refl;
   told = told (eqb (length row) 255) (repair_of row);
-  none_told = none_told (eqb (length row) 255) (repair_of row);
 }
   where
-    few : (t : Bool) (a : Repaired) → repair_of row ≡ a → (answer row t a).count ≤ 8
-    few true (found s) e = (repair-near row s e).close
-    few true none e = omega arith
-    few false a e = omega arith
+    few : (t : Bool) (a : Repaired) → repair_of row ≡ a → (m : Corrected) → answer row t a ≡ Ok m → m.count ≤ 8
+    few true (found s) e m v =
+        let is : m ≡ record { row = s; count = distance row s } = cc in
+        rw is (repair-near row s e).close
+    few true none e m v = let z : ◌≡◌ {A = ℕ} 0 1 = cc in absurd (omega arith)
+    few false a e m v = let z : ◌≡◌ {A = ℕ} 0 1 = cc in absurd (omega arith)
 
-    told : (t : Bool) (a : Repaired) → (answer row t a).verdict ≡ (Ok tt) → (answer row t a).count ≡ distance row (answer row t a).row
-    told true (found s) v = refl
-    told true none v = let z : ◌≡◌ {A = ℕ} 0 1 = cc in absurd (omega arith)
-    told false a v = let z : ◌≡◌ {A = ℕ} 0 1 = cc in absurd (omega arith)
-
-    none_told : (t : Bool) (a : Repaired) (r : Refusal) → (answer row t a).verdict ≡ Err r → (answer row t a).count ≡ 0
-    none_told true (found s) r v = let z : ◌≡◌ {A = ℕ} 0 1 = cc in absurd (omega arith)
-    none_told true none r v = refl
-    none_told false a r v = refl
+    told : (t : Bool) (a : Repaired) (m : Corrected) → answer row t a ≡ Ok m → m.count ≡ distance row m.row
+    told true (found s) m v =
+        let is : m ≡ record { row = s; count = distance row s } = cc in
+        rw is refl
+    told true none m v = let z : ◌≡◌ {A = ℕ} 0 1 = cc in absurd (omega arith)
+    told false a m v = let z : ◌≡◌ {A = ℕ} 0 1 = cc in absurd (omega arith)

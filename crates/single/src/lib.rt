@@ -7,41 +7,33 @@ ghost use Rattle.single.specs.Single.{mend_of, repair_row_of};
 
 use refusals::Refusal;
 
-// The corrected row, and the number of bytes at which it differs from the row that came, 0 to 8; beside a refusal the row as it came, or zeros where no row
-// came, and 0.
+// The corrected row, and the number of bytes at which it differs from the row that came, 0 to 8.
 #[derive(Clone, Copy)]
-pub struct Mended {
-    pub verdict: Result<(), Refusal>,
+pub struct Corrected {
     pub row: [u8; 255],
     pub count: u32,
 }
 
 // The coded row that differs from this row in at most eight bytes; refused where there is none.
-pub fn repair(row: [u8; 255]) -> Mended
+pub fn repair(row: [u8; 255]) -> Result<Corrected, Refusal>
     ensures { result ≡ mend_of row }
 {
     let mut fixed = row;
-    let counted = repair::mend(&mut fixed);
-    let verdict = counted.verdict;
-    Mended {
-        verdict,
+    let count = repair::mend(&mut fixed)?;
+    Ok(Corrected {
         row: fixed,
-        count: counted.count,
-    }
+        count,
+    })
 }
 
 // The same, of a row that lies in a slice; another length than 255 is refused.
-pub fn repair_row(row: &[u8]) -> Mended
+pub fn repair_row(row: &[u8]) -> Result<Corrected, Refusal>
     ensures { result ≡ repair_row_of row.now }
 {
-    let mut held = [0u8; 255];
     if row.len() != 255 {
-        return Mended {
-            verdict: Err(Refusal::Short),
-            row: held,
-            count: 0,
-        };
+        return Err(Refusal::Short);
     }
+    let mut held = [0u8; 255];
     slices::copy_in(&mut held, 0, row);
     repair(held)
 }

@@ -13,32 +13,30 @@ use Rattle.contents.specs.Contents.{Slot as Content, contents, any_wrong, filled
 use Rattle.contents.proofs.Filled.{filled-all}
 use Rattle.standing.specs.declared.Seen.{Seen}
 use Rattle.standing.specs.declared.Standing.{Standing}
-use Rattle.standing.specs.declared.Standing.TheVariants.{Filled, Refused}
 use Rattle.standing.specs.Status.{standing_in, status_found, status_of}
 use Rattle.standing.proofs.SurveyLaws.{Tallied}
-use Rattle.std.specs.Prelude.{Option}
-use Rattle.std.specs.Prelude.{Some, None}
+use Rattle.std.specs.Prelude.{Option, Some, None, Result, Ok, Err}
 
 -- ---- by the contents of the slots
 
 module _ (c : List Content) where
-  pub standing_wrong : any_wrong c ≡ true → Refused Slot ≡ standing_in c
+  pub standing_wrong : any_wrong c ≡ true → Err Slot ≡ standing_in c
   unfolding standing_in
   standing_wrong w = rw w
 
-  pub standing_sound : (p : Place) (t : Seen) → Tallied p c t → (e : Option ℕ) → lowest_empty c 0 ≡ e → Filled t.filled e ≡ standing_in c
+  pub standing_sound : (p : Place) (t : Seen) → Tallied p c t → (e : Option ℕ) → lowest_empty c 0 ≡ e → Ok (record { filled = t.filled; lowest = e }) ≡ standing_in c
   unfolding standing_in
   standing_sound p t a e l = rw (a.right, sym a.filled, l)
 
   -- every slot is filled
-  pub standing_full : filled c ≡ length c → standing_in c ≡ Filled (length c) None
+  pub standing_full : filled c ≡ length c → standing_in c ≡ Ok (record { filled = length c; lowest = None })
   unfolding standing_in
   standing_full e = let f = filled-all c 0 e in rw (f.0, e, f.1)
 
 -- ---- by the record
 
 module _ (h : Record) (s : List ℕ) (x : Name) where
-  pub status_record : good (length s) h.places ≡ false → Refused Refusal.Record ≡ status_of h s x
+  pub status_record : good (length s) h.places ≡ false → Err Refusal.Record ≡ status_of h s x
   unfolding status_of
   status_record b = rw b
 
@@ -47,7 +45,7 @@ module _ (h : Record) (s : List ℕ) (x : Name) where
     unfolding status_of
     status_good = rw b
 
-    pub status_unknown : place_named h.places x ≡ None → Refused Unknown ≡ status_of h s x
+    pub status_unknown : place_named h.places x ≡ None → Err Unknown ≡ status_of h s x
     status_unknown a = ap (status_found h s) (sym a) ∙ status_good
 
     pub status_found_lem : (i : ℕ) → place_named h.places x ≡ Some i → standing_in (contents (get_or h.places i unused) s) ≡ status_of h s x
@@ -60,7 +58,7 @@ module _ (h : Record) (s t : List ℕ) (x : Name) (l : length s ≡ length t)
   pub status_same : status_of h s x ≡ status_of h t x
   unfolding status_of
   status_same =
-      ap₂ (λ (n : ℕ) (x : Standing). cond (good n h.places) x (Refused Refusal.Record)) l (by (place_named h.places x) same)
+      ap₂ (λ (n : ℕ) (x : Result Standing Refusal). cond (good n h.places) x (Err Refusal.Record)) l (by (place_named h.places x) same)
     where
       by : (e : Option ℕ) → ((i : ℕ) → e ≡ Some i → contents (get_or h.places i unused) s ≡ contents (get_or h.places i unused) t) → status_found h s e ≡ status_found h t e
       by (Some i) f = ap standing_in (f i refl)

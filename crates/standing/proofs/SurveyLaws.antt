@@ -1,7 +1,7 @@
 -- The pass over the lengths of a place's slots: what it says of their contents, and what the slots that are left add to what was seen.
 -- Assumes nothing.
-use mathlib.Core.Path.{◌≡◌, refl, sym, ap, ◌∙◌}
-use mathlib.Core.Bool.{Bool, true, false, cond, true≢false}
+use mathlib.Core.Path.{◌≡◌, refl, sym, ap, subst, ◌∙◌}
+use mathlib.Core.Bool.{Bool, true, false, cond}
 use mathlib.Core.List.{List, [], ◌∷◌}
 use mathlib.Core.Logic.{◌⊎◌, inl, inr}
 use Prim.Native.Nat.{ℕ, suc, ◌+◌, ◌<◌, ◌≤◌}
@@ -18,10 +18,9 @@ use Rattle.contents.proofs.Slots.{slot-holds, slot-wrong, fits-room}
 use Rattle.contents.proofs.Filled.{lowest-found}
 use Rattle.contents.proofs.Places.{length-contents}
 use Rattle.standing.specs.declared.Seen.{Seen}
-use Rattle.standing.specs.Survey.{nothing_seen, before, seen_in, seen_of}
+use Rattle.standing.specs.Survey.{before, seen_in, seen_of}
 use Rattle.standing.proofs.StandLaws.{Stands, stands_first, stands_next}
-use Rattle.std.specs.Prelude.{Option}
-use Rattle.std.specs.Prelude.{Some, None}
+use Rattle.std.specs.Prelude.{Option, Some, None}
 
 -- ---- what is seen
 
@@ -30,17 +29,17 @@ module _ (p : Place) (s : List ℕ) where
   unfolding seen_of
   seen_inside h = rw (le-leb (end_of p) (length s) h)
 
-  pub seen_outside : length s < end_of p → nothing_seen ≡ seen_of p s
+  pub seen_outside : length s < end_of p → None ≡ seen_of p s
   unfolding seen_of
   seen_outside h = rw (lt-leb (end_of p) (length s) h)
 
 module _ (c : List Content) where
-  seen_wrong : any_wrong c ≡ true → nothing_seen ≡ seen_in c
+  seen_wrong : any_wrong c ≡ true → None ≡ seen_in c
   unfolding seen_in
   seen_wrong w = rw w
 
   seen_sound : (f e b : ℕ) → any_wrong c ≡ false → f ≡ filled c → e ≡ before (lowest_empty c 0) (length c) → b ≡ length (joined c)
-      → record { sound = true; filled = f; empty = e; bytes = b } ≡ seen_in c
+      → Some (record { filled = f; empty = e; bytes = b }) ≡ seen_in c
   unfolding seen_in
   seen_sound f e b w x y z = rw (w, x, y, z)
 
@@ -53,39 +52,36 @@ pub record Tallied (p : Place) (c : List Content) (t : Seen) : Type 0 where
   pub bytes : t.bytes ≡ length (joined c)
 
 -- what was seen of any slots
-pub record Sees (p : Place) (c : List Content) (t : Seen) : Type 0 where
-  pub wrong : t.sound ≡ false → any_wrong c ≡ true
-  pub sound : t.sound ≡ true → Tallied p c t
+abbrev Sees : Place → List Content → Option Seen → Type 0
+Sees p c None = any_wrong c ≡ true
+Sees p c (Some t) = Tallied p c t
 
-module _ (p : Place) (s : List ℕ) (h : end_of p ≤ length s) (t : Seen) where
-  pub sees : t ≡ seen_of p s → Sees p (contents p s) t
+module _ (p : Place) (s : List ℕ) (h : end_of p ≤ length s) where
+  sees : (o : Option Seen) → o ≡ seen_of p s → Sees p (contents p s) o
   unfolding seen_in
-  sees e = by (any_wrong c) (lowest_empty c 0) refl refl (e ∙ sym (seen_inside p s h))
+  sees o e = subst (Sees p (contents p s)) (sym (e ∙ sym (seen_inside p s h))) (by (any_wrong c) (lowest_empty c 0) refl refl)
     where
       c : List Content
       c = contents p s
 
       by : (b : Bool) (o : Option ℕ) → any_wrong c ≡ b → lowest_empty c 0 ≡ o
-          → t ≡ cond b nothing_seen (record { sound = true; filled = filled c; empty = before o (length c); bytes = length (joined c) }) → Sees p c t
-      by true o w l e = record { wrong = λ x. w; sound = λ x. absurd (true≢false (sym x ∙ ap (λ (y : Seen). y.sound) e)) }
-      by false o w l e = record {
-        wrong = λ x. absurd (true≢false (sym (ap (λ (y : Seen). y.sound) e) ∙ x));
-        sound = λ x. record {
-          right = w;
-          filled = ap (λ (y : Seen). y.filled) e;
-          none = λ x. none o l (sym (ap (λ (y : Seen). y.empty) e) ∙ x);
-          some = λ x. l ∙ some o l x (ap (λ (y : Seen). y.empty) e);
-          bytes = ap (λ (y : Seen). y.bytes) e;
-        };
-      }
+          → Sees p c (cond b None (Some (record { filled = filled c; empty = before o (length c); bytes = length (joined c) })))
+      by true o w l = w
+      by false o w l = record { right = w; filled = refl; none = λ x. none o l x; some = λ x. l ∙ some o l x; bytes = refl }
         where
           none : (o : Option ℕ) → lowest_empty c 0 ≡ o → before o (length c) ≡ p.count → lowest_empty c 0 ≡ None
           none (Some i) l x = absurd (omega (arith, x, (lowest-found c i l).below, length-contents p s))
           none None l x = l
 
-          some : (o : Option ℕ) → lowest_empty c 0 ≡ o → (t.empty ≡ p.count → ⊥) → t.empty ≡ before o (length c) → o ≡ Some t.empty
-          some (Some i) l x e = ap Some (sym e)
-          some None l x e = absurd (x (e ∙ length-contents p s))
+          some : (o : Option ℕ) → lowest_empty c 0 ≡ o → (before o (length c) ≡ p.count → ⊥) → o ≡ Some (before o (length c))
+          some (Some i) l x = refl
+          some None l x = absurd (x (length-contents p s))
+
+  pub seen_right : (o : Option Seen) (t : Seen) → o ≡ seen_of p s → o ≡ Some t → Tallied p (contents p s) t
+  seen_right o t e i = subst (Sees p (contents p s)) i (sees o e)
+
+  pub seen_not : (o : Option Seen) → o ≡ seen_of p s → o ≡ None → any_wrong (contents p s) ≡ true
+  seen_not o e i = subst (Sees p (contents p s)) i (sees o e)
 
 -- ---- k slots of c were seen, f of them filled, e before the lowest empty one, with b bytes; d are those that are left
 
@@ -164,10 +160,10 @@ module _ (p : Place) (s : List ℕ) (at f e b k : ℕ) (v : Surveying p s at f e
   pub surveying_few : f ≤ k
   surveying_few = tally_few _ _ _ _ _ _ v.tally
 
-  pub surveying_end : end_of p ≤ length s → p.count ≤ k → record { sound = true; filled = f; empty = e; bytes = b } ≡ seen_of p s
+  pub surveying_end : end_of p ≤ length s → p.count ≤ k → Some (record { filled = f; empty = e; bytes = b }) ≡ seen_of p s
   surveying_end i h = by (rw (walk_end p s k h) at v.tally) ∙ seen_inside p s i
     where
-      by : Tally (contents p s) [] f e b k → record { sound = true; filled = f; empty = e; bytes = b } ≡ seen_in (contents p s)
+      by : Tally (contents p s) [] f e b k → Some (record { filled = f; empty = e; bytes = b }) ≡ seen_in (contents p s)
       by t = seen_sound (contents p s) f e b (sym t.right) (omega (arith, t.count)) (lowest t.lowest) (omega (arith, t.total))
         where
           all : k ≡ length (contents p s)
@@ -181,7 +177,7 @@ module _ (p : Place) (s : List ℕ) (at f e b k : ℕ) (v : Surveying p s at f e
     length-here : length_at s (slot_at p k) ≡ n
     length-here = ap (length_at s) (sym v.stands.place) ∙ sym l
 
-    pub surveying_wrong : end_of p ≤ length s → length_fits p n ≡ false → nothing_seen ≡ seen_of p s
+    pub surveying_wrong : end_of p ≤ length s → length_fits p n ≡ false → None ≡ seen_of p s
     surveying_wrong i w =
         seen_wrong (contents p s)
         (sym v.tally.right

@@ -5,17 +5,16 @@
 ghost use Rattle.std.specs.Prelude.{◌≡◌, ◌≤◌, length};
 ghost use Rattle.places.specs.Places.{end_of};
 ghost use Rattle.contents.specs.Contents.{contents};
-ghost use Rattle.standing.specs.Survey.{nothing_seen, seen_of};
+ghost use Rattle.standing.specs.Survey.{seen_of};
 ghost use Rattle.standing.specs.Status.{standing_in, status_of};
 
 use places::{Place, Record};
 use refusals::Refusal;
 
-// What a pass saw: whether the place lies in the store and every length is right, and then how many slots are filled, how many stand before the lowest empty
-// one, which is all of them where none is empty, and how many bytes the payloads have; else 0 for each.
+// What a pass saw: how many slots are filled, how many stand before the lowest empty one, which is all of them where none is empty, and how many bytes the
+// payloads have.
 #[derive(Clone, Copy)]
 pub struct Seen {
-    pub sound: bool,
     pub filled: u32,
     pub empty: u32,
     pub bytes: usize,
@@ -23,32 +22,21 @@ pub struct Seen {
 
 // How a resource stands: the number of filled slots, and the lowest empty one.
 #[derive(Clone, Copy)]
-pub enum Standing {
-    Filled(u32, Option<usize>),
-    Refused(Refusal),
+pub struct Standing {
+    pub filled: u32,
+    pub lowest: Option<usize>,
 }
 
-// What is answered for a place that passes the end of the store, or has a slot whose length is wrong.
-fn nothing_seen() -> Seen
-    ensures { result ≡ nothing_seen }
-{
-    Seen {
-        sound: false,
-        filled: 0,
-        empty: 0,
-        bytes: 0,
-    }
-}
-
-// What the slots of a place hold, by their lengths. Whether the place lies in the store is asked once, before the first of them.
-pub fn survey(p: Place, store: &[u8]) -> Seen
+// What the slots of a place hold, by their lengths; nothing for a place that passes the end of the store, or has a slot whose length is wrong. Whether the place
+// lies in the store is asked once, before the first slot.
+pub fn survey(p: Place, store: &[u8]) -> Option<Seen>
     ensures { result ≡ seen_of p store.now }
 {
     let width = p.slot as usize + 2;
     let mut at = p.start as usize;
     let end = at + places::cover_of(p.count, p.slot);
     if store.len() < end {
-        return nothing_seen();
+        return None;
     }
     let mut filled: u32 = 0;
     let mut empty: u32 = 0;
@@ -57,7 +45,7 @@ pub fn survey(p: Place, store: &[u8]) -> Seen
     while at < end {
         let n = contents::slot_length(store, at);
         if !contents::length_fits(p, n) {
-            return nothing_seen();
+            return None;
         }
         if n != 0 {
             filled += 1;
@@ -69,38 +57,37 @@ pub fn survey(p: Place, store: &[u8]) -> Seen
         bytes += n;
         at += width;
     }
-    Seen {
-        sound: true,
+    Some(Seen {
         filled,
         empty,
         bytes,
-    }
+    })
 }
 
 // How a place stands.
-fn stands(p: Place, store: &[u8]) -> Standing
+fn stands(p: Place, store: &[u8]) -> Result<Standing, Refusal>
     requires { end_of p ≤ length store.now }
     ensures { result ≡ standing_in (contents p store.now) }
 {
-    let seen = survey(p, store);
-    if !seen.sound {
-        return Standing::Refused(Refusal::Slot);
-    }
-    if seen.empty == p.count {
-        return Standing::Filled(seen.filled, None);
-    }
-    Standing::Filled(seen.filled, Some(seen.empty as usize))
+    let seen = survey(p, store).ok_or(Refusal::Slot)?;
+    let lowest = if seen.empty == p.count {
+        None
+    } else {
+        Some(seen.empty as usize)
+    };
+    Ok(Standing {
+        filled: seen.filled,
+        lowest,
+    })
 }
 
 // How many slots of the place of a resource and type are filled, and the lowest empty one. Refused: 9, 10, 15.
-pub fn status(held: Record, store: &[u8], resource: u16, kind: u8) -> Standing
+pub fn status(held: Record, store: &[u8], resource: u16, kind: u8) -> Result<Standing, Refusal>
     ensures { result ≡ status_of held store.now (record { resource = resource; kind = kind }) }
 {
     if !room::is_good(held, store.len()) {
-        return Standing::Refused(Refusal::Record);
+        return Err(Refusal::Record);
     }
-    let Some(i) = places::find_place(held, resource, kind) else {
-        return Standing::Refused(Refusal::Unknown);
-    };
+    let i = places::find_place(held, resource, kind).ok_or(Refusal::Unknown)?;
     stands(held.places[i], store)
 }

@@ -18,30 +18,30 @@ pub fn put_in(
     payload: &[u8],
     mended: u32,
     agrees: bool,
-) -> Offered
+) -> Result<Offered, Refusal>
     ensures { (result ≡ (put_of p store.old number payload.now mended agrees).answer)
         × (store.new ≡ (put_of p store.old number payload.now mended agrees).store) }
 {
     let at = p.start as usize + number as usize * (p.slot as usize + 2);
     if !slot_has(p, store.len(), at, payload.len()) {
-        return Offered::Refused(Refusal::Record);
+        return Err(Refusal::Record);
     }
     if !agrees {
-        return Offered::Refused(Refusal::Crc);
+        return Err(Refusal::Crc);
     }
     let n = contents::slot_length(store, at);
     if !contents::length_fits(p, n) {
-        return Offered::Refused(Refusal::Slot);
+        return Err(Refusal::Slot);
     }
     if n == 0 {
         let _ = contents::put_slot(store, at, payload);
-        return Offered::Stored(mended);
+        return Ok(Offered::Stored(mended));
     }
     let from = at + 2;
     if slices::same(&store[from..from + n], payload) {
-        return Offered::Repeat(mended);
+        return Ok(Offered::Repeat(mended));
     }
-    Offered::Refused(Refusal::Conflict)
+    Err(Refusal::Conflict)
 }
 
 // Whether the slot that starts at `at` lies in a store of `size` bytes, and has room for `n`.

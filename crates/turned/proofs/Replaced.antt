@@ -24,7 +24,6 @@ use Rattle.contents.specs.Slots.{stored}
 use Rattle.contents.proofs.Slots.{slot-within, slot-stored, fits_made}
 use Rattle.contents.proofs.Places.{reading_slots}
 use Rattle.record.specs.declared.Offered.{Offered}
-use Rattle.record.specs.declared.Offered.TheVariants.{Refused}
 use Rattle.record.specs.Offer.{packet_name, read_for, Offering, put, judge, put_into, storing, offer_judged, offer_of}
 use Rattle.record.specs.Told.{offered_told}
 use Rattle.record.proofs.OfferCases.{offer-placed}
@@ -40,6 +39,8 @@ use Rattle.promises.proofs.Example.{one, byte, protected}
 use Rattle.turned.proofs.Turned.{packet, opened, begun}
 use Rattle.std.specs.Prelude.{Ok}
 use Rattle.std.specs.Prelude.{Some}
+use Rattle.refusals.specs.declared.Refusal.{Refusal}
+use Rattle.std.specs.Prelude.{Err, Result}
 
 -- ---- two files of one byte
 
@@ -59,7 +60,7 @@ payloads_differ e =
     omega arith
 
 -- a slot that holds another payload
-conflict : (a b : List ℕ) (m : ℕ) → 0 < length a → (a ≡ b → ⊥) → put_into (holding a) b m ≡ Refused Conflict
+conflict : (a b : List ℕ) (m : ℕ) → 0 < length a → (a ≡ b → ⊥) → put_into (holding a) b m ≡ Err Conflict
 conflict [] b m l d = absurd (omega arith)
 conflict (y ∷ a) b m l d = rw (same_differs (y ∷ a) b d)
 
@@ -93,7 +94,7 @@ later-judged : judge (place_at full 0) (fields_of one other 0) later ≡ put 0 (
 later-judged =
     ap (λ (p : Place). judge p (fields_of one other 0) later) there.place ∙ copy-judged one other protected-other 0 (omega arith) later later-copy 0
 
-said_conflict : (offer_of full.held full.store later).answer ≡ Refused Conflict
+said_conflict : (offer_of full.held full.store later).answer ≡ Err Conflict
 said_conflict =
     ap (λ (o : Offering). o.answer) (offer-placed full.held full.store later there.sound (fields_of one other 0) later_reads 0 there.named
     ∙ ap (offer_judged (place_at full 0) full.store) later-judged
@@ -104,7 +105,7 @@ said_conflict =
 
 number_16 : (step (offering later) full).answer.told.number ≡ 16
 unfolding step
-number_16 = ap (λ (a : Offered). (offered_told a).number) said_conflict
+number_16 = ap (λ (a : Result Offered Refusal). (offered_told a).number) said_conflict
 
 abbrev replaced : List ℕ
 replaced = stored full.store (slot_at own 0) (payload_of one other 0)

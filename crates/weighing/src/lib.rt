@@ -19,10 +19,7 @@ pub fn weigh(p: Place, store: &[u8], n: usize) -> Result<(), Refusal>
     if !lengths::is_tabled(p, store.len()) {
         return Err(Refusal::Record);
     }
-    let seen = standing::survey(p, store);
-    if !seen.sound {
-        return Err(Refusal::Slot);
-    }
+    standing::survey(p, store).ok_or(Refusal::Slot)?;
     if !lengths::length_serves(p, n) {
         return Err(Refusal::Size);
     }

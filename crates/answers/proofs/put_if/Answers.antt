@@ -3,15 +3,6 @@ use Rattle.face.proofs.SayLaws.{puts_accepted, puts-refused}
 use native.Mathlib.Omega.{arith}
 use Rattle.answers.proofs.put_if.Goals as goal
 
-pub enum_told-1 : goal.enum_told-1
-enum_told-1 c = omega arith
-
-pub enum_known-verdict : goal.enum_known-verdict
-enum_known-verdict c = omega arith
-
-pub shape_of-out : goal.shape_of-out
-shape_of-out c = omega arith
-
 pub returns-in-Ok : goal.returns-in-Ok
 returns-in-Ok c = puts_accepted _ _ _ _ _ c.in-Ok.is c.put.ensures
 

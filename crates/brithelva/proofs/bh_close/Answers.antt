@@ -1,7 +1,8 @@
 -- Bytes that are no record are refused; else the record in them is closed and put back.
 use mathlib.Core.Path.{refl}
 use native.Mathlib.Omega.{arith}
-use Rattle.face.proofs.HoldLaws.{close_bad, close_says_lem}
+use Rattle.face.proofs.HoldLaws.{close_bad}
+use Rattle.face.proofs.PutBack.{close_put_back}
 use Rattle.brithelva.proofs.bh_close.Goals as goal
 
 pub returns-then-held-ne-RECORD : goal.returns-then-held-ne-RECORD
@@ -10,10 +11,5 @@ returns-then-held-ne-RECORD c = close_bad _ _ _ _ c.if-held-ne-RECORD.true refl
 pub put_kept-requires : goal.put_kept-requires
 put_kept-requires c = c.if-held-ne-RECORD.false
 
-pub shape_of-held : goal.shape_of-held
-shape_of-held c = omega arith
-
 pub returns : goal.returns
-returns c =
-    close_says_lem _ _ _ _ _ _ _ c.if-held-ne-RECORD.false c.record_in.ensures c.close-kept.ensures
-    c.put_kept.ensures.1 c.put_kept.ensures.0
+returns c = close_put_back _ _ c.if-held-ne-RECORD.false _ c.record_in.ensures _ (λ i. (c.type_inv.held i).fits) _ _ _ c.close-kept.ensures c.put_kept.ensures

@@ -1,7 +1,8 @@
 -- The same under the house setting.
 use mathlib.Core.Path.{refl}
 use native.Mathlib.Omega.{arith}
-use Rattle.face.proofs.HoldLaws.{open_bad, open_says_lem}
+use Rattle.face.proofs.HoldLaws.{open_bad}
+use Rattle.face.proofs.PutBack.{open_put_back}
 use Rattle.brithelva.proofs.bh_open_house.Goals as goal
 
 pub returns-then-held-ne-RECORD : goal.returns-then-held-ne-RECORD
@@ -10,13 +11,5 @@ returns-then-held-ne-RECORD c = open_bad _ _ _ _ _ c.if-held-ne-RECORD.true refl
 pub put_kept-requires : goal.put_kept-requires
 put_kept-requires c = c.if-held-ne-RECORD.false
 
-pub shape_of-held : goal.shape_of-held
-shape_of-held c = omega arith
-
-pub shape_of-store : goal.shape_of-store
-shape_of-store c = omega arith
-
 pub returns : goal.returns
-returns c =
-    open_says_lem _ _ _ _ _ _ _ _ _ c.if-held-ne-RECORD.false c.record_in-before.ensures c.open_house-kept.ensures
-    c.put_kept.ensures.1 c.put_kept.ensures.0
+returns c = open_put_back _ _ c.if-held-ne-RECORD.false _ c.record_in-before.ensures _ (λ i. (c.type_inv.held i).fits) _ _ _ _ _ c.open_house-kept.ensures c.put_kept.ensures

@@ -9,4 +9,4 @@ pub shape_of-out : goal.shape_of-out
 shape_of-out c = omega arith
 
 pub returns : goal.returns
-returns c = pack_says_lem _ _ _ _ _ _ c.pack_house-packed.ensures _ (c.packed_as.ensures ∙ sym (fits_word (packed_fits _ _ _ _ _ _ c.pack_house-packed.ensures)))
+returns c = pack_says_lem _ _ _ _ _ _ c.pack_house-packed.ensures _ (c.length_as.ensures ∙ sym (fits_word (packed_fits _ _ _ _ _ _ c.pack_house-packed.ensures)))

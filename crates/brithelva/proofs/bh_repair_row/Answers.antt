@@ -1,11 +1,10 @@
--- The verdict, the row and the count are those of the repair.
-use native.Mathlib.Omega.{arith}
-use Rattle.face.proofs.SayLaws.{repair_says_lem}
+-- The row that was repaired is put, and its count is the value; a refusal is answered.
+use mathlib.Core.Path.{sym, ◌∙◌}
+use Rattle.face.proofs.SayLaws.{repair_put, repair_refused}
 use Rattle.brithelva.proofs.bh_repair_row.Goals as goal
 
-pub shape_of-fixed : goal.shape_of-fixed
-shape_of-fixed c = omega arith
+pub returns-in-Ok : goal.returns-in-Ok
+returns-in-Ok c = repair_put _ _ _ _ _ _ (sym c.repair_row.ensures ∙ c.in-Ok.is) c.put.ensures c.with_value.ensures
 
-pub returns : goal.returns
-returns c =
-    repair_says_lem _ _ c.put_if-answer.result _ _ _ c.repair_row-mended.ensures c.put_if-answer.ensures c.with_value.ensures
+pub returns-in-Err : goal.returns-in-Err
+returns-in-Err c = repair_refused _ _ _ _ (sym c.repair_row.ensures ∙ c.in-Err.is) c.refused.ensures

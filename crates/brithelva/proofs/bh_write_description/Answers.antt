@@ -12,4 +12,4 @@ shape_of-out c = omega arith
 
 pub returns : goal.returns
 returns c =
-    compose_says_lem _ _ _ _ _ _ _ c.if-values-ne30.false c.description_of-d.ensures c.write-composed.ensures.0 c.write-composed.ensures.1 c.composed_as.ensures
+    compose_says_lem _ _ _ _ _ _ _ c.if-values-ne30.false c.description_of-d.ensures c.write-composed.ensures.0 c.write-composed.ensures.1 c.length_as.ensures

@@ -12,7 +12,7 @@ use Rattle.places.proofs.Steps.{mapped_length}
 use Rattle.places.proofs.Keeping.{good-at}
 use Rattle.places.proofs.Holders.{found-names}
 use Rattle.record.specs.Offer.{name_in}
-use Rattle.record.proofs.OfferCases.{told, come, refusal_read, offer_bad}
+use Rattle.record.proofs.OfferCases.{told, come, offer_bad}
 use Rattle.record.proofs.OfferReads.{offer-short, offer-nowhere, offer_unread_at, named-at, offer-read-at}
 use Rattle.offering.proofs.offer.Goals as goal
 use Rattle.std.specs.Prelude.{Ok}
@@ -21,28 +21,10 @@ use Rattle.std.specs.Prelude.{Some}
 pub returns-then-not-is_good : goal.returns-then-not-is_good
 returns-then-not-is_good c = told (offer_bad _ _ _ (sym c.is_good.ensures ∙ c.if-not-is_good.true))
 
-pub overflow_add-t-14 : goal.overflow_add-t-14
-overflow_add-t-14 c = omega arith
-
-pub overflow_add-t-15 : goal.overflow_add-t-15
-overflow_add-t-15 c = omega arith
-
 pub returns-then-packet : goal.returns-then-packet
 returns-then-packet c =
     let well : good (length c.args.store.now) c.args.held.places ≡ true = sym c.is_good.ensures ∙ c.if-not-is_good.false in
     told (offer-short _ _ _ well (omega arith))
-
-pub resource_in-requires : goal.resource_in-requires
-resource_in-requires c = omega arith
-
-pub kind_in-requires : goal.kind_in-requires
-kind_in-requires c = omega arith
-
-pub enum_known-i : goal.enum_known-i
-enum_known-i c = omega arith
-
-pub enum_told-1 : goal.enum_told-1
-enum_told-1 c = omega arith
 
 pub returns-in_default : goal.returns-in_default
 returns-in_default c =
@@ -70,12 +52,6 @@ bounds-held-i c =
     let below : c.in-Some.i < 8 = omega (arith, (found-names _ _ _ named).0, eight) in
     below
 
-pub enum_known-reading : goal.enum_known-reading
-enum_known-reading c = omega arith
-
-pub enum_told-in_default-reading : goal.enum_told-in_default-reading
-enum_told-in_default-reading c = omega arith
-
 pub returns-in_default-reading : goal.returns-in_default-reading
 returns-in_default-reading c =
     let well : good (length c.args.store.now) c.args.held.places ≡ true = sym c.is_good.ensures ∙ c.if-not-is_good.false in
@@ -83,7 +59,7 @@ returns-in_default-reading c =
     let found : place_named c.args.held.places (name_in c.args.packet.now) ≡ c.find_place.result = sym (c.find_place.ensures ∙ ap (place_named c.args.held.places) name) in
     let named : place_named c.args.held.places (name_in c.args.packet.now) ≡ Some c.in-Some.i = found ∙ c.in-Some.is in
     let s = c.args in
-    told (offer_unread_at s.held s.store.now s.packet.now well _ named _ (sym c.read_at-reading.ensures ∙ refusal_read _ _ _ c.in_default-reading.is c.refusal_in.ensures))
+    told (offer_unread_at s.held s.store.now s.packet.now well _ named _ (sym c.read_at-reading.ensures ∙ c.unwrap_err.ensures))
 
 pub offer_at-requires : goal.offer_at-requires
 offer_at-requires c =
@@ -99,9 +75,6 @@ offer_at-requires c =
     let n = found-names _ _ _ w in
     let p = get_or s.held.places c.in-Some.i unused in
     (r, good-at _ _ _ g n.0, ap (names p) (named-at s.held s.store.now s.packet.now g _ w _ r) ∙ n.1)
-
-pub shape_of-store : goal.shape_of-store
-shape_of-store c = omega arith
 
 pub returns : goal.returns
 returns c =

@@ -25,9 +25,6 @@ returns-then-not-count_fits c =
     sym (ap planned (plan_count _ _ _ _ sound fit
     (sym c.count_fits.ensures ∙ c.if-not-count_fits.true)))
 
-pub enum_told-1 : goal.enum_told-1
-enum_told-1 c = omega arith
-
 pub returns-in-Some : goal.returns-in-Some
 returns-in-Some c =
     let sound : good c.args.n c.args.held.places ≡ true = sym c.is_good.ensures ∙ c.if-not-is_good.false in
@@ -35,9 +32,6 @@ returns-in-Some c =
     let counted : count_fits c.args.count ≡ true = sym c.count_fits.ensures ∙ c.if-not-count_fits.false in
     sym (ap planned (plan_held _ _ _ _ sound fit counted _
     (sym c.find_place.ensures ∙ c.in-Some.is)))
-
-pub enum_told-in_default : goal.enum_told-in_default
-enum_told-in_default c = omega arith
 
 pub returns : goal.returns
 returns c =

@@ -14,7 +14,7 @@ use Rattle.settings.specs.Settings.{settings_fit}
 use Rattle.settings.proofs.Laws.{settings_facts}
 use Rattle.pack.specs.Pack.{coded_length, count_of}
 use Rattle.pack.specs.Inner.{payload_length}
-use Rattle.pack.specs.declared.Plan.TheVariants.{Go}
+use Rattle.std.specs.Prelude.{Ok, Err}
 use Rattle.pack.proofs.Plans.{plan_field, plan_none, plan_long, plan_count, plan_number, plan_go}
 use Rattle.pack.proofs.judge.Goals as goal
 
@@ -77,6 +77,6 @@ returns c =
     let a = c.args in
     let n = counting a.settings a.len _ _ c.coded_length-coded.ensures c.over-count.ensures in
     let s : c.lesser.result ≡ payload_length a.settings a.len a.number = c.lesser.ensures ∙ ap (λ (x : ℕ). min a.settings.size (x - a.number * a.settings.size)) c.coded_length-coded.ensures in
-    ap₂ Go n s
+    ap₂ (λ (x y : ℕ). Ok (x, y)) n s
     ∙ plan_go a.settings a.len a.number (fitting _ _ c.settings_fit.ensures (ap not c.if-not-settings_fit.false)) c.if-len-eq0.false c.if-len-gt-LARGEST_FILE.false
     (subst (λ (x : ℕ). x ≤ 1048575) n c.if-count-gt1048575.false) (subst (λ (x : ℕ). a.number < x) n c.if-count-number.false)

@@ -1,24 +1,18 @@
 -- `mend` looks at the length, takes what each row leaves, and mends the rows all or none.
 -- Assumes nothing.
-use mathlib.Core.Path.{◌≡◌, sym, subst}
+use mathlib.Core.Path.{◌≡◌}
 use mathlib.Core.List.{List}
 use Prim.Native.Nat.{ℕ, ◌%◌, ◌≤◌}
 use lib.ListN.{length}
-use Rattle.repair.specs.declared.Counted.{Counted}
-use Rattle.repair.specs.Repair.{mending_of, Mends}
 use Rattle.repair.proofs.AllRows.{mend_short, mend_long, mend_all, ends-few, all_resting}
 use native.Mathlib.Omega.{arith}
 use Rattle.repair.proofs.mend.Goals as goal
 
--- what a refusal is told as
-told_as : (b : List ℕ) {r v : Counted} → r ≡ v → Mends (mending_of b) v b → Mends (mending_of b) r b
-told_as b e p = subst (λ (x : Counted). Mends (mending_of b) x b) (sym e) p
-
 pub returns-then-rows-ne0 : goal.returns-then-rows-ne0
-returns-then-rows-ne0 c = told_as _ c.refused.ensures (mend_short _ c.if-rows-ne0.true)
+returns-then-rows-ne0 c = mend_short _ c.if-rows-ne0.true
 
 pub returns-then-rows-gt-PROTECTED : goal.returns-then-rows-gt-PROTECTED
-returns-then-rows-gt-PROTECTED c = told_as _ c.refused-then-rows-gt-PROTECTED.ensures (mend_long _ c.if-rows-ne0.false c.if-rows-gt-PROTECTED.true)
+returns-then-rows-gt-PROTECTED c = mend_long _ c.if-rows-ne0.false c.if-rows-gt-PROTECTED.true
 
 pub mend_from-requires : goal.mend_from-requires
 mend_from-requires c = all_resting _ c.if-rows-ne0.false c.if-rows-gt-PROTECTED.false _ c.remainders-rests.ensures
@@ -29,9 +23,6 @@ told-requires c =
     let l : length b ≤ 3825 = c.if-rows-gt-PROTECTED.false in
     let called = c.mend_from in
     omega (arith, ends-few b 0 called.result called.new.rows called.ensures)
-
-pub shape_of-rows : goal.shape_of-rows
-shape_of-rows c = omega arith
 
 pub returns : goal.returns
 returns c =

@@ -33,7 +33,7 @@ overflow_add-end c =
 pub returns-then-store-end : goal.returns-then-store-end
 returns-then-store-end c =
     let ends : c.args.p.start + c.cover_of.result ≡ end_of c.args.p = omega (arith, end_sum c.args.p, c.cover_of.ensures) in
-    c.nothing_seen.ensures ∙ seen_outside _ _ (omega (arith, ends, c.if-store-end.true))
+    seen_outside _ _ (omega (arith, ends, c.if-store-end.true))
 
 pub loop-at-init : goal.loop-at-init
 loop-at-init c = surveying_first _ _
@@ -43,8 +43,7 @@ returns-then-not-length_fits c =
     let ends : c.args.p.start + c.cover_of.result ≡ end_of c.args.p = omega (arith, end_sum c.args.p, c.cover_of.ensures) in
     let inside : end_of c.args.p ≤ length c.args.store.now = omega (arith, ends) in
     let left : c.loop-at.k < c.args.p.count = stands_before _ _ _ c.loop-at.invariant.stands (omega (arith, ends, c.loop-at-test.true)) in
-    c.nothing_seen-then-not-length_fits.ensures
-    ∙ surveying_wrong _ _ _ _ _ _ _ c.loop-at.invariant left _ c.slot_length-n.ensures inside
+    surveying_wrong _ _ _ _ _ _ _ c.loop-at.invariant left _ c.slot_length-n.ensures inside
     (sym c.length_fits.ensures ∙ c.if-not-length_fits.true)
 
 pub overflow_add-filled : goal.overflow_add-filled

@@ -3,11 +3,14 @@
 use mathlib.Core.Bool.{true, false}
 use mathlib.Core.List.{[]}
 use mathlib.Core.Path.{◌≡◌, sym, ◌∙◌}
-use borrow.Author.Tests.{not-true, not-false}
+use native.Mathlib.Omega.{arith}
 use lib.ListN.{length}
+use Rattle.std.specs.Prelude.{Some, None}
+use Rattle.std.proofs.lemmas.Result.{err_from_is_err_and}
+use Rattle.refusals.specs.declared.Refusal.TheVariants.{Slot}
 use Rattle.contents.specs.Contents.{contents, any_wrong}
 use Rattle.losses.specs.Losses.{tabled}
-use Rattle.standing.proofs.SurveyLaws.{Sees, sees}
+use Rattle.standing.proofs.SurveyLaws.{seen_right, seen_not}
 use Rattle.columns.specs.Columns.{length_serves}
 use Rattle.columns.proofs.LengthLaws.{tabled-known}
 use Rattle.columns.proofs.HandLaws.{columns_record, columns_slot, columns_size, served, columns_shape, shaped, columns_shaped}
@@ -17,11 +20,14 @@ use Rattle.weighing.proofs.weigh.Goals as goal
 pub returns-then-not-is_tabled : goal.returns-then-not-is_tabled
 returns-then-not-is_tabled c = weighed_as _ _ _ _ (columns_record _ _ _ _ (sym c.is_tabled.ensures ∙ c.if-not-is_tabled.true))
 
-pub returns-then-not-seen : goal.returns-then-not-seen
-returns-then-not-seen c =
+pub returns-in_err-ok_or : goal.returns-in_err-ok_or
+returns-in_err-ok_or c =
     let placed : tabled c.args.p (length c.args.store.now) ≡ true = sym c.is_tabled.ensures ∙ c.if-not-is_tabled.false in
-    let seen : Sees c.args.p (contents c.args.p c.args.store.now) c.survey-seen.result = sees _ _ (tabled-known _ c.args.store.now placed).ends _ c.survey-seen.ensures in
-    weighed_as _ _ _ _ (columns_slot _ _ _ _ placed (seen.wrong (not-true _ c.if-not-seen.true)))
+    let none : c.survey.result ≡ None = grind arith in
+    let refused : c.in_err-ok_or.field-0.0 ≡ Slot = grind arith in
+    let p = err_from_is_err_and c.from_residual.result c.from_residual.ensures.1 in
+    rw (p.1, p.2, refused)
+    (weighed_as _ _ _ _ (columns_slot _ _ _ _ placed (seen_not _ _ (tabled-known _ c.args.store.now placed).ends _ c.survey.ensures none)))
 
 pub length_serves-requires : goal.length_serves-requires
 length_serves-requires c =
@@ -32,23 +38,23 @@ length_serves-requires c =
 pub returns-then-not-length_serves : goal.returns-then-not-length_serves
 returns-then-not-length_serves c =
     let placed : tabled c.args.p (length c.args.store.now) ≡ true = sym c.is_tabled.ensures ∙ c.if-not-is_tabled.false in
-    let seen : Sees c.args.p (contents c.args.p c.args.store.now) c.survey-seen.result = sees _ _ (tabled-known _ c.args.store.now placed).ends _ c.survey-seen.ensures in
-    let right : any_wrong (contents c.args.p c.args.store.now) ≡ false = (seen.sound (not-false _ c.if-not-seen.false)).right in
+    let some : c.survey.result ≡ Some c.in_ok-ok_or.field-0 = grind arith in
+    let right : any_wrong (contents c.args.p c.args.store.now) ≡ false = (seen_right _ _ (tabled-known _ c.args.store.now placed).ends _ _ c.survey.ensures some).right in
     weighed_as _ _ _ _ (columns_size _ _ _ _ placed right (sym c.length_serves.ensures ∙ c.if-not-length_serves.true))
 
 pub lengths_fit-requires : goal.lengths_fit-requires
 lengths_fit-requires c =
     let placed : tabled c.args.p (length c.args.store.now) ≡ true = sym c.is_tabled.ensures ∙ c.if-not-is_tabled.false in
-    let seen : Sees c.args.p (contents c.args.p c.args.store.now) c.survey-seen.result = sees _ _ (tabled-known _ c.args.store.now placed).ends _ c.survey-seen.ensures in
-    let right : any_wrong (contents c.args.p c.args.store.now) ≡ false = (seen.sound (not-false _ c.if-not-seen.false)).right in
+    let some : c.survey.result ≡ Some c.in_ok-ok_or.field-0 = grind arith in
+    let right : any_wrong (contents c.args.p c.args.store.now) ≡ false = (seen_right _ _ (tabled-known _ c.args.store.now placed).ends _ _ c.survey.ensures some).right in
     let serving : length_serves c.args.p c.args.n ≡ true = sym c.length_serves.ensures ∙ c.if-not-length_serves.false in
     served _ _ _ [] placed right serving
 
 pub returns-then-not-lengths_fit : goal.returns-then-not-lengths_fit
 returns-then-not-lengths_fit c =
     let placed : tabled c.args.p (length c.args.store.now) ≡ true = sym c.is_tabled.ensures ∙ c.if-not-is_tabled.false in
-    let seen : Sees c.args.p (contents c.args.p c.args.store.now) c.survey-seen.result = sees _ _ (tabled-known _ c.args.store.now placed).ends _ c.survey-seen.ensures in
-    let right : any_wrong (contents c.args.p c.args.store.now) ≡ false = (seen.sound (not-false _ c.if-not-seen.false)).right in
+    let some : c.survey.result ≡ Some c.in_ok-ok_or.field-0 = grind arith in
+    let right : any_wrong (contents c.args.p c.args.store.now) ≡ false = (seen_right _ _ (tabled-known _ c.args.store.now placed).ends _ _ c.survey.ensures some).right in
     let serving : length_serves c.args.p c.args.n ≡ true = sym c.length_serves.ensures ∙ c.if-not-length_serves.false in
     weighed_as _ _ _ _
     (columns_shape _ _ _ _ placed right serving (sym c.lengths_fit.ensures ∙ c.if-not-lengths_fit.true))
@@ -56,8 +62,8 @@ returns-then-not-lengths_fit c =
 pub weigh_rows-requires : goal.weigh_rows-requires
 weigh_rows-requires c =
     let placed : tabled c.args.p (length c.args.store.now) ≡ true = sym c.is_tabled.ensures ∙ c.if-not-is_tabled.false in
-    let seen : Sees c.args.p (contents c.args.p c.args.store.now) c.survey-seen.result = sees _ _ (tabled-known _ c.args.store.now placed).ends _ c.survey-seen.ensures in
-    let right : any_wrong (contents c.args.p c.args.store.now) ≡ false = (seen.sound (not-false _ c.if-not-seen.false)).right in
+    let some : c.survey.result ≡ Some c.in_ok-ok_or.field-0 = grind arith in
+    let right : any_wrong (contents c.args.p c.args.store.now) ≡ false = (seen_right _ _ (tabled-known _ c.args.store.now placed).ends _ _ c.survey.ensures some).right in
     let serving : length_serves c.args.p c.args.n ≡ true = sym c.length_serves.ensures ∙ c.if-not-length_serves.false in
     let t = placed in
     let w = right in

@@ -4,29 +4,33 @@ use mathlib.Core.Path.{◌≡◌, sym, ◌∙◌}
 use mathlib.Core.List.{List}
 use Prim.Native.Nat.{ℕ}
 use native.Mathlib.Omega.{arith}
-use borrow.Author.Tests.{not-true, not-false}
+use Rattle.std.specs.Prelude.{Some, None}
+use Rattle.std.proofs.lemmas.Result.{err_from_is_err_and}
+use Rattle.refusals.specs.declared.Refusal.TheVariants.{Slot}
 use Rattle.contents.specs.Contents.{contents, joined}
-use Rattle.standing.proofs.SurveyLaws.{Tallied, Sees, sees}
+use Rattle.standing.proofs.SurveyLaws.{Tallied, seen_right, seen_not}
 use Rattle.handing.specs.Hand.{hand_joined, hand_contents}
 use Rattle.columns.proofs.HandLaws.{comes_from}
 use Rattle.handing.proofs.HandCases.{plain_size, plain-output, plain-file, joined-rows, contents-slot, contents_missing, contents-full}
 use Rattle.handing.proofs.hand.hand_usable.Goals as goal
 
-pub returns-then-not-seen : goal.returns-then-not-seen
-returns-then-not-seen c =
-    let seen : Sees c.args.p (contents c.args.p c.args.store.now) c.survey-seen.result = sees _ _ c.requires.ends _ c.survey-seen.ensures in
-    contents-slot _ _ _ _ (seen.wrong (not-true _ c.if-not-seen.true))
+pub returns-in_err-seen : goal.returns-in_err-seen
+returns-in_err-seen c =
+    let none : c.survey.result ≡ None = grind arith in
+    let refused : c.in_err-seen.field-0.0 ≡ Slot = grind arith in
+    let p = err_from_is_err_and c.from_residual.result c.from_residual.ensures.1 in
+    rw (p.1, p.2, refused) (contents-slot _ _ _ _ (seen_not _ _ c.requires.ends _ c.survey.ensures none))
 
 pub returns-then-seen-p : goal.returns-then-seen-p
 returns-then-seen-p c =
-    let seen : Sees c.args.p (contents c.args.p c.args.store.now) c.survey-seen.result = sees _ _ c.requires.ends _ c.survey-seen.ensures in
-    let tallied : Tallied c.args.p (contents c.args.p c.args.store.now) c.survey-seen.result = seen.sound (not-false _ c.if-not-seen.false) in
+    let some : c.survey.result ≡ Some c.in_ok-seen.seen = grind arith in
+    let tallied : Tallied c.args.p (contents c.args.p c.args.store.now) c.in_ok-seen.seen = seen_right _ _ c.requires.ends _ _ c.survey.ensures some in
     let t = tallied in contents_missing _ _ _ _ t.right c.requires.by_rows _ (t.some c.if-seen-p.true)
 
 pub hand_rows-requires : goal.hand_rows-requires
 hand_rows-requires c =
-    let seen : Sees c.args.p (contents c.args.p c.args.store.now) c.survey-seen.result = sees _ _ c.requires.ends _ c.survey-seen.ensures in
-    let tallied : Tallied c.args.p (contents c.args.p c.args.store.now) c.survey-seen.result = seen.sound (not-false _ c.if-not-seen.false) in
+    let some : c.survey.result ≡ Some c.in_ok-seen.seen = grind arith in
+    let tallied : Tallied c.args.p (contents c.args.p c.args.store.now) c.in_ok-seen.seen = seen_right _ _ c.requires.ends _ _ c.survey.ensures some in
     let t = tallied in
     let u = c.requires in
     let d = c.if-p-ne0.true in
@@ -37,8 +41,8 @@ shape_of-out-then-p-ne0 c = omega arith
 
 pub returns-then-p-ne0 : goal.returns-then-p-ne0
 returns-then-p-ne0 c =
-    let seen : Sees c.args.p (contents c.args.p c.args.store.now) c.survey-seen.result = sees _ _ c.requires.ends _ c.survey-seen.ensures in
-    let tallied : Tallied c.args.p (contents c.args.p c.args.store.now) c.survey-seen.result = seen.sound (not-false _ c.if-not-seen.false) in
+    let some : c.survey.result ≡ Some c.in_ok-seen.seen = grind arith in
+    let tallied : Tallied c.args.p (contents c.args.p c.args.store.now) c.in_ok-seen.seen = seen_right _ _ c.requires.ends _ _ c.survey.ensures some in
     let full : (n : ℕ) (out : List ℕ)
     → hand_contents c.args.p (contents c.args.p c.args.store.now) n out
     ≡ hand_joined c.args.p (joined (contents c.args.p c.args.store.now)) n out = λ n out. let t = tallied in contents-full _ _ n out t.right c.requires.by_rows (t.none c.if-seen-p.false) in
@@ -46,8 +50,8 @@ returns-then-p-ne0 c =
 
 pub returns-then-differs : goal.returns-then-differs
 returns-then-differs c =
-    let seen : Sees c.args.p (contents c.args.p c.args.store.now) c.survey-seen.result = sees _ _ c.requires.ends _ c.survey-seen.ensures in
-    let tallied : Tallied c.args.p (contents c.args.p c.args.store.now) c.survey-seen.result = seen.sound (not-false _ c.if-not-seen.false) in
+    let some : c.survey.result ≡ Some c.in_ok-seen.seen = grind arith in
+    let tallied : Tallied c.args.p (contents c.args.p c.args.store.now) c.in_ok-seen.seen = seen_right _ _ c.requires.ends _ _ c.survey.ensures some in
     let full : (n : ℕ) (out : List ℕ)
     → hand_contents c.args.p (contents c.args.p c.args.store.now) n out
     ≡ hand_joined c.args.p (joined (contents c.args.p c.args.store.now)) n out = λ n out. let t = tallied in contents-full _ _ n out t.right c.requires.by_rows (t.none c.if-seen-p.false) in
@@ -55,8 +59,8 @@ returns-then-differs c =
 
 pub returns-then-out-bytes : goal.returns-then-out-bytes
 returns-then-out-bytes c =
-    let seen : Sees c.args.p (contents c.args.p c.args.store.now) c.survey-seen.result = sees _ _ c.requires.ends _ c.survey-seen.ensures in
-    let tallied : Tallied c.args.p (contents c.args.p c.args.store.now) c.survey-seen.result = seen.sound (not-false _ c.if-not-seen.false) in
+    let some : c.survey.result ≡ Some c.in_ok-seen.seen = grind arith in
+    let tallied : Tallied c.args.p (contents c.args.p c.args.store.now) c.in_ok-seen.seen = seen_right _ _ c.requires.ends _ _ c.survey.ensures some in
     let full : (n : ℕ) (out : List ℕ)
     → hand_contents c.args.p (contents c.args.p c.args.store.now) n out
     ≡ hand_joined c.args.p (joined (contents c.args.p c.args.store.now)) n out = λ n out. let t = tallied in contents-full _ _ n out t.right c.requires.by_rows (t.none c.if-seen-p.false) in
@@ -65,8 +69,8 @@ returns-then-out-bytes c =
 
 pub write_plain-requires : goal.write_plain-requires
 write_plain-requires c =
-    let seen : Sees c.args.p (contents c.args.p c.args.store.now) c.survey-seen.result = sees _ _ c.requires.ends _ c.survey-seen.ensures in
-    let tallied : Tallied c.args.p (contents c.args.p c.args.store.now) c.survey-seen.result = seen.sound (not-false _ c.if-not-seen.false) in
+    let some : c.survey.result ≡ Some c.in_ok-seen.seen = grind arith in
+    let tallied : Tallied c.args.p (contents c.args.p c.args.store.now) c.in_ok-seen.seen = seen_right _ _ c.requires.ends _ _ c.survey.ensures some in
     let t = tallied in
     (record { ends = c.requires.ends; right = t.right }, omega (arith, t.bytes, c.if-out-bytes.false))
 
@@ -75,8 +79,8 @@ shape_of-out c = omega arith
 
 pub returns : goal.returns
 returns c =
-    let seen : Sees c.args.p (contents c.args.p c.args.store.now) c.survey-seen.result = sees _ _ c.requires.ends _ c.survey-seen.ensures in
-    let tallied : Tallied c.args.p (contents c.args.p c.args.store.now) c.survey-seen.result = seen.sound (not-false _ c.if-not-seen.false) in
+    let some : c.survey.result ≡ Some c.in_ok-seen.seen = grind arith in
+    let tallied : Tallied c.args.p (contents c.args.p c.args.store.now) c.in_ok-seen.seen = seen_right _ _ c.requires.ends _ _ c.survey.ensures some in
     let full : (n : ℕ) (out : List ℕ)
     → hand_contents c.args.p (contents c.args.p c.args.store.now) n out
     ≡ hand_joined c.args.p (joined (contents c.args.p c.args.store.now)) n out = λ n out. let t = tallied in contents-full _ _ n out t.right c.requires.by_rows (t.none c.if-seen-p.false) in
