@@ -7,7 +7,7 @@ ghost use Rattle.calendar.specs.Calendar.{leap, days_in, real, not_given, not_af
 use words::within;
 
 // A date and a time of day, real or not.
-#[derive(Clone, Copy)]
+#[derive(Clone, Copy, PartialEq, Eq, PartialOrd, Ord, Default)]
 pub struct Time {
     pub year: u64,
     pub month: u64,
@@ -72,28 +72,12 @@ pub fn is_real(t: Time) -> bool
 pub fn not_given(t: Time) -> bool
     ensures { result ≡ not_given t }
 {
-    (t.year == 0)
-        & ((t.month == 0) & ((t.day == 0) & ((t.hour == 0) & ((t.minute == 0) & (t.second == 0)))))
+    t == Time::default()
 }
 
 // Whether `a` is not after `b`.
 pub fn not_after(a: Time, b: Time) -> bool
     ensures { result ≡ not_after a b }
 {
-    if a.year != b.year {
-        return a.year < b.year;
-    }
-    if a.month != b.month {
-        return a.month < b.month;
-    }
-    if a.day != b.day {
-        return a.day < b.day;
-    }
-    if a.hour != b.hour {
-        return a.hour < b.hour;
-    }
-    if a.minute != b.minute {
-        return a.minute < b.minute;
-    }
-    a.second <= b.second
+    a <= b
 }
