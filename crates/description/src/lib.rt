@@ -41,14 +41,7 @@ fn time_at(text: &[u8], at: usize, n: usize) -> Time
     ensures { result ≡ given_time (take n (drop at text.now)) }
 {
     if n == 0 {
-        return Time {
-            year: 0,
-            month: 0,
-            day: 0,
-            hour: 0,
-            minute: 0,
-            second: 0,
-        };
+        return Time::default();
     }
     times::time_in(&text[at..at + n])
 }

@@ -38,7 +38,7 @@ fn labelled(text: &[u8], k: usize, at: usize) -> bool
     if text.len() - at < 3 {
         return false;
     }
-    let start = [(k / 10 % 10) as u8 + 48, (k % 10) as u8 + 48, 58];
+    let start = [(k / 10 % 10) as u8 + b'0', (k % 10) as u8 + b'0', b':'];
     slices::same(&text[at..at + 3], &start)
 }
 
@@ -50,7 +50,7 @@ fn value_length(rest: &[u8], n: usize) -> usize
     if n == 0 {
         return 0;
     }
-    if rest[n - 1] == 13 {
+    if rest[n - 1] == b'\r' {
         return n - 1;
     }
     n
@@ -101,9 +101,8 @@ pub(crate) fn split(text: &[u8]) -> Lines
 {
     let mut starts = [0usize; 15];
     let mut lengths = [0usize; 15];
-    let mut k: usize = 0;
     let mut at: usize = 0;
-    while k < 15 {
+    for k in 0..15 {
         let step = line_at(text, k + 1, at);
         if !step.there {
             return Lines {
@@ -116,12 +115,11 @@ pub(crate) fn split(text: &[u8]) -> Lines
         starts[k] = at + 3;
         lengths[k] = step.length;
         at = step.next;
-        k += 1;
     }
     Lines {
         starts,
         lengths,
-        count: k,
+        count: 15,
         next: at,
     }
 }

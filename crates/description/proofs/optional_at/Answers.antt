@@ -1,14 +1,10 @@
 -- An empty part is told by `none`; a number that is `none` itself is no number that may be written.
 -- Assumes nothing.
-use native.Mathlib.Omega.{arith}
 use Rattle.description.proofs.ValueLaws.{optional_none, optional_fault, optional_some}
 use Rattle.description.proofs.optional_at.Goals as goal
 
 pub returns-then-n-eq0 : goal.returns-then-n-eq0
 returns-then-n-eq0 c = let a = c.args in optional_none a.text.now a.at a.n a.none c.if-n-eq0.true
-
-pub number_at-found-requires : goal.number_at-found-requires
-number_at-found-requires c = omega arith
 
 pub returns-then-found-none : goal.returns-then-found-none
 returns-then-found-none c =
