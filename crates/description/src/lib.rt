@@ -89,10 +89,7 @@ fn attributes_in(text: &[u8], s: [usize; 15], n: [usize; 15]) -> Description
 fn lower(a: u64, b: u64) -> u64
     ensures { result ≡ lower a b }
 {
-    if a <= b {
-        return a;
-    }
-    b
+    a.min(b)
 }
 
 // The attributes of a description file, its texts as parts of `text`. A line that is missing or has a fault is refused with the number of the lowest such line, bytes behind
