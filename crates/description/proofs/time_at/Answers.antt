@@ -5,8 +5,8 @@ use Rattle.times.specs.Written.{time_in}
 use Rattle.description.proofs.ValueLaws.{part_is, time_none, time_some}
 use Rattle.description.proofs.time_at.Goals as goal
 
-pub returns-then-n-eq0 : goal.returns-then-n-eq0
-returns-then-n-eq0 c =
+pub returns-then-p-eq0 : goal.returns-then-p-eq0
+returns-then-p-eq0 c =
     let a = c.args in
     let z = c.default.ensures in
     (λ i. record {
@@ -17,10 +17,10 @@ returns-then-n-eq0 c =
       minute = z.1.1.1.1.0 i;
       second = z.1.1.1.1.1 i;
     })
-    ∙ time_none a.text.now a.at a.n c.if-n-eq0.true
+    ∙ time_none a.text.now a.p.at a.p.length c.if-p-eq0.true
 
 pub returns : goal.returns
 returns c =
     let a = c.args in
-    c.time_in.ensures ∙ ap time_in (part_is a.text.now a.at a.n)
-    ∙ time_some a.text.now a.at a.n c.requires c.if-n-eq0.false
+    c.time_in.ensures ∙ ap time_in (part_is a.text.now a.p.at a.p.length)
+    ∙ time_some a.text.now a.p.at a.p.length c.requires c.if-p-eq0.false

@@ -4,4 +4,4 @@ use Rattle.description.proofs.SplitLaws.{Splitting}
 use Rattle.description.proofs.lines.split.Given as goal
 
 abbrev pub invariant-loop-k : goal.invariant-loop-k
-invariant-loop-k l = Splitting l.text l.starts l.lengths l.k l.at
+invariant-loop-k l = Splitting l.text l.parts l.k l.at
