@@ -120,7 +120,7 @@ fn lacks_room(d: Description, room: usize) -> bool
     false
 }
 
-// The number of a line, two digits, and a colon.
+// The number of a line, two digits, and a colon. The reader writes out the same three bytes: one call for both would be a public one, with a law of its own.
 fn label(n: usize) -> [u8; 3]
     ensures { result ≡ label n }
 {
