@@ -18,6 +18,7 @@ pub struct Time {
 }
 
 // Whether a year has a 29 February.
+#[tactic(auto, unfolding(crate::specs::Calendar::leap))]
 fn leap(year: u64) -> bool
     ensures { result ≡ leap year }
 {
@@ -31,6 +32,7 @@ fn leap(year: u64) -> bool
 }
 
 // The days of a month.
+#[tactic(auto, unfolding(crate::specs::Calendar::days_in))]
 fn days_in(year: u64, month: u64) -> u64
     ensures { result ≡ days_in year month }
 {
@@ -47,6 +49,7 @@ fn days_in(year: u64, month: u64) -> u64
 }
 
 // Whether it is a date of the calendar, from year 1 to 9999, with a time of day.
+#[tactic(auto, unfolding(crate::specs::Calendar::real))]
 pub fn is_real(t: Time) -> bool
     ensures { result ≡ real t }
 {
