@@ -32,8 +32,8 @@ pub struct Description {
 }
 
 impl Description {
-    // A charset that is not given.
+    // A charset that is not given. It is a number and no `None`, since `no_charset` (specs/Attributes.antt), which the rules and the C face's numbers go by, is one.
     pub const NO_CHARSET: u64 = 255;
-    // A size that is not given.
+    // A size that is not given, a number for the same reason (`no_size`).
     pub const NO_SIZE: u64 = 0;
 }

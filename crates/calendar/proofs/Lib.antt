@@ -1,3 +1,2 @@
 pub mod RangeLaws
-pub mod DateLaws
 pub mod OrderLaws

@@ -7,7 +7,7 @@ ghost use Rattle.calendar.specs.Calendar.{leap, days_in, real, not_given, not_af
 use words::within;
 
 // A date and a time of day, real or not.
-#[derive(Clone, Copy)]
+#[derive(Clone, Copy, PartialEq, Eq, PartialOrd, Ord, Default)]
 pub struct Time {
     pub year: u64,
     pub month: u64,
@@ -18,6 +18,7 @@ pub struct Time {
 }
 
 // Whether a year has a 29 February.
+#[tactic(auto, unfolding(crate::specs::Calendar::leap))]
 fn leap(year: u64) -> bool
     ensures { result ≡ leap year }
 {
@@ -31,6 +32,7 @@ fn leap(year: u64) -> bool
 }
 
 // The days of a month.
+#[tactic(auto, unfolding(crate::specs::Calendar::days_in))]
 fn days_in(year: u64, month: u64) -> u64
     ensures { result ≡ days_in year month }
 {
@@ -47,6 +49,7 @@ fn days_in(year: u64, month: u64) -> u64
 }
 
 // Whether it is a date of the calendar, from year 1 to 9999, with a time of day.
+#[tactic(auto, unfolding(crate::specs::Calendar::real))]
 pub fn is_real(t: Time) -> bool
     ensures { result ≡ real t }
 {
@@ -72,28 +75,12 @@ pub fn is_real(t: Time) -> bool
 pub fn not_given(t: Time) -> bool
     ensures { result ≡ not_given t }
 {
-    (t.year == 0)
-        & ((t.month == 0) & ((t.day == 0) & ((t.hour == 0) & ((t.minute == 0) & (t.second == 0)))))
+    t == Time::default()
 }
 
 // Whether `a` is not after `b`.
 pub fn not_after(a: Time, b: Time) -> bool
     ensures { result ≡ not_after a b }
 {
-    if a.year != b.year {
-        return a.year < b.year;
-    }
-    if a.month != b.month {
-        return a.month < b.month;
-    }
-    if a.day != b.day {
-        return a.day < b.day;
-    }
-    if a.hour != b.hour {
-        return a.hour < b.hour;
-    }
-    if a.minute != b.minute {
-        return a.minute < b.minute;
-    }
-    a.second <= b.second
+    a <= b
 }

@@ -105,8 +105,7 @@ fn lacks_room(d: Description, room: usize) -> bool
     ensures { result ≡ ltb room (size_by (pieces d)) }
 {
     let mut left = room;
-    let mut k: usize = 0;
-    while k < 15 {
+    for k in 0..15 {
         let v = value_of(d, k);
         let part = v.part;
         let own = 4 + v.length;
@@ -117,16 +116,15 @@ fn lacks_room(d: Description, room: usize) -> bool
             return true;
         }
         left = left - own - part.length;
-        k += 1;
     }
     false
 }
 
-// The number of a line, two digits, and a colon.
+// The number of a line, two digits, and a colon. The reader writes out the same three bytes: one call for both would be a public one, with a law of its own.
 fn label(n: usize) -> [u8; 3]
     ensures { result ≡ label n }
 {
-    [(n / 10 % 10 + 48) as u8, (n % 10 + 48) as u8, 58]
+    [(n / 10 % 10) as u8 + b'0', (n % 10) as u8 + b'0', b':']
 }
 
 // Writes line k with a value at `at`; the answer is where it ends.
@@ -144,7 +142,7 @@ fn put_line(text: &[u8], v: Value, k: usize, out: &mut [u8], at: usize) -> usize
     let end = from + part.length;
     copy_in(out, at + 3 + n, &text[from..end]);
     let last = at + 3 + n + part.length;
-    out[last] = 10;
+    out[last] = b'\n';
     last + 1
 }
 
@@ -154,11 +152,9 @@ fn put_lines(text: &[u8], d: Description, out: &mut [u8]) -> usize
     ensures { (result ≡ size_by (pieces d)) × (out.new ≡ sets out.old 0 (lines_by text.now 0 (pieces d))) }
 {
     let mut at: usize = 0;
-    let mut k: usize = 0;
-    while k < 15 {
+    for k in 0..15 {
         let v = value_of(d, k);
         at = put_line(text, v, k, out, at);
-        k += 1;
     }
     at
 }

@@ -4,8 +4,9 @@ use mathlib.Core.Path.{◌≡◌, refl, sym, ap, ◌∙◌}
 use mathlib.Core.Bool.{true, ◌&&◌}
 use mathlib.Core.Logic.{◌⊎◌, inl, inr, ⊎_elim}
 use mathlib.Core.List.{List, [], ◌∷◌, ◌++◌}
-use Prim.Native.Nat.{ℕ, zero, suc, ◌+◌, ◌*◌, ◌/◌, ◌%◌, ◌^◌, ◌≤◌, ◌<◌}
-use native.Mathlib.Nat.{pow-suc, one-le-pow}
+use Prim.Native.Nat.{ℕ, zero, suc, ◌+◌, ◌*◌, ◌/◌, ◌%◌, ◌^◌, ◌≤◌, ◌<◌, min, max}
+use native.Mathlib.Nat.{pow-suc, pow-le-pow_right, one-le-pow}
+use native.Mathlib.Numerals.{add-one}
 use native.Mathlib.Omega.{arith}
 use borrow.Author.Tests.{lt-ltb, le-ltb}
 use lib.ListN.{length, get_or, length-append, get_or-append}
@@ -59,9 +60,24 @@ by_count (suc j) (suc k) n low high h =
     let ih = by_count j k (n / 10) (λ z. omega arith) (λ z. let u = high (omega arith) in omega (arith, pow-suc 10 (suc j))) (omega arith) in
     omega (arith, length_more (suc k) n (omega arith))
 
-pub digits-count : (j n : ℕ) → (0 < j → 10 ^ j ≤ n) → (j < 7 → n < 10 ^ suc j) → j ≤ 7 → suc j ≡ length (digits n)
+digits-count : (j n : ℕ) → (0 < j → 10 ^ j ≤ n) → (j < 7 → n < 10 ^ suc j) → j ≤ 7 → suc j ≡ length (digits n)
 unfolding digits
 digits-count j n low high h = sym (by_count j 7 n low high h)
+
+-- the logarithm tells it, that of 1 where n is 0
+pub digits-log : (n k : ℕ) → 10 ^ k ≤ max n 1 → max n 1 < 10 * 10 ^ k → min k 7 + 1 ≡ length (digits n)
+digits-log n k low high = add-one (min k 7) ∙ digits-count (min k 7) n some more (omega arith)
+  where
+    some : 0 < min k 7 → 10 ^ min k 7 ≤ n
+    some z =
+        let p : 10 ^ 1 ≤ 10 ^ min k 7 = pow-le-pow_right {n = 10} (omega arith) {i = 1} {j = min k 7} (omega arith) in
+        let q : 10 ^ min k 7 ≤ 10 ^ k = pow-le-pow_right {n = 10} (omega arith) {i = min k 7} {j = k} (omega arith) in
+        omega arith
+
+    more : min k 7 < 7 → n < 10 ^ suc (min k 7)
+    more h =
+        let e : min k 7 ≡ k = omega arith in
+        omega (arith, pow-suc 10 (min k 7), ap (λ (j : ℕ). 10 ^ j) e)
 
 -- ---- each a digit of ASCII
 

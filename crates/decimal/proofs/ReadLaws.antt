@@ -78,12 +78,8 @@ module _ (v : List ℕ) (value i : ℕ) (r : Reading v value i) where
     by_test : (t : Bool) → is_digit (get_or v i 0) ≡ t → (t && all_digits (drop (i + 1) v)) ≡ all_digits v
     by_test t e = ap (λ (x : Bool). x && all_digits (drop (i + 1) v)) (sym e) ∙ sym (ap all_digits one_on) ∙ r.every
 
-    pub reading_low : get_or v i 0 < 48 → 100000000 ≡ number_in v
-    reading_low l = sym (number-none v (says false (sym (by_test false (rw (lt-leb 48 (get_or v i 0) l))))))
-
-    pub reading_high : 57 < get_or v i 0 → 100000000 ≡ number_in v
-    reading_high l =
-        sym (number-none v (says false (sym (by_test false (rw (le-leb 48 (get_or v i 0) (omega arith), lt-leb (get_or v i 0) 57 l))))))
+    pub reading_not : is_digit (get_or v i 0) ≡ false → 100000000 ≡ number_in v
+    reading_not e = sym (number-none v (says false (sym (by_test false e))))
 
     pub reading_more : (b x : ℕ) → b ≡ get_or v i 0 → 48 ≤ b → b ≤ 57 → x ≡ value * 10 + (b - 48) → Reading v x (i + 1)
     reading_more b x e l u f =

@@ -70,8 +70,8 @@ module _ (n : ℕ) (bytes : List ℕ) (rest i : ℕ) (w : Writing n bytes rest i
             ∙ w.whole;
       }
 
-  written : 0 < i → Writing n (set bytes (i - 1) (rest % 10 + 48)) (rest / 10) (i - 1)
-  written h = by w.k refl (lt_or_ge rest 10)
+  pub writing_more : 0 < i → Writing n (set bytes (i - 1) (rest % 10 + 48)) (rest / 10) (i - 1)
+  writing_more h = by w.k refl (lt_or_ge rest 10)
     where
       by : (k : ℕ) → w.k ≡ k → (rest < 10) ⊎ (10 ≤ rest) → Writing n (set bytes (i - 1) (rest % 10 + 48)) (rest / 10) (i - 1)
       by zero e o = absurd (omega (arith, w.left, ap (λ (k : ℕ). length (digits_by k rest)) e))
@@ -79,6 +79,3 @@ module _ (n : ℕ) (bytes : List ℕ) (rest i : ℕ) (w : Writing n bytes rest i
           let m : rest + 48 ≡ rest % 10 + 48 = omega arith in
           one_less 0 (ap (λ (x : ℕ). digits_by x rest) e ∙ by_one k rest s ∙ ap (λ (x : ℕ). x ∷ []) m)
       by (suc k) e (inr s) = one_less k (ap (λ (x : ℕ). digits_by x rest) e ∙ by_more k rest s)
-
-  pub writing_more : (x y : ℕ) → 0 < i → x ≡ rest % 10 + 48 → y ≡ rest / 10 → Writing n (set bytes (i - 1) x) y (i - 1)
-  writing_more x y h d e = rw (d, e) (written h)

@@ -5,12 +5,10 @@ ghost use Rattle.std.specs.Prelude.{◌≡◌, not, ◌&&◌, ◌||◌, ◌++◌
 ghost use Rattle.ground.specs.Ranges.{between};
 ghost use Rattle.decimal.specs.Decimal.{number_in, digits};
 
-use words::wide;
-
-// Stands for no number of at most eight digits.
+// Stands for no number of at most eight digits. It is a number and no `None`, since `no_number` (specs/Decimal.antt), which the contract of `number_in` cites, is one.
 pub const NO_NUMBER: u64 = 100000000;
 
-// The digits of a number at the front, zeros behind them.
+// The digits of a number at the front, zeros behind them. Their count stands beside them, since the library has no heap for a string.
 #[derive(Clone, Copy)]
 pub struct Digits {
     pub bytes: [u8; 8],
@@ -25,17 +23,11 @@ pub fn number_in(bytes: &[u8]) -> u64
         return NO_NUMBER;
     }
     let mut value: u64 = 0;
-    let mut i: usize = 0;
-    while i < bytes.len() {
-        let b = wide(bytes[i]);
-        if b < 48 {
+    for b in bytes {
+        if !b.is_ascii_digit() {
             return NO_NUMBER;
         }
-        if 57 < b {
-            return NO_NUMBER;
-        }
-        value = value * 10 + (b - 48);
-        i += 1;
+        value = value * 10 + u64::from(*b - b'0');
     }
     value
 }
@@ -54,7 +46,7 @@ fn counted(bytes: &[u8]) -> bool
     if n == 1 {
         return true;
     }
-    bytes[0] != 48
+    bytes[0] != b'0'
 }
 
 // The digits of a number; of one with more than eight the last eight.
@@ -64,42 +56,16 @@ pub fn digits_of(n: u64) -> Digits
     let length = count_of(n);
     let mut bytes: [u8; 8] = [0; 8];
     let mut rest = n;
-    let mut i = length;
-    while 0 < i {
-        i -= 1;
-        bytes[i] = (rest % 10 + 48) as u8;
-        rest = rest / 10;
+    for i in (0..length).rev() {
+        bytes[i] = (rest % 10) as u8 + b'0';
+        rest /= 10;
     }
-    Digits {
-        bytes: bytes,
-        length: length,
-    }
+    Digits { bytes, length }
 }
 
 // How many digits a number has; eight where it has more.
 fn count_of(n: u64) -> usize
     ensures { result ≡ length (digits n) }
 {
-    if n < 10 {
-        return 1;
-    }
-    if n < 100 {
-        return 2;
-    }
-    if n < 1000 {
-        return 3;
-    }
-    if n < 10000 {
-        return 4;
-    }
-    if n < 100000 {
-        return 5;
-    }
-    if n < 1000000 {
-        return 6;
-    }
-    if n < 10000000 {
-        return 7;
-    }
-    8
+    n.max(1).ilog10().min(7) as usize + 1
 }

@@ -16,12 +16,6 @@ use Rattle.attributes.specs.Describe.{description_in, lower, fault_of, describe_
 use Rattle.std.specs.Prelude.{Err}
 use Rattle.std.specs.Prelude.{Ok}
 
-pub lower-first : (a b : ℕ) → a ≤ b → a ≡ lower a b
-lower-first a b h = sym (ap (λ (c : Bool). cond c a b) (le-leb a b h))
-
-pub lower_second : (a b : ℕ) → b < a → b ≡ lower a b
-lower_second a b h = sym (ap (λ (c : Bool). cond c a b) (lt-leb a b h))
-
 -- with what was found: the attributes, their lowest fault, the number of lines and where they end
 module _ (t : List ℕ) (d : Description) (low count next fault : ℕ) (attributes : d ≡ description_in t (lines_of t).parts)
     (judged : low ≡ lowest (rules t d)) (counted : count ≡ length (lines_of t).parts) (ended : next ≡ (lines_of t).next) (lowered : fault ≡ lower low (count + 1)) where

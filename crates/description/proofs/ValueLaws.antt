@@ -1,21 +1,20 @@
--- What the reader's small functions answer, over plain variables: values that may be empty, labels, ends of lines.
+-- What the reader's small functions answer, over plain variables: values that may be empty, labels.
 -- Assumes nothing.
-use mathlib.Core.Path.{◌≡◌, refl, sym, ap, ap₂, ◌∙◌}
-use mathlib.Core.Bool.{Bool, true, false, cond, ◌&&◌}
+use mathlib.Core.Path.{◌≡◌, sym, ap, ◌∙◌}
+use mathlib.Core.Bool.{Bool, true, false, cond}
 use mathlib.Core.List.{List}
-use Prim.Native.Nat.{ℕ, zero, suc, ◌+◌, ◌-◌, ◌<◌, ◌≤◌}
+use Prim.Native.Nat.{ℕ, ◌+◌, ◌-◌, ◌<◌, ◌≤◌}
 use native.Mathlib.Omega.{arith}
-use borrow.Author.Tests.{eq-eqb, ne_eqb, le-leb}
-use lib.Dec.{eqb, leb}
-use lib.ListN.{length, get_or, take, drop, length-drop}
+use borrow.Author.Tests.{eq-eqb, ne_eqb}
+use lib.Dec.{eqb}
+use lib.ListN.{length, take, drop, length-drop}
 use lib.Seq.{length-take-le, take_all}
 use Rattle.slices.specs.Slices.{same}
 use Rattle.slices.proofs.SameLaws.{same_lengths}
 use Rattle.decimal.specs.Decimal.{number_in, no_number}
 use Rattle.times.specs.Written.{time_in}
-use Rattle.texts.specs.Breaks.{CR}
 use Rattle.calendar.specs.Calendar.{no_time}
-use Rattle.attributes.specs.Lines.{label, without_cr}
+use Rattle.attributes.specs.Lines.{label}
 use Rattle.attributes.specs.Describe.{optional_in, given_time}
 
 -- a part from a to a + n
@@ -72,23 +71,3 @@ pub label-short : (t : List ℕ) (k at : ℕ) → at ≤ length t → length t -
 label-short t k at h l =
     let e : take 3 (drop at t) ≡ drop at t = take_all 3 (drop at t) (omega (arith, length-drop at t)) in
     same_lengths (take 3 (drop at t)) (label k) (λ f. omega (arith, sym (ap length e) ∙ f, length-drop at t))
-
--- ---- ends
-
-module _ (s : List ℕ) (n : ℕ) where
-  pub without-none : n ≡ 0 → 0 ≡ without_cr s n
-  without-none e = sym (ap (without_cr s) e)
-
-  module _ (h : n ≡ 0 → ⊥) where
-    first : leb 1 n ≡ true
-    first = le-leb 1 n (pos n h)
-      where
-        pos : (m : ℕ) → (m ≡ 0 → ⊥) → 1 ≤ m
-        pos zero d = absurd (d refl)
-        pos (suc m) d = omega arith
-
-    pub without_cr_lem : get_or s (n - 1) 0 ≡ 13 → n - 1 ≡ without_cr s n
-    without_cr_lem e = sym (ap₂ (λ (b c : Bool). cond (b && c) (n - 1) n) first (eq-eqb (get_or s (n - 1) 0) CR e))
-
-    pub without_other : (get_or s (n - 1) 0 ≡ 13 → ⊥) → n ≡ without_cr s n
-    without_other d = sym (ap₂ (λ (b c : Bool). cond (b && c) (n - 1) n) first (ne_eqb (get_or s (n - 1) 0) CR d))

@@ -1,32 +1,31 @@
 // The lines of a text: where their values stand.
-ghost use Rattle.std.specs.Prelude.{◌≡◌, true, ◌+◌, ◌≤◌, ◌<◌, ltb, length, take, drop};
+ghost use Rattle.std.specs.Prelude.{◌≡◌, false, ◌≤◌, ltb, length, take, drop, MatchOption};
 ghost use Rattle.slices.specs.Slices.{same};
 ghost use Rattle.texts.specs.Breaks.{until_lf};
-ghost use Rattle.attributes.specs.Lines.{label, without_cr};
-ghost use Rattle.description.specs.Inner.{Split, Stepped};
+ghost use Rattle.attributes.specs.Lines.{label, is_line, without_cr};
+ghost use Rattle.description.specs.Inner.{Ending, Split, Stepped};
 
-// The values of the lines that are there, each by its beginning and its length, zeros for those that are not; how many there are, and where they end.
+use attributes::Part;
+
+// The values of the lines that are there, empty parts for those that are not; how many there are, and where they end.
 #[derive(Clone, Copy)]
 pub(crate) struct Lines {
-    pub(crate) starts: [usize; 15],
-    pub(crate) lengths: [usize; 15],
+    pub(crate) parts: [Part; 15],
     pub(crate) count: usize,
     pub(crate) next: usize,
 }
 
-// Where a value ends: whether LF is there, how many bytes stand before it, and how many of them are the value.
+// Where a value ends: how many bytes stand before LF, and how many of them are the value.
 #[derive(Clone, Copy)]
 struct End {
-    found: bool,
     before: usize,
     length: usize,
 }
 
-// A line that is there or not: the length of its value, and where the next begins.
+// A line: where its value stands, and where the next line begins.
 #[derive(Clone, Copy)]
 struct Step {
-    there: bool,
-    length: usize,
+    value: Part,
     next: usize,
 }
 
@@ -38,7 +37,7 @@ fn labelled(text: &[u8], k: usize, at: usize) -> bool
     if text.len() - at < 3 {
         return false;
     }
-    let start = [(k / 10 % 10) as u8 + 48, (k % 10) as u8 + 48, 58];
+    let start = [(k / 10 % 10) as u8 + b'0', (k % 10) as u8 + b'0', b':'];
     slices::same(&text[at..at + 3], &start)
 }
 
@@ -50,78 +49,64 @@ fn value_length(rest: &[u8], n: usize) -> usize
     if n == 0 {
         return 0;
     }
-    if rest[n - 1] == 13 {
+    if rest[n - 1] == b'\r' {
         return n - 1;
     }
     n
 }
 
-// The end of a value that begins at the front.
-fn ending(rest: &[u8]) -> End
-    ensures { (result.found ≡ ltb (until_lf rest.now) (length rest.now)) × (result.before ≡ until_lf rest.now) × (result.length ≡ without_cr rest.now (until_lf rest.now)) }
+// The end of a value that begins at the front; none where no LF stands behind it.
+fn ending(rest: &[u8]) -> Option<End>
+    ensures { MatchOption result (ltb (until_lf rest.now) (length rest.now) ≡ false) (λ e. Ending rest.now e.before e.length) }
 {
     let n = texts::until_lf(rest);
-    End {
-        found: n < rest.len(),
+    if n >= rest.len() {
+        return None;
+    }
+    Some(End {
         before: n,
         length: value_length(rest, n),
-    }
+    })
 }
 
-// Line k at `at`.
-fn line_at(text: &[u8], k: usize, at: usize) -> Step
+// Line k at `at`, if it stands there.
+fn line_at(text: &[u8], k: usize, at: usize) -> Option<Step>
     requires { at ≤ length text.now }
-    ensures { Stepped text.now k at result.there result.length result.next }
+    ensures { MatchOption result (is_line text.now k at ≡ false) (λ s. Stepped text.now k at s.value s.next) }
 {
     if !labelled(text, k, at) {
-        return Step {
-            there: false,
-            length: 0,
-            next: at,
-        };
+        return None;
     }
-    let end = ending(&text[at + 3..]);
-    if !end.found {
-        return Step {
-            there: false,
-            length: 0,
-            next: at,
-        };
-    }
-    Step {
-        there: true,
-        length: end.length,
+    let end = ending(&text[at + 3..])?;
+    Some(Step {
+        value: Part {
+            at: at + 3,
+            length: end.length,
+        },
         next: at + 3 + end.before + 1,
-    }
+    })
 }
 
 // The fifteen lines, or as many as stand in order at the front.
 pub(crate) fn split(text: &[u8]) -> Lines
-    ensures { Split text.now result.starts result.lengths result.count result.next }
+    ensures { Split text.now result.parts result.count result.next }
 {
-    let mut starts = [0usize; 15];
-    let mut lengths = [0usize; 15];
-    let mut k: usize = 0;
+    let mut parts = [Part { at: 0, length: 0 }; 15];
     let mut at: usize = 0;
-    while k < 15 {
-        let step = line_at(text, k + 1, at);
-        if !step.there {
+    for k in 0..15 {
+        let Some(step) = line_at(text, k + 1, at) else {
             return Lines {
-                starts,
-                lengths,
+                parts,
                 count: k,
                 next: at,
             };
-        }
-        starts[k] = at + 3;
-        lengths[k] = step.length;
+        };
+        parts[k] = step.value;
         at = step.next;
-        k += 1;
     }
     Lines {
-        starts,
-        lengths,
-        count: k,
+        parts,
+        count: 15,
         next: at,
     }
 }

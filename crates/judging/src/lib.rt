@@ -99,12 +99,10 @@ pub fn lowest_fault(text: &[u8], d: Description) -> u64
     ensures { result ≡ lowest (rules text.now d) }
 {
     let fits = judged(text, d);
-    let mut i: usize = 0;
-    while i < 15 {
-        if !fits[i] {
+    for (i, fit) in fits.iter().enumerate() {
+        if !*fit {
             return i as u64 + 1;
         }
-        i += 1;
     }
     16
 }

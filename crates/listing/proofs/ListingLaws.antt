@@ -1,18 +1,17 @@
--- Thirty numbers as a description: numbers over zeros give the same one (`over_thirty`), and a description's own numbers give it back (`numbers_back`). And what the two
+-- Thirty numbers as a description: numbers over zeros, as far as these reach, give the same one (`over_thirty`), and a description's own numbers give it back (`numbers_back`). And what the two
 -- functions of the C face say, by cases. Assumes nothing.
 use mathlib.Core.Path.{◌≡◌, refl, sym, ap, ◌∙◌}
 use mathlib.Core.Logic.{◌⊎◌, inl, inr}
 use mathlib.Core.Bool.{Bool, cond}
-use mathlib.Core.List.{List}
-use Prim.Native.Nat.{ℕ, ◌+◌, ◌*◌, ◌%◌, ◌<◌, ◌≤◌}
+use mathlib.Core.List.{List, ◌++◌}
+use Prim.Native.Nat.{ℕ, ◌+◌, ◌*◌, ◌%◌, ◌<◌, ◌≤◌, min}
 use native.Mathlib.Omega.{arith}
 use borrow.Author.Tests.{eq-eqb, ne_eqb}
 use lib.Dec.{eqb}
-use lib.ListN.{length, get_or, take}
-use lib.Seq.{sets, get_or-take, length-take-le}
-use Rattle.ground.specs.Lists.{listed}
-use Rattle.ground.proofs.Listed.{le_or_lt, listed-part}
-use Rattle.ground.proofs.Writing.{sets_reach}
+use lib.ListN.{length, get_or, take, drop}
+use lib.Seq.{sets, get_or-take, length-take-le, take_all}
+use Rattle.ground.proofs.Listed.{le_or_lt}
+use Rattle.ground.proofs.Writing.{sets-front}
 use Rattle.code.proofs.Lists.{zeros, length_zeros}
 use Rattle.refusals.specs.declared.Refusal.{Refusal}
 use Rattle.refusals.specs.declared.Refusal.TheVariants.{Field}
@@ -66,19 +65,21 @@ alike l m e = λ i. record {
   delete = e 29 (omega arith) i;
 }
 
-over : (n : ℕ) (b : List ℕ) (j : ℕ) → j < n → get_or (sets (zeros n) 0 b) j 0 ≡ get_or b j 0
-over n b j h = by (le_or_lt (length b) n)
+-- of numbers that are copied over zeros as far as these reach, none is missed
+reached : (b : List ℕ) (n j : ℕ) → n ≡ min (length b) 30 → j < 30 → get_or (take n b) j 0 ≡ get_or b j 0
+reached b n j e h = by (le_or_lt (length b) 30)
   where
-    by : (length b ≤ n) ⊎ (n < length b) → get_or (sets (zeros n) 0 b) j 0 ≡ get_or b j 0
-    by (inl l) = over_zeros n b l j
-    by (inr l) =
-        let front : listed (λ k. get_or b k 0) n 0 ≡ take n b = listed-part b 0 n 0 (omega arith) in
-        let long : length (take n b) ≡ n = length-take-le n b (omega arith) in
-        ap (λ (x : List ℕ). get_or x j 0) (sym (sets_reach (zeros n) 0 n b (omega arith) (λ m. omega (arith, length_zeros n))) ∙ ap (sets (zeros n) 0) front)
-        ∙ over_zeros n (take n b) (omega arith) j ∙ get_or-take n b j 0 h
+    by : (length b ≤ 30) ⊎ (30 < length b) → get_or (take n b) j 0 ≡ get_or b j 0
+    by (inl l) = ap (λ (x : List ℕ). get_or x j 0) (take_all n b (omega arith))
+    by (inr l) = get_or-take n b j 0 (omega arith)
 
-pub over_thirty : (b : List ℕ) → description_from (sets (zeros 30) 0 b) ≡ description_from b
-over_thirty b = alike (sets (zeros 30) 0 b) b (over 30 b)
+pub over_thirty : (b : List ℕ) (n : ℕ) → n ≡ min (length b) 30 → description_from (take n b ++ drop n (zeros 30)) ≡ description_from b
+over_thirty b n e =
+    let long : length (take n b) ≡ n = length-take-le n b (omega arith) in
+    let put : sets (zeros 30) 0 (take n b) ≡ take n b ++ drop n (zeros 30) =
+    sets-front (zeros 30) (take n b) (omega (arith, length_zeros 30)) ∙ ap (λ (k : ℕ). take n b ++ drop k (zeros 30)) long in
+    alike (take n b ++ drop n (zeros 30)) b
+    (λ j h. ap (λ (x : List ℕ). get_or x j 0) (sym put) ∙ over_zeros 30 (take n b) (omega arith) j ∙ reached b n j e h)
 
 -- a description by its own numbers
 pub numbers_back : (d : Description) → description_from (description_list d) ≡ d

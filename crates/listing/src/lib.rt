@@ -1,8 +1,7 @@
 // A description as thirty numbers, as the C face lends and takes it.
 #![tactic(auto)]
 
-ghost use Rattle.std.specs.Prelude.{◌≡◌, ◌≤◌, ◌<◌};
-ghost use Rattle.std.proofs.lemmas.List.Edits.{sets};
+ghost use Rattle.std.specs.Prelude.{◌≡◌, ◌≤◌};
 ghost use Rattle.attributes.specs.Told.{description_list};
 ghost use Rattle.face.specs.Face.{Says, puts};
 ghost use Rattle.listing.specs.Listing.{time_from, description_from};
@@ -10,30 +9,8 @@ ghost use Rattle.listing.specs.Listing.{time_from, description_from};
 use attributes::{Description, Part};
 use calendar::Time;
 
-// Output's number, for an output that is too short.
+// Output's number, for an output that is too short: what C is answered is a number.
 const NO_ROOM: u64 = 26;
-
-// The less of two.
-fn least(a: usize, b: usize) -> usize
-    ensures { (result ≤ a) × (result ≤ b) × (result < b → a ≤ result) }
-{
-    if a < b {
-        return a;
-    }
-    b
-}
-
-// Copies numbers to the start of `out`, as far as it reaches.
-fn copy_numbers(out: &mut [u64], numbers: &[u64])
-    ensures { out.new ≡ sets out.old 0 numbers.now }
-{
-    let n = least(out.len(), numbers.len());
-    let mut i: usize = 0;
-    while i < n {
-        out[i] = numbers[i];
-        i += 1;
-    }
-}
 
 // The thirty numbers, line 01 first.
 fn numbers_of(d: Description) -> [u64; 30]
@@ -77,10 +54,11 @@ fn numbers_of(d: Description) -> [u64; 30]
 pub fn put_numbers(d: Description, out: &mut [u64]) -> u64
     ensures { Says (puts (description_list d) out.old) result out.new }
 {
-    if out.len() < 30 {
+    let short = out.len() < 30;
+    if short {
         return NO_ROOM;
     }
-    copy_numbers(out, &numbers_of(d));
+    out[..30].copy_from_slice(&numbers_of(d));
     0
 }
 
@@ -137,6 +115,7 @@ pub fn description_of(numbers: &[u64]) -> Description
     ensures { result ≡ description_from numbers.now }
 {
     let mut v = [0u64; 30];
-    copy_numbers(&mut v, numbers);
+    let n = numbers.len().min(30);
+    v[..n].copy_from_slice(&numbers[..n]);
     from_thirty(v)
 }

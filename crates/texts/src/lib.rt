@@ -17,12 +17,9 @@ const NEVER: Wait = Wait(1, 1, 0);
 pub fn well_formed(bytes: &[u8]) -> bool
     ensures { result ≡ well_formed bytes.now }
 {
-    let n = bytes.len();
     let mut wait = Wait(0, 0, 0);
-    let mut i: usize = 0;
-    while i < n {
-        wait = step(wait, bytes[i]);
-        i += 1;
+    for b in bytes {
+        wait = step(wait, *b);
     }
     wait.0 == 0
 }
@@ -84,28 +81,21 @@ fn awaited(b: u8) -> Wait
 pub fn until_lf(bytes: &[u8]) -> usize
     ensures { result ≡ until_lf bytes.now }
 {
-    let n = bytes.len();
-    let mut i: usize = 0;
-    while i < n {
-        if bytes[i] == 10 {
+    for (i, b) in bytes.iter().enumerate() {
+        if *b == b'\n' {
             return i;
         }
-        i += 1;
     }
-    n
+    bytes.len()
 }
 
 // Whether the bytes have neither CR nor LF. The loop has no other way out, so that many bytes can be looked at in one go.
 pub fn unbroken(bytes: &[u8]) -> bool
     ensures { result ≡ unbroken bytes.now }
 {
-    let n = bytes.len();
     let mut so_far = true;
-    let mut i: usize = 0;
-    while i < n {
-        let b = bytes[i];
-        so_far = so_far & (b != 10) & (b != 13);
-        i += 1;
+    for b in bytes {
+        so_far = so_far & (*b != b'\n') & (*b != b'\r');
     }
     so_far
 }

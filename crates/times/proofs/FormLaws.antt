@@ -1,4 +1,4 @@
--- Bytes held to the form yyyy.mm.dd/hh:mm:ss: a byte, the loop over all, and what is read from them.
+-- Bytes held to the form yyyy.mm.dd/hh:mm:ss: the loop over all, and what is read from them.
 -- Assumes nothing.
 use mathlib.Core.Path.{◌≡◌, refl, sym, ap, ap₂, ◌∙◌}
 use mathlib.Core.Bool.{Bool, true, false, cond, ◌&&◌}
@@ -6,26 +6,13 @@ use mathlib.Core.List.{List, ◌∷◌}
 use Prim.Native.Nat.{ℕ, ◌+◌, ◌<◌, ◌≤◌}
 use native.Mathlib.Numerals.{add-one}
 use native.Mathlib.Omega.{arith}
-use borrow.Author.Tests.{eq-eqb, ne_eqb, le-leb, lt-leb}
-use lib.Dec.{eqb, leb}
+use lib.Dec.{eqb}
 use lib.ListN.{length, get_or, drop, drop_of_length-le}
 use lib.Seq.{drop-cons}
 use Rattle.ground.specs.Ranges.{is_digit}
 use Rattle.calendar.specs.Calendar.{real}
 use Rattle.times.specs.Written.{form, formed, time_at, wrong_time, time_in}
 use Rattle.times.proofs.WrittenLaws.{formed-long}
-
--- ---- a byte
-
-module _ (f b : ℕ) where
-  pub digit_high : f ≡ 0 → 48 ≤ b → leb b 57 ≡ cond (eqb f 0) (is_digit b) (eqb b f)
-  digit_high e h = simp (eq-eqb f 0 e, le-leb 48 b h)
-
-  pub digit_low : f ≡ 0 → b < 48 → leb 48 b ≡ cond (eqb f 0) (is_digit b) (eqb b f)
-  digit_low e h = simp (eq-eqb f 0 e, lt-leb 48 b h)
-
-  pub sign_same : (f ≡ 0 → ⊥) → eqb b f ≡ cond (eqb f 0) (is_digit b) (eqb b f)
-  sign_same d = simp (ne_eqb f 0 d)
 
 -- ---- all of them, a byte at a time: behind the first i what is left says what all says
 

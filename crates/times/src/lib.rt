@@ -7,11 +7,21 @@ ghost use Rattle.times.specs.Written.{time_text, form, formed, two_at, time_at, 
 
 use calendar::{Time, is_real};
 
+// Stands for a value that writes no real time. It is none itself, nor the time of zeros, which stands for none given.
+const WRONG: Time = Time {
+    year: 0,
+    month: 1,
+    day: 0,
+    hour: 0,
+    minute: 0,
+    second: 0,
+};
+
 // The last digit of a number, in ASCII.
 fn ones(n: u64) -> u8
     ensures { result ≡ n % 10 + 48 }
 {
-    (n % 10) as u8 + 48
+    (n % 10) as u8 + b'0'
 }
 
 // The digit before the last.
@@ -32,19 +42,19 @@ pub fn time_text(t: Time) -> [u8; 19]
         ones(century),
         tens(year),
         ones(year),
-        46,
+        b'.',
         tens(t.month),
         ones(t.month),
-        46,
+        b'.',
         tens(t.day),
         ones(t.day),
-        47,
+        b'/',
         tens(t.hour),
         ones(t.hour),
-        58,
+        b':',
         tens(t.minute),
         ones(t.minute),
-        58,
+        b':',
         tens(t.second),
         ones(t.second),
     ]
@@ -55,7 +65,7 @@ fn fits(f: u8, b: u8) -> bool
     ensures { result ≡ cond (eqb f 0) (is_digit b) (eqb b f) }
 {
     if f == 0 {
-        return 48 <= b && b <= 57;
+        return b.is_ascii_digit();
     }
     b == f
 }
@@ -64,16 +74,16 @@ fn fits(f: u8, b: u8) -> bool
 fn formed(bytes: &[u8]) -> bool
     ensures { result ≡ formed form bytes.now }
 {
-    let form: [u8; 19] = [0, 0, 0, 0, 46, 0, 0, 46, 0, 0, 47, 0, 0, 58, 0, 0, 58, 0, 0];
-    if bytes.len() != 19 {
+    let form = [
+        0, 0, 0, 0, b'.', 0, 0, b'.', 0, 0, b'/', 0, 0, b':', 0, 0, b':', 0, 0,
+    ];
+    if bytes.len() != form.len() {
         return false;
     }
-    let mut i = 0;
-    while i < 19 {
-        if !fits(form[i], bytes[i]) {
+    for (i, b) in bytes.iter().enumerate() {
+        if !fits(form[i], *b) {
             return false;
         }
-        i += 1;
     }
     true
 }
@@ -82,10 +92,7 @@ fn formed(bytes: &[u8]) -> bool
 fn digit(b: u8) -> u64
     ensures { (result ≡ b - 48) × (result < 256) }
 {
-    if b < 48 {
-        return 0;
-    }
-    (b - 48) as u64
+    u64::from(b.saturating_sub(b'0'))
 }
 
 // The number of the two digits at `i`.
@@ -108,12 +115,12 @@ fn time_at(bytes: &[u8]) -> Time
     let minute = two_at(bytes, 14);
     let second = two_at(bytes, 17);
     Time {
-        year: year,
-        month: month,
-        day: day,
-        hour: hour,
-        minute: minute,
-        second: second,
+        year,
+        month,
+        day,
+        hour,
+        minute,
+        second,
     }
 }
 
@@ -121,20 +128,12 @@ fn time_at(bytes: &[u8]) -> Time
 pub fn time_in(bytes: &[u8]) -> Time
     ensures { result ≡ time_in bytes.now }
 {
-    let wrong = Time {
-        year: 0,
-        month: 1,
-        day: 0,
-        hour: 0,
-        minute: 0,
-        second: 0,
-    };
     if !formed(bytes) {
-        return wrong;
+        return WRONG;
     }
     let t = time_at(bytes);
     if !is_real(t) {
-        return wrong;
+        return WRONG;
     }
     t
 }

@@ -1,11 +1,7 @@
 -- The digits stand at the front of the eight bytes, and these at the front of the nineteen.
-use native.Mathlib.Omega.{arith}
 use mathlib.Core.Path.{refl}
 use Rattle.composing.proofs.ValueLaws.{number-holds}
 use Rattle.composing.proofs.number.Goals as goal
-
-pub slice_bounds-copy_in-end : goal.slice_bounds-copy_in-end
-slice_bounds-copy_in-end c = omega arith
 
 pub returns : goal.returns
 returns c =

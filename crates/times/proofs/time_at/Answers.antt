@@ -1,35 +1,7 @@
 -- Field by field, two digits each, the year by two pairs.
 use Prim.Native.Nat.{◌+◌, ◌*◌}
-use native.Mathlib.Omega.{arith}
 use Rattle.times.specs.Written.{time_at}
 use Rattle.times.proofs.time_at.Goals as goal
-
-pub two_at-requires : goal.two_at-requires
-two_at-requires c = omega arith
-
-pub overflow_mul-year : goal.overflow_mul-year
-overflow_mul-year c = omega arith
-
-pub two_at-requires-2 : goal.two_at-requires-2
-two_at-requires-2 c = omega arith
-
-pub overflow_add-year : goal.overflow_add-year
-overflow_add-year c = omega arith
-
-pub two_at-month-requires : goal.two_at-month-requires
-two_at-month-requires c = omega arith
-
-pub two_at-day-requires : goal.two_at-day-requires
-two_at-day-requires c = omega arith
-
-pub two_at-hour-requires : goal.two_at-hour-requires
-two_at-hour-requires c = omega arith
-
-pub two_at-minute-requires : goal.two_at-minute-requires
-two_at-minute-requires c = omega arith
-
-pub two_at-second-requires : goal.two_at-second-requires
-two_at-second-requires c = omega arith
 
 pub returns : goal.returns
 unfolding time_at

@@ -1,88 +1,24 @@
 -- The label is compared first, then the end of the value is looked for behind it.
 -- Assumes nothing.
-use mathlib.Core.Path.{◌≡◌, sym, ap, ◌∙◌}
-use mathlib.Core.Bool.{true}
-use mathlib.Core.List.{List}
-use Prim.Native.Nat.{ℕ, ◌+◌, ◌≤◌, ◌<◌}
-use native.Mathlib.Omega.{arith}
-use borrow.Author.Tests.{not-true, not-false, ltb-true}
-use lib.Dec.{ltb}
-use lib.ListN.{length, take, drop, length-drop}
-use Rattle.slices.specs.Slices.{same}
-use Rattle.texts.specs.Breaks.{until_lf}
-use Rattle.attributes.specs.Lines.{label, without_cr}
+use mathlib.Core.Path.{sym, ◌∙◌}
+use Prim.Native.Nat.{◌+◌, ◌≤◌}
+use lib.ListN.{length, drop}
+use Rattle.description.specs.Inner.{Ending}
 use Rattle.description.proofs.ValueLaws.{rest_is}
-use Rattle.description.proofs.SplitLaws.{step-none, not_labelled, label-fits, not_ended, step_line}
+use Rattle.description.proofs.SplitLaws.{label-fits, step_line}
 use Rattle.description.proofs.lines.line_at.Goals as goal
 
-pub labelled-requires : goal.labelled-requires
-labelled-requires c = omega arith
-
-pub returns-then-not-labelled : goal.returns-then-not-labelled
-returns-then-not-labelled c =
-    let a = c.args in
-    step-none a.text.now a.k a.at _ _ (not_labelled a.text.now a.k a.at (sym c.labelled.ensures ∙ c.if-not-labelled.true))
-
-pub overflow_add-at : goal.overflow_add-at
-overflow_add-at c = omega arith
-
 pub slice_bounds-ending-count : goal.slice_bounds-ending-count
-slice_bounds-ending-count c =
-    let is_labelled : same (take 3 (drop c.args.at c.args.text.now)) (label c.args.k) ≡ true = sym c.labelled.ensures ∙ c.if-not-labelled.false in
-    let three_there : c.args.at + 3 ≤ length c.args.text.now = label-fits _ c.args.k _ c.requires is_labelled in
-    three_there
+slice_bounds-ending-count c = label-fits _ c.args.k _ c.requires (sym c.labelled.ensures ∙ c.if-not-labelled.false)
 
 pub slice_bounds-ending-start : goal.slice_bounds-ending-start
-slice_bounds-ending-start c =
-    let is_labelled : same (take 3 (drop c.args.at c.args.text.now)) (label c.args.k) ≡ true = sym c.labelled.ensures ∙ c.if-not-labelled.false in
-    let three_there : c.args.at + 3 ≤ length c.args.text.now = label-fits _ c.args.k _ c.requires is_labelled in
-    three_there
-
-pub slice_bounds-ending-end : goal.slice_bounds-ending-end
-slice_bounds-ending-end c = omega arith
-
-pub returns-then-not-end : goal.returns-then-not-end
-returns-then-not-end c =
-    let is_labelled : same (take 3 (drop c.args.at c.args.text.now)) (label c.args.k) ≡ true = sym c.labelled.ensures ∙ c.if-not-labelled.false in
-    let t : List ℕ = c.args.text.now in
-    let from : ℕ = c.args.at + 3 in
-    let found_is : ltb (until_lf (drop from t)) (length (drop from t)) ≡ c.ending-end.result.found = sym (c.ending-end.ensures.0 ∙ ap (λ (l : List ℕ). ltb (until_lf l) (length l)) (rest_is t from)) in
-    let a = c.args in
-    step-none a.text.now a.k a.at _ _ (not_ended a.text.now a.k a.at is_labelled (found_is ∙ not-true _ c.if-not-end.true))
-
-pub overflow_add-result : goal.overflow_add-result
-overflow_add-result c = omega arith
-
-pub overflow_add-result-2 : goal.overflow_add-result-2
-overflow_add-result-2 c =
-    let is_labelled : same (take 3 (drop c.args.at c.args.text.now)) (label c.args.k) ≡ true = sym c.labelled.ensures ∙ c.if-not-labelled.false in
-    let three_there : c.args.at + 3 ≤ length c.args.text.now = label-fits _ c.args.k _ c.requires is_labelled in
-    let t : List ℕ = c.args.text.now in
-    let from : ℕ = c.args.at + 3 in
-    let found_is : ltb (until_lf (drop from t)) (length (drop from t)) ≡ c.ending-end.result.found = sym (c.ending-end.ensures.0 ∙ ap (λ (l : List ℕ). ltb (until_lf l) (length l)) (rest_is t from)) in
-    let before_is : c.ending-end.result.before ≡ until_lf (drop from t) = c.ending-end.ensures.1 ∙ ap until_lf (rest_is t from) in
-    let end_there : c.args.at + 3 + c.ending-end.result.before < length c.args.text.now = omega (arith, ltb-true (until_lf (drop from t)) (length (drop from t)) (found_is ∙ not-false _ c.if-not-end.false), before_is, length-drop from t, three_there) in
-    omega (arith, end_there)
-
-pub overflow_add-result-3 : goal.overflow_add-result-3
-overflow_add-result-3 c =
-    let is_labelled : same (take 3 (drop c.args.at c.args.text.now)) (label c.args.k) ≡ true = sym c.labelled.ensures ∙ c.if-not-labelled.false in
-    let three_there : c.args.at + 3 ≤ length c.args.text.now = label-fits _ c.args.k _ c.requires is_labelled in
-    let t : List ℕ = c.args.text.now in
-    let from : ℕ = c.args.at + 3 in
-    let found_is : ltb (until_lf (drop from t)) (length (drop from t)) ≡ c.ending-end.result.found = sym (c.ending-end.ensures.0 ∙ ap (λ (l : List ℕ). ltb (until_lf l) (length l)) (rest_is t from)) in
-    let before_is : c.ending-end.result.before ≡ until_lf (drop from t) = c.ending-end.ensures.1 ∙ ap until_lf (rest_is t from) in
-    let end_there : c.args.at + 3 + c.ending-end.result.before < length c.args.text.now = omega (arith, ltb-true (until_lf (drop from t)) (length (drop from t)) (found_is ∙ not-false _ c.if-not-end.false), before_is, length-drop from t, three_there) in
-    omega (arith, end_there)
+slice_bounds-ending-start c = label-fits _ c.args.k _ c.requires (sym c.labelled.ensures ∙ c.if-not-labelled.false)
 
 pub returns : goal.returns
 returns c =
-    let is_labelled : same (take 3 (drop c.args.at c.args.text.now)) (label c.args.k) ≡ true = sym c.labelled.ensures ∙ c.if-not-labelled.false in
-    let three_there : c.args.at + 3 ≤ length c.args.text.now = label-fits _ c.args.k _ c.requires is_labelled in
-    let t : List ℕ = c.args.text.now in
-    let from : ℕ = c.args.at + 3 in
-    let found_is : ltb (until_lf (drop from t)) (length (drop from t)) ≡ c.ending-end.result.found = sym (c.ending-end.ensures.0 ∙ ap (λ (l : List ℕ). ltb (until_lf l) (length l)) (rest_is t from)) in
-    let before_is : c.ending-end.result.before ≡ until_lf (drop from t) = c.ending-end.ensures.1 ∙ ap until_lf (rest_is t from) in
-    let length_is : c.ending-end.result.length ≡ without_cr (drop from t) (until_lf (drop from t)) = c.ending-end.ensures.2 ∙ ap (λ (l : List ℕ). without_cr l (until_lf l)) (rest_is t from) in
     let a = c.args in
-    step_line a.text.now a.k a.at is_labelled three_there _ _ (found_is ∙ not-false _ c.if-not-end.false) before_is length_is
+    let labelled = sym c.labelled.ensures ∙ c.if-not-labelled.false in
+    let three : a.at + 3 ≤ length a.text.now = label-fits _ a.k _ c.requires labelled in
+    let end = c.in_ok-end.end in
+    let ending : Ending (drop (a.at + 3) a.text.now) end.before end.length = rw (rest_is a.text.now (a.at + 3)) at c.in_ok-end.ensures in
+    step_line a.text.now a.k a.at labelled three _ _ ending

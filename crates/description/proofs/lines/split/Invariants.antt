@@ -1,11 +1,7 @@
--- Line by line, until one is missing or all fifteen are there. Invariant: what was found stands before what is still found (`Splitting`). The measure is the lines left.
+-- Line by line, until one is missing or all fifteen are there. Invariant: what was found stands before what is still found (`Splitting`).
 -- Assumes nothing.
-use Prim.Native.Nat.{◌-◌}
 use Rattle.description.proofs.SplitLaws.{Splitting}
 use Rattle.description.proofs.lines.split.Given as goal
 
 abbrev pub invariant-loop-k : goal.invariant-loop-k
-invariant-loop-k l = Splitting l.text l.starts l.lengths l.k l.at
-
-abbrev pub decreases-loop-k : goal.decreases-loop-k
-decreases-loop-k l = 15 - l.k
+invariant-loop-k l = Splitting l.text l.parts l.k l.at
