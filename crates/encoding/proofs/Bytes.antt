@@ -1,17 +1,19 @@
--- Bytes read into a word, and a word's bytes written: what the loops of `register::word` and `register::put_word` keep.
+-- Bytes read into a word, which the loop of `register::word` keeps, and a word's bytes written.
 -- Assumes nothing.
 use mathlib.Core.Path.{◌≡◌, refl, sym, ap, ap₂, ◌∙◌, subst}
-use mathlib.Core.List.{List, [], ◌∷◌, ◌++◌}
-use Prim.Native.Nat.{ℕ, suc, ◌+◌, ◌-◌, ◌*◌, ◌^◌, ◌<◌, ◌≤◌}
-use native.Mathlib.Nat.{lt_of_lt_of_le}
+use mathlib.Core.List.{List, [], ◌∷◌, ◌++◌, append_assoc}
+use Prim.Native.Nat.{ℕ, ◌+◌, ◌-◌, ◌*◌, ◌^◌, ◌<◌, ◌≤◌}
+use native.Mathlib.Nat.{lt_of_lt_of_le, div-one}
 use native.Mathlib.Numerals.{add-one}
 use native.Mathlib.Omega.{arith}
-use lib.ListN.{length, get_or, set, length-set}
-use lib.Seq.{sets}
+use lib.ListN.{length, get_or, take}
+use lib.Seq.{sets, drop-drop}
 use lib.Arith.{digits_lt}
 use lib.Pow.{pow-add, pow_mono}
+use borrow.Rule.Slice.PartMut.{put_mid}
+use Rattle.std.specs.Int.{w64, to_be_bytes}
+use Rattle.std.proofs.lemmas.List.Edits.{sets-eq}
 use Rattle.ground.proofs.Writing.{sets-append}
-use Rattle.words.specs.Words.{byte_at}
 use Rattle.encoding.specs.InnerRegister.{part, unpack, both}
 use Rattle.encoding.proofs.Parts.{part-append}
 use Rattle.encoding.proofs.Words.{length-unpack, unpack_push}
@@ -49,36 +51,19 @@ module _ (d : List ℕ) (at w n : ℕ) (p : Packing d at w n) where
       let e : n ≡ 8 = omega arith in
       ap (λ (k : ℕ). unpack k w) (sym e) ∙ p.held ∙ ap (part d at) e
 
--- the top bytes of w are written; its k low bytes are left
-pub record Unpacking (w at : ℕ) (out₀ out : List ℕ) (i k : ℕ) : Type 0 where
-  pub within : k ≤ 8
-  pub place : i + k ≡ at + 8
-  pub long : length out ≡ length out₀
-  pub left : sets out i (unpack k w) ≡ sets out₀ at (unpack 8 w)
+-- ---- a word's bytes
 
-pub unpacking_start : (w at : ℕ) (out : List ℕ) → Unpacking w at out out at 8
-unpacking_start w at out = record { within = omega arith; place = refl; long = refl; left = refl }
-
-pub unpacking_more : (w at : ℕ) (out₀ out : List ℕ) (i k b : ℕ) → 0 < k → b ≡ byte_at w (k - 1) → Unpacking w at out₀ out i k
-    → Unpacking w at out₀ (set out i b) (i + 1) (k - 1)
-unfolding unpack byte_at
-unpacking_more w at out₀ out i k b h e u =
-    let p : i + k ≡ at + 8 = u.place in
-    let m : k ≤ 8 = u.within in
-    let s : k ≡ suc (k - 1) = omega arith in
-    record {
-      within = omega arith;
-      place = omega arith;
-      long = length-set out i b ∙ u.long;
-      left =
-          ap₂ (λ (x j : ℕ). sets (set out i x) j (unpack (k - 1) w)) e (add-one i)
-          ∙ ap (λ (n : ℕ). sets out i (unpack n w)) (sym s) ∙ u.left;
-    }
-
-pub unpacking_done : (w at : ℕ) (out₀ out : List ℕ) (i k : ℕ) → k ≤ 0 → Unpacking w at out₀ out i k → out ≡ sets out₀ at (unpack 8 w)
+pub bytes_of : (w : ℕ) → to_be_bytes w64 w ≡ unpack 8 w
 unfolding unpack
-unpacking_done w at out₀ out i k h u =
-    let e : k ≡ 0 = omega arith in ap (λ (n : ℕ). sets out i (unpack n w)) (sym e) ∙ u.left
+bytes_of w = rw div-one
+
+-- eight bytes in the place of those that stand from `at` on
+pub put_back : (out bytes : List ℕ) (at w : ℕ) → at + 8 ≤ length out → bytes ≡ unpack 8 w → put_mid at (at + 8 - at) out bytes ≡ sets out at (unpack 8 w)
+put_back out bytes at w h e =
+    let k : at + 8 - at ≡ length (unpack 8 w) = omega (arith, length-unpack 8 w) in
+    ap₂ (λ (n : ℕ) (l : List ℕ). put_mid at n out l) k e
+    ∙ ap (λ (l : List ℕ). take at out ++ (unpack 8 w ++ l)) (drop-drop (length (unpack 8 w)) at out)
+    ∙ sym (append_assoc (take at out) (unpack 8 w) _) ∙ sym (sets-eq (unpack 8 w) out at (omega (arith, length-unpack 8 w)))
 
 pub put_both : (out : List ℕ) (at h l : ℕ) → sets (sets out at (unpack 8 h)) (at + 8) (unpack 8 l) ≡ sets out at (both h l)
 unfolding both

@@ -34,13 +34,11 @@ fn turn(r: Reg, x: u64, t: &[u64; 512]) -> Reg
     let mut w = r.h ^ x;
     let mut h = r.l;
     let mut l: u64 = 0;
-    let mut k: usize = 0;
-    while k < 16 {
+    for k in 0..16 {
         let i = 32 * k + 2 * (w % 16) as usize;
         h = h ^ t[i];
         l = l ^ t[i + 1];
         w = w / 16;
-        k += 1;
     }
     Reg { h, l }
 }
@@ -51,10 +49,8 @@ fn word(d: &[u8], at: usize) -> u64
     ensures { unpack 8 result ≡ part d.now at 8 }
 {
     let mut w: u64 = 0;
-    let mut n: usize = 0;
-    while n < 8 {
+    for n in 0..8 {
         w = w * 256 + words::wide(d[at + n]);
-        n += 1;
     }
     w
 }
@@ -81,10 +77,8 @@ pub(crate) fn checks(d: &[u8], at: usize, t: &[u64; 512]) -> Reg
     ensures { both result.h result.l ≡ checks_at d.now at }
 {
     let mut r = begin(d, at, t);
-    let mut k: usize = 0;
-    while k < 29 {
+    for k in 0..29 {
         r = go_on(r, d, at, k, t);
-        k += 1;
     }
     r
 }
@@ -99,11 +93,9 @@ pub(crate) fn seal_two(rows: &mut [u8], at: usize, t: &[u64; 512])
     let d: &[u8] = rows;
     let mut a = begin(d, at, t);
     let mut b = begin(d, from, t);
-    let mut k: usize = 0;
-    while k < 29 {
+    for k in 0..29 {
         a = go_on(a, d, at, k, t);
         b = go_on(b, d, from, k, t);
-        k += 1;
     }
     put(rows, at + 239, a);
     put(rows, from + 239, b);
@@ -126,13 +118,7 @@ fn put_word(out: &mut [u8], at: usize, w: u64)
     requires { at + 8 ≤ length out.old }
     ensures { out.new ≡ sets out.old at (unpack 8 w) }
 {
-    let mut i = at;
-    let mut k: u64 = 8;
-    while 0 < k {
-        k -= 1;
-        out[i] = words::byte(w, k);
-        i += 1;
-    }
+    out[at..at + 8].copy_from_slice(&w.to_be_bytes());
 }
 
 // Writes the sixteen bytes of a register.

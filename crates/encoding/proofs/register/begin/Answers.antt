@@ -4,9 +4,6 @@ use Rattle.encoding.proofs.Feeding.{feeding_start}
 use native.Mathlib.Omega.{arith}
 use Rattle.encoding.proofs.register.begin.Goals as goal
 
-pub word-requires : goal.word-requires
-word-requires c = omega arith
-
 pub turn-requires : goal.turn-requires
 turn-requires c = c.requires.1
 

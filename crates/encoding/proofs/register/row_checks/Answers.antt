@@ -11,12 +11,6 @@ use Rattle.encoding.proofs.register.row_checks.Goals as goal
 pub checks-q-requires : goal.checks-q-requires
 checks-q-requires c = (omega arith, c.table-t.ensures)
 
-pub slice_bounds-put-end : goal.slice_bounds-put-end
-slice_bounds-put-end c = omega arith
-
-pub put-requires : goal.put-requires
-put-requires c = omega arith
-
 pub returns : goal.returns
 returns c =
     c.put.ensures ∙ sets-all (replicate 16 0) _ (length_both c.checks-q.result.h c.checks-q.result.l)

@@ -1,4 +1,4 @@
--- `register::word` puts one byte after the other below those before it. The invariant: the word so far has the bytes so far, and no more (`Packing`).
+-- From no byte to all eight.
 -- Assumes nothing.
 use native.Mathlib.Omega.{arith}
 use Rattle.encoding.proofs.Bytes.{packing_start, packing-room, packing-more, packing-done}
@@ -10,20 +10,8 @@ loop-n-init c = packing_start _ _
 pub overflow_mul-w : goal.overflow_mul-w
 overflow_mul-w c = omega (arith, packing-room _ _ _ _ c.loop-n.invariant c.loop-n-test.true)
 
-pub overflow_add-at : goal.overflow_add-at
-overflow_add-at c = omega arith
-
-pub bounds-d-at : goal.bounds-d-at
-bounds-d-at c = omega arith
-
 pub overflow_add-w : goal.overflow_add-w
 overflow_add-w c = omega (arith, packing-room _ _ _ _ c.loop-n.invariant c.loop-n-test.true)
-
-pub overflow_add-n : goal.overflow_add-n
-overflow_add-n c = omega arith
-
-pub loop-n-smaller : goal.loop-n-smaller
-loop-n-smaller c = omega arith
 
 pub loop-n-preserved : goal.loop-n-preserved
 loop-n-preserved c =
