@@ -48,11 +48,16 @@ fn word(d: &[u8], at: usize) -> u64
     requires { at + 8 ≤ length d.now }
     ensures { unpack 8 result ≡ part d.now at 8 }
 {
-    let mut w: u64 = 0;
-    for n in 0..8 {
-        w = w * 256 + words::wide(d[at + n]);
-    }
-    w
+    u64::from_be_bytes([
+        d[at],
+        d[at + 1],
+        d[at + 2],
+        d[at + 3],
+        d[at + 4],
+        d[at + 5],
+        d[at + 6],
+        d[at + 7],
+    ])
 }
 
 // The register after the first seven of the 239 bytes of `d` from `at` on.
