@@ -15,20 +15,24 @@ pub(crate) struct Reg {
     pub l: u64,
 }
 
+// The table of what a half byte leaves, by its place and its value, with its rule.
+#[derive(Drop)]
+pub(crate) struct HalfBytes {
+    halves: [u64; 512],
+    ghost ruled: { Halves halves },
+}
+
 // The table. The entry of 1 at the lowest place is the generator itself, without its leading coefficient; the others are multiples of it.
-pub(crate) fn table() -> [u64; 512]
-    ensures { Halves result }
-{
+pub(crate) fn table() -> HalfBytes {
     let generator = crate::GENERATOR;
-    let mut t = halves::HALVES;
-    t[2] = word(&generator, 1);
-    t[3] = word(&generator, 9);
-    t
+    let mut halves = halves::HALVES;
+    halves[2] = word(&generator, 1);
+    halves[3] = word(&generator, 9);
+    HalfBytes { halves }
 }
 
 // The register after the eight bytes of `x`.
-fn turn(r: Reg, x: u64, t: &[u64; 512]) -> Reg
-    requires { Halves t.now }
+fn turn(r: Reg, x: u64, t: &HalfBytes) -> Reg
     ensures { both result.h result.l ≡ run (both r.h r.l) (unpack 8 x) }
 {
     let mut w = r.h ^ x;
@@ -36,8 +40,8 @@ fn turn(r: Reg, x: u64, t: &[u64; 512]) -> Reg
     let mut l: u64 = 0;
     for k in 0..16 {
         let i = 32 * k + 2 * (w % 16) as usize;
-        h = h ^ t[i];
-        l = l ^ t[i + 1];
+        h = h ^ t.halves[i];
+        l = l ^ t.halves[i + 1];
         w = w / 16;
     }
     Reg { h, l }
@@ -61,24 +65,24 @@ fn word(d: &[u8], at: usize) -> u64
 }
 
 // The register after the first seven of the 239 bytes of `d` from `at` on.
-fn begin(d: &[u8], at: usize, t: &[u64; 512]) -> Reg
-    requires { (at + 239 ≤ length d.now) × Halves t.now }
+fn begin(d: &[u8], at: usize, t: &HalfBytes) -> Reg
+    requires { at + 239 ≤ length d.now }
     ensures { Feeding d.now at (both result.h result.l) 0 }
 {
     turn(Reg { h: 0, l: 0 }, word(d, at) / 256, t)
 }
 
 // The register after eight bytes more, of which there were k times eight.
-fn go_on(r: Reg, d: &[u8], at: usize, k: usize, t: &[u64; 512]) -> Reg
-    requires { (at + 239 ≤ length d.now) × (k < 29) × Feeding d.now at (both r.h r.l) k × Halves t.now }
+fn go_on(r: Reg, d: &[u8], at: usize, k: usize, t: &HalfBytes) -> Reg
+    requires { (at + 239 ≤ length d.now) × (k < 29) × Feeding d.now at (both r.h r.l) k }
     ensures { Feeding d.now at (both result.h result.l) (k + 1) }
 {
     turn(r, word(d, at + 8 * k + 7), t)
 }
 
 // The checks of the 239 bytes of `d` from `at` on.
-pub(crate) fn checks(d: &[u8], at: usize, t: &[u64; 512]) -> Reg
-    requires { (at + 239 ≤ length d.now) × Halves t.now }
+pub(crate) fn checks(d: &[u8], at: usize, t: &HalfBytes) -> Reg
+    requires { at + 239 ≤ length d.now }
     ensures { both result.h result.l ≡ checks_at d.now at }
 {
     let mut r = begin(d, at, t);
@@ -90,8 +94,8 @@ pub(crate) fn checks(d: &[u8], at: usize, t: &[u64; 512]) -> Reg
 
 // Writes the checks of two rows that stand one behind the other, each behind its 239 bytes: of the row from `at` on, and of the one from `at + 255` on. The two
 // registers take turns, so that neither waits for the other.
-pub(crate) fn seal_two(rows: &mut [u8], at: usize, t: &[u64; 512])
-    requires { (at + 510 ≤ length rows.old) × Halves t.now }
+pub(crate) fn seal_two(rows: &mut [u8], at: usize, t: &HalfBytes)
+    requires { at + 510 ≤ length rows.old }
     ensures { rows.new ≡ sealed rows.old at }
 {
     let from = at + 255;
@@ -107,8 +111,8 @@ pub(crate) fn seal_two(rows: &mut [u8], at: usize, t: &[u64; 512])
 }
 
 // The remainder of the row of 255 bytes from `at` on.
-pub(crate) fn rest(d: &[u8], at: usize, t: &[u64; 512]) -> Reg
-    requires { (at + 255 ≤ length d.now) × Halves t.now }
+pub(crate) fn rest(d: &[u8], at: usize, t: &HalfBytes) -> Reg
+    requires { at + 255 ≤ length d.now }
     ensures { both result.h result.l ≡ remainder_at d.now at }
 {
     let q = checks(d, at, t);

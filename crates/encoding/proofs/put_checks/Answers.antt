@@ -10,9 +10,6 @@ use Rattle.encoding.proofs.put_checks.Goals as goal
 pub loop-i-init : goal.loop-i-init
 loop-i-init c = checking_start _ _
 
-pub seal_two-requires : goal.seal_two-requires
-seal_two-requires c = (omega arith, c.table-table.ensures)
-
 pub loop-i-preserved : goal.loop-i-preserved
 loop-i-preserved c =
     checking_two _ _ _ (2 * c.loop-i.i) _ (omega arith) c.loop-i.invariant _ (omega arith) (omega arith) c.seal_two.ensures

@@ -21,9 +21,6 @@ rest_is_of b i = refl
 pub loop-i-init : goal.loop-i-init
 loop-i-init c = laid_start _ _ _ _ _
 
-pub rest-r-requires : goal.rest-r-requires
-rest-r-requires c = (omega arith, c.table-t.ensures)
-
 pub put-requires : goal.put-requires
 put-requires c = omega (arith, c.loop-i.invariant.long)
 

@@ -3,15 +3,12 @@
 use Rattle.encoding.proofs.Feeding.{feeding_done}
 use Rattle.encoding.proofs.register.checks.Goals as goal
 
-pub begin-r-requires : goal.begin-r-requires
-begin-r-requires c = c.requires
-
 pub loop-k-init : goal.loop-k-init
 loop-k-init c = c.begin-r.ensures
 
 pub go_on-r-requires : goal.go_on-r-requires
 go_on-r-requires c =
-    (c.requires.0, c.loop-k-test.true, c.loop-k.invariant, c.requires.1)
+    (c.requires, c.loop-k-test.true, c.loop-k.invariant)
 
 pub loop-k-preserved : goal.loop-k-preserved
 loop-k-preserved c = c.go_on-r.ensures

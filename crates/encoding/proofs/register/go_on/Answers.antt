@@ -3,8 +3,5 @@
 use Rattle.encoding.proofs.Feeding.{feeding_more}
 use Rattle.encoding.proofs.register.go_on.Goals as goal
 
-pub turn-requires : goal.turn-requires
-turn-requires c = c.requires.3
-
 pub returns : goal.returns
 returns c = feeding_more _ _ _ _ _ _ c.requires.1 c.word.ensures c.turn.ensures c.requires.2

@@ -1,11 +1,7 @@
 -- `register::rest` adds the checks that came with the row to those that its information has.
 -- Assumes nothing.
-use native.Mathlib.Omega.{arith}
 use Rattle.encoding.proofs.Feeding.{rest_is}
 use Rattle.encoding.proofs.register.rest.Goals as goal
-
-pub checks-q-requires : goal.checks-q-requires
-checks-q-requires c = (omega arith, c.requires.1)
 
 pub returns : goal.returns
 returns c =

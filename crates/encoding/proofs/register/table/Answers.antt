@@ -9,7 +9,7 @@ use Rattle.encoding.specs.InnerRegister.{unpack, both}
 use Rattle.encoding.proofs.Constant.{entries, follow, rows, sixteen, doubled, own-words, from_generator}
 use Rattle.encoding.proofs.register.table.Goals as goal
 
-pub returns : goal.returns
+pub invariant_of-result : goal.invariant_of-result
 unfolding generator entries follow rows sixteen doubled unpack both add scale lower product reduce carryless sum
-returns c =
-    from_generator _ _ _ _ _ (own-words _ _ c.word.ensures c.word-2.ensures) refl refl refl
+invariant_of-result c =
+    record { ruled = from_generator _ _ _ _ _ (own-words _ _ c.word.ensures c.word-2.ensures) refl refl refl }

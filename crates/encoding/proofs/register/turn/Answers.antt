@@ -14,7 +14,7 @@ loop-k-init c = turning_start _ _
 
 pub loop-k-preserved : goal.loop-k-preserved
 loop-k-preserved c =
-    turning_more _ _ _ _ _ _ _ _ c.requires c.loop-k-test.true refl c.loop-k.invariant
+    turning_more _ _ _ _ _ _ _ _ c.args.t.now.ruled c.loop-k-test.true refl c.loop-k.invariant
 
 pub returns : goal.returns
 returns c =
