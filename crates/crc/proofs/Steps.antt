@@ -9,7 +9,7 @@ use native.Mathlib.Omega.{arith}
 use lib.Bits.{xor_block}
 use lib.ListN.{length, get_or, take, drop, length-drop}
 use lib.Pow.{pow_pos, pow-add, shr-shr, high, low}
-use lib.Seq.{drop-cons, drop-drop}
+use lib.Seq.{drop-cons}
 use Rattle.ground.specs.Bits.{sum}
 use Rattle.ground.proofs.Sums.{sum_zero}
 use Rattle.crc.specs.Table.{number, entries, group_by}
@@ -22,9 +22,9 @@ module _ (t : List ℕ) (k v : ℕ) where
   unfolding entries
   two_is = ap (sum (get_or t (k * 16 + v % 16) 0)) (sum_zero (get_or t ((k + 1) * 16 + v / 16 % 16) 0))
 
-  pub four_is : entries t k 8 v
+  pub eight_is : entries t k 8 v
       ≡ sum (entries t k 2 v) (sum (entries t (k + 2) 2 (v / 256)) (sum (entries t (k + 4) 2 (v / 65536)) (entries t (k + 6) 2 (v / 16777216))))
-  four_is =
+  eight_is =
       let p : k + 2 + 2 ≡ k + 4 = omega arith in
       let q : k + 4 + 2 ≡ k + 6 = omega arith in
       entries-append t 2 6 k v
@@ -45,16 +45,11 @@ four_group t r bs =
 one_more : (d : List ℕ) (i n : ℕ) → i < length d → take (suc n) (drop i d) ≡ get_or d i 0 ∷ take n (drop (i + 1) d)
 one_more d i n h = rw (add-one i, drop-cons d i 0)
 
--- a byte as the code has it: the one at i, and below 256
-abbrev pub Byte : List ℕ → ℕ → ℕ → Type 0
-Byte d i b = (b ≡ get_or d i 0) × (b < 256)
-
-pub one_is : (t : List ℕ) (r : ℕ) (d : List ℕ) (i b x : ℕ) → i < length d → Byte d i b → x ≡ entries t 0 2 (sum (r / 16777216) b)
-    → sum x (r * 256 % 4294967296) ≡ group_by 32 t 1 r (drop i d)
+pub one_is : (t : List ℕ) (r b x : ℕ) → b < 256 → x ≡ entries t 0 2 (sum (r / 16777216) b) → sum x (r * 256 % 4294967296) ≡ group_by 32 t 1 r (b ∷ [])
 unfolding group_by
-one_is t r d i b x h (e, l) f =
+one_is t r b x l f =
     let p : r / 16777216 ≡ r * 256 / 4294967296 = omega arith in
-    let n : b ≡ number (take 1 (drop i d)) = sym (ap number (one_more d i 0 h) ∙ number_one (get_or d i 0) ∙ ap (λ (y : ℕ). y % 256) (sym e) ∙ mod-eq_of_lt l) in
+    let n : b ≡ number (b ∷ []) = sym (number_one b ∙ mod-eq_of_lt l) in
     ap (λ (y : ℕ). sum y (r * 256 % 4294967296)) (f ∙ ap₂ (λ (y z : ℕ). entries t 0 2 (sum y z)) p n)
 
 four_bytes_lem : (d : List ℕ) (i : ℕ) → i + 4 ≤ length d
@@ -67,10 +62,10 @@ four_bytes_lem d i h =
     ∙ ap (λ (l : List ℕ). get_or d (i + 1) 0 ∷ l) (ap (λ (j : ℕ). take 2 (drop j d)) p ∙ one_more d (i + 2) 1 (omega arith)
     ∙ ap (λ (l : List ℕ). get_or d (i + 2) 0 ∷ l) (ap (λ (j : ℕ). take 1 (drop j d)) q ∙ one_more d (i + 3) 0 (omega arith))))
 
-pub word_is : (d : List ℕ) (i b₀ b₁ b₂ b₃ : ℕ) → i + 4 ≤ length d → Byte d i b₀ → Byte d (i + 1) b₁ → Byte d (i + 2) b₂ → Byte d (i + 3) b₃
-    → b₀ * 16777216 + b₁ * 65536 + b₂ * 256 + b₃ ≡ number (take 4 (drop i d))
+pub word_is : (d : List ℕ) (i : ℕ) → i + 4 ≤ length d → ((k : ℕ) → get_or d k 0 < 256)
+    → get_or d i 0 * 16777216 + get_or d (i + 1) 0 * 65536 + get_or d (i + 2) 0 * 256 + get_or d (i + 3) 0 ≡ number (take 4 (drop i d))
 unfolding number
-word_is d i b₀ b₁ b₂ b₃ h (e₀, l₀) (e₁, l₁) (e₂, l₂) (e₃, l₃) = sym (ap number (four_bytes_lem d i h) ∙ omega arith)
+word_is d i h l = sym (ap number (four_bytes_lem d i h) ∙ omega (arith, l i, l (i + 1), l (i + 2), l (i + 3)))
 
 -- ---- a group of sixteen bytes: the last word first, and then what stands above it
 word_lt : (m : ℕ) (bs : List ℕ) → m + 4 ≤ length bs → number (take 4 (drop m bs)) < 2 ^ 32
@@ -94,20 +89,17 @@ entries-last t k n r j m bs h =
     ∙ entries-append t 8 n k (x * 2 ^ 32 + y)
     ∙ ap₂ (λ (u v : ℕ). sum u (entries t (k + 8) n v)) (entries-low t 8 k (x * 2 ^ 32 + y) y (low x 32 l ∙ sym (mod-eq_of_lt l))) (high x 32 l)
 
-pub sixteen_is : (t : List ℕ) (r : ℕ) (d : List ℕ) (i : ℕ) → i + 16 ≤ length d → group_by 32 t 16 r (drop i d)
-    ≡ sum (entries t 0 8 (number (take 4 (drop (i + 12) d)))) (sum (entries t 8 8 (number (take 4 (drop (i + 8) d))))
-    (sum (entries t 16 8 (number (take 4 (drop (i + 4) d)))) (entries t 24 8 (sum r (number (take 4 (drop i d)))))))
+pub sixteen_is : (t : List ℕ) (r : ℕ) (bs : List ℕ) → 16 ≤ length bs → group_by 32 t 16 r bs
+    ≡ sum (entries t 0 8 (number (take 4 (drop 12 bs)))) (sum (entries t 8 8 (number (take 4 (drop 8 bs))))
+    (sum (entries t 16 8 (number (take 4 (drop 4 bs)))) (entries t 24 8 (sum r (number (take 4 bs))))))
 unfolding group_by
-sixteen_is t r d i h =
-    let bs : List ℕ = drop i d in
-    let l : 16 ≤ length bs = simp length-drop (omega arith) in
+sixteen_is t r bs l =
     let up : r * 2 ^ 128 ≡ r * 2 ^ 96 * 2 ^ 32 = sym (mul_assoc r (2 ^ 96) (2 ^ 32)) in
     let same : r * 2 ^ 0 ≡ r = mul-one r in
-    let at : (m : ℕ) → number (take 4 (drop m bs)) ≡ number (take 4 (drop (i + m) d)) = λ m. ap (λ (x : List ℕ). number (take 4 x)) (drop-drop m i d) in
     ap₂ (λ (x y : ℕ). sum (entries t 0 32 (sum x (number (take 16 bs)))) y)
     (ap (λ (x : ℕ). x / 2 ^ 32) up ∙ mul-div_cancel (r * 2 ^ 96) (pow_pos 32)) (ap (λ (x : ℕ). x % 2 ^ 32) up ∙ mul-mod_left (r * 2 ^ 96) (2 ^ 32))
     ∙ sum_zero (entries t 0 32 (sum (r * 2 ^ 96) (number (take 16 bs))))
     ∙ entries-last t 0 24 r 64 12 bs l
-    ∙ ap₂ sum (ap (entries t 0 8) (at 12)) (entries-last t 8 16 r 32 8 bs (omega arith)
-    ∙ ap₂ sum (ap (entries t 8 8) (at 8)) (entries-last t 16 8 r 0 4 bs (omega arith)
-    ∙ ap₂ sum (ap (entries t 16 8) (at 4)) (ap (λ (x : ℕ). entries t 24 8 (sum x (number (take 4 bs)))) same)))
+    ∙ ap (sum (entries t 0 8 (number (take 4 (drop 12 bs))))) (entries-last t 8 16 r 32 8 bs (omega arith)
+    ∙ ap (sum (entries t 8 8 (number (take 4 (drop 8 bs))))) (entries-last t 16 8 r 0 4 bs (omega arith)
+    ∙ ap (λ (x : ℕ). sum (entries t 16 8 (number (take 4 (drop 4 bs)))) (entries t 24 8 (sum x (number (take 4 bs))))) same))

@@ -1,48 +1,55 @@
 -- The walk over a table: its turns, and that it is the register's own walk where the table keeps the rule.
 -- Assumes nothing.
-use mathlib.Core.Path.{◌≡◌, sym, ap, ap₂, ◌∙◌}
+use mathlib.Core.Path.{◌≡◌, refl, sym, ap, ap₂, ◌∙◌}
 use mathlib.Core.List.{List, [], ◌∷◌}
-use Prim.Native.Nat.{ℕ, zero, suc, ◌+◌, ◌-◌, ◌*◌, ◌/◌, ◌%◌, ◌^◌, ◌<◌, ◌≤◌}
-use native.Mathlib.Nat.{div-eq-sub-div, div-eq_of_lt, div-mul-le_self, zero-mul, zero-lt-suc}
-use native.Mathlib.Numerals.{add-one}
+use Prim.Native.Nat.{ℕ, zero, suc, ◌+◌, ◌*◌, ◌/◌, ◌%◌, ◌^◌, ◌<◌, ◌≤◌}
+use native.Mathlib.Nat.{div-one, div-mul-le_self, zero-mul, zero-lt-suc}
 use native.Mathlib.Omega.{arith}
 use lib.Dec.{lit<, lit≤}
 use lib.ListN.{length, take, drop, length-drop, take-append-drop, drop_of_length-le}
 use lib.Seq.{drop-drop, length-take-le}
+use Rattle.std.specs.List.{fold}
+use Rattle.std.specs.Simd.{first_chunks}
+use Rattle.std.proofs.lemmas.List.{take-take}
 use Rattle.ground.specs.Bits.{sum}
 use Rattle.crc.specs.Crc.{bits, feed}
-use Rattle.crc.specs.Table.{Rule, number, group_by, groups_by, feed_by}
+use Rattle.crc.specs.Table.{Rule, number, entries, group_by, groups_by, feed_by}
 use Rattle.crc.proofs.Linear.{bits-top_any, feed-none, feed-append}
 use Rattle.crc.proofs.Numbers.{feed-bits}
 use Rattle.crc.proofs.Entries.{entries_zero}
 
--- ---- any table: a size's turn, and its end
-module _ (w : ℕ) (t : List ℕ) (n : ℕ) (ns : List ℕ) where
-  pub feed_by_turn : (r : ℕ) (bs : List ℕ) → 0 < n → n ≤ length bs → feed_by w t (n ∷ ns) r bs ≡ feed_by w t (n ∷ ns) (group_by w t n r bs) (drop n bs)
-  unfolding feed_by groups_by
-  feed_by_turn r bs p h =
-      let q : ℕ = length (drop n bs) / n in
-      let e : length bs / n ≡ suc q =
-      div-eq-sub-div p h ∙ ap (λ (x : ℕ). x / n + 1) (sym (length-drop n bs)) ∙ add-one q in
-      let f : suc q * n ≡ n + q * n = omega arith in
-      ap₂ (λ (x : ℕ) (l : List ℕ). feed_by w t ns (groups_by w t n x r bs) l) e
-      (ap (λ (x : ℕ). drop (x * n) bs) e ∙ ap (λ (x : ℕ). drop x bs) f ∙ sym (drop-drop (q * n) n bs))
+-- ---- any table: what the code folds over the groups of one size
+module _ (w : ℕ) (t : List ℕ) where
+  group_take : (n r : ℕ) (bs : List ℕ) → group_by w t n r (take n bs) ≡ group_by w t n r bs
+  unfolding group_by
+  group_take n r bs =
+      let h : n ≤ n = omega arith in
+      ap (λ (l : List ℕ). sum (entries t 0 (n * 2) (sum (r * 2 ^ (n * 8) / 2 ^ w) (number l))) (r * 2 ^ (n * 8) % 2 ^ w)) (take-take n n bs h)
 
-  pub feed_by_end : (r : ℕ) (bs : List ℕ) → length bs < n → feed_by w t (n ∷ ns) r bs ≡ feed_by w t ns r bs
-  unfolding feed_by groups_by
-  feed_by_end r bs h =
-      ap (λ (q : ℕ). feed_by w t ns (groups_by w t n q r bs) (drop (q * n) bs)) (div-eq_of_lt h)
-      ∙ ap (λ (x : ℕ). feed_by w t ns r (drop x bs)) (zero-mul n)
+  pub fold_groups : (n q r : ℕ) (bs : List ℕ) → fold (group_by w t n) r (first_chunks n q bs) ≡ groups_by w t n q r bs
+  unfolding groups_by
+  fold_groups n zero r bs = refl
+  fold_groups n (suc q) r bs =
+      ap (λ (x : ℕ). fold (group_by w t n) x (first_chunks n q (drop n bs))) (group_take n r bs) ∙ fold_groups n q (group_by w t n r bs) (drop n bs)
 
-  -- the same where the code stands at i of the bytes d, at the register r, and has the answer a to come
-  pub turn_at : (r i r' a : ℕ) (d : List ℕ) → 0 < n → i + n ≤ length d → r' ≡ group_by w t n r (drop i d)
-      → feed_by w t (n ∷ ns) r (drop i d) ≡ a → feed_by w t (n ∷ ns) r' (drop (i + n) d) ≡ a
-  turn_at r i r' a d p h e f =
-      ap₂ (feed_by w t (n ∷ ns)) e (sym (drop-drop n i d))
-      ∙ sym (feed_by_turn r (drop i d) p (simp length-drop (omega arith))) ∙ f
+  fold_ones : (r : ℕ) (bs : List ℕ) → fold (λ x b. group_by w t 1 x (b ∷ [])) r bs ≡ groups_by w t 1 (length bs) r bs
+  unfolding groups_by
+  fold_ones r [] = refl
+  fold_ones r (b ∷ bs) =
+      ap (λ (x : ℕ). fold (λ y c. group_by w t 1 y (c ∷ [])) x bs) (group_take 1 r (b ∷ bs)) ∙ fold_ones (group_by w t 1 r (b ∷ bs)) bs
 
-  pub end_at : (r i a : ℕ) (d : List ℕ) → length d - i < n → feed_by w t (n ∷ ns) r (drop i d) ≡ a → feed_by w t ns r (drop i d) ≡ a
-  end_at r i a d h f = sym (feed_by_end r (drop i d) (simp length-drop h)) ∙ f
+  -- the groups of the last size, one byte each
+  pub fed_ones : (r a : ℕ) (bs : List ℕ) → a ≡ fold (λ x b. group_by w t 1 x (b ∷ [])) r bs → a ≡ feed_by w t (1 ∷ []) r bs
+  unfolding feed_by
+  fed_ones r a bs e = e ∙ fold_ones r bs ∙ ap (λ (q : ℕ). groups_by w t 1 q r bs) (sym (div-one (length bs)))
+
+  -- the groups of a size, and then what is behind them
+  pub fed_groups : (n : ℕ) (ns : List ℕ) (r s a : ℕ) (bs rest : List ℕ) (parts : List (List ℕ))
+      → parts ≡ first_chunks n (length bs / n) bs → rest ≡ drop (length bs / n * n) bs
+      → s ≡ fold (group_by w t n) r parts → a ≡ feed_by w t ns s rest → a ≡ feed_by w t (n ∷ ns) r bs
+  unfolding feed_by
+  fed_groups n ns r s a bs rest parts p q e f =
+      f ∙ ap₂ (feed_by w t ns) (e ∙ ap (fold (group_by w t n) r) p ∙ fold_groups n (length bs / n) r bs) q
 
 -- ---- a table that keeps the rule
 

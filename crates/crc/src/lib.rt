@@ -19,63 +19,38 @@ pub fn table() -> [u32; 512]
 pub fn feed_by(table: &[u32; 512], register: u32, bytes: &[u8]) -> u32
     ensures { result ≡ feed_by 32 table.now (16 ∷ 4 ∷ 1 ∷ []) register bytes.now }
 {
-    let mut r = register;
-    let mut i: usize = 0;
-    while 16 <= bytes.len() - i {
-        r = sixteen(table, r, bytes, i);
-        i += 16;
-    }
-    feed_fours(table, r, bytes, i)
-}
-
-// The bytes from `from` on, four at a time, and then one at a time.
-fn feed_fours(t: &[u32; 512], register: u32, bytes: &[u8], from: usize) -> u32
-    requires { from ≤ length bytes.now }
-    ensures { result ≡ feed_by 32 t.now (4 ∷ 1 ∷ []) register (drop from bytes.now) }
-{
-    let mut r = register;
-    let mut i = from;
-    while 4 <= bytes.len() - i {
-        r = four(t, 0, r ^ word(bytes, i));
-        i += 4;
-    }
-    feed_ones(t, r, bytes, i)
-}
-
-// The bytes from `from` on, one at a time.
-fn feed_ones(t: &[u32; 512], register: u32, bytes: &[u8], from: usize) -> u32
-    requires { from ≤ length bytes.now }
-    ensures { result ≡ feed_by 32 t.now (1 ∷ []) register (drop from bytes.now) }
-{
-    let mut r = register;
-    let mut i = from;
-    while i < bytes.len() {
-        r = one(t, r, bytes, i);
-        i += 1;
-    }
-    r
+    let (sixteens, rest) = bytes.as_chunks::<16>();
+    let (fours, ones) = rest.as_chunks::<4>();
+    let r = sixteens.iter().fold(register, |r, b| sixteen(table, r, b));
+    let s = fours.iter().fold(r, |r, b| four(table, r, b));
+    ones.iter().fold(s, |r, b| one(table, r, *b))
 }
 
 // Sixteen bytes go in. The word that waits for the register comes last, so that the others need not wait.
-fn sixteen(t: &[u32; 512], register: u32, bytes: &[u8], i: usize) -> u32
-    requires { i + 16 ≤ length bytes.now }
-    ensures { result ≡ group_by 32 t.now 16 register (drop i bytes.now) }
+fn sixteen(t: &[u32; 512], register: u32, bytes: &[u8; 16]) -> u32
+    ensures { result ≡ group_by 32 t.now 16 register bytes.now }
 {
-    four(t, 0, word(bytes, i + 12))
-        ^ (four(t, 8, word(bytes, i + 8))
-            ^ (four(t, 16, word(bytes, i + 4)) ^ four(t, 24, register ^ word(bytes, i))))
+    eight(t, 0, word(bytes, 12))
+        ^ (eight(t, 8, word(bytes, 8))
+            ^ (eight(t, 16, word(bytes, 4)) ^ eight(t, 24, register ^ word(bytes, 0))))
+}
+
+// Four bytes go in.
+fn four(t: &[u32; 512], register: u32, bytes: &[u8; 4]) -> u32
+    ensures { result ≡ group_by 32 t.now 4 register bytes.now }
+{
+    eight(t, 0, register ^ word(bytes, 0))
 }
 
 // One byte goes in.
-fn one(t: &[u32; 512], register: u32, bytes: &[u8], i: usize) -> u32
-    requires { i < length bytes.now }
-    ensures { result ≡ group_by 32 t.now 1 register (drop i bytes.now) }
+fn one(t: &[u32; 512], register: u32, b: u8) -> u32
+    ensures { result ≡ group_by 32 t.now 1 register (b ∷ []) }
 {
-    two(t, 0, (register >> 24) ^ words::wide32(bytes[i])) ^ (register << 8)
+    two(t, 0, (register >> 24) ^ words::wide32(b)) ^ (register << 8)
 }
 
 // The entries of a word's eight half bytes, from row k on.
-fn four(t: &[u32; 512], k: usize, v: u32) -> u32
+fn eight(t: &[u32; 512], k: usize, v: u32) -> u32
     requires { k ≤ 24 }
     ensures { result ≡ entries t.now k 8 v }
 {
@@ -98,7 +73,7 @@ fn at(t: &[u32; 512], k: usize, v: u32) -> u32
     t[k * 16 + (v % 16) as usize]
 }
 
-// Four bytes as one number, the first one highest.
+// Four bytes as one number, the first one highest. (`u32::from_be_bytes` swaps a whole word, which is then taken apart by half bytes: a fifth slower.)
 fn word(bytes: &[u8], i: usize) -> u32
     requires { i + 4 ≤ length bytes.now }
     ensures { result ≡ number (take 4 (drop i bytes.now)) }

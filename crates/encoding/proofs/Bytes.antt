@@ -1,84 +1,64 @@
--- Bytes read into a word, and a word's bytes written: what the loops of `register::word` and `register::put_word` keep.
+-- Bytes read into a word, and a word's bytes written.
 -- Assumes nothing.
-use mathlib.Core.Path.{◌≡◌, refl, sym, ap, ap₂, ◌∙◌, subst}
-use mathlib.Core.List.{List, [], ◌∷◌, ◌++◌}
-use Prim.Native.Nat.{ℕ, suc, ◌+◌, ◌-◌, ◌*◌, ◌^◌, ◌<◌, ◌≤◌}
-use native.Mathlib.Nat.{lt_of_lt_of_le}
-use native.Mathlib.Numerals.{add-one}
+use mathlib.Core.Path.{◌≡◌, refl, sym, ap, ap₂, ◌∙◌}
+use mathlib.Core.List.{List, [], ◌∷◌, ◌++◌, append_assoc}
+use Prim.Native.Nat.{ℕ, zero, suc, ◌+◌, ◌-◌, ◌<◌, ◌≤◌}
+use native.Mathlib.Nat.{div-one}
 use native.Mathlib.Omega.{arith}
-use lib.ListN.{length, get_or, set, length-set}
-use lib.Seq.{sets}
-use lib.Arith.{digits_lt}
-use lib.Pow.{pow-add, pow_mono}
+use lib.ListN.{length, get_or, take}
+use lib.Seq.{sets, drop-drop}
+use borrow.Rule.Slice.PartMut.{put_mid}
+use Rattle.std.specs.Int.{w64, to_be_bytes, from_be_bytes}
+use Rattle.std.proofs.lemmas.Nat.{be_bytes_8}
+use Rattle.std.proofs.lemmas.List.Edits.{sets-eq}
 use Rattle.ground.proofs.Writing.{sets-append}
-use Rattle.words.specs.Words.{byte_at}
 use Rattle.encoding.specs.InnerRegister.{part, unpack, both}
-use Rattle.encoding.proofs.Parts.{part-append}
-use Rattle.encoding.proofs.Words.{length-unpack, unpack_push}
+use Rattle.encoding.proofs.Words.{length-unpack}
 
--- w has the n bytes from at on, and no more
-pub record Packing (d : List ℕ) (at w n : ℕ) : Type 0 where
-  pub within : n ≤ 8
-  pub small : w < 2 ^ (n * 8)
-  pub held : unpack n w ≡ part d at n
+-- ---- a word's bytes
 
-pub packing_start : (d : List ℕ) (at : ℕ) → Packing d at 0 0
+pub bytes_of : (w : ℕ) → to_be_bytes w64 w ≡ unpack 8 w
 unfolding unpack
-packing_start d at = record { within = omega arith; small = omega arith; held = refl }
+bytes_of w = rw div-one
 
-module _ (d : List ℕ) (at w n : ℕ) (p : Packing d at w n) where
-  -- there is room for one byte more
-  pub packing-room : n < 8 → w < 2 ^ 56
-  packing-room h = lt_of_lt_of_le p.small (pow_mono {i = n * 8} {j = 56} (omega arith))
+-- the eight bytes of d from `at` on, as the code has them
+module _ (d : List ℕ) (at : ℕ) where
+  abbrev eight : List ℕ
+  eight = get_or d at 0 ∷ get_or d (at + 1) 0 ∷ get_or d (at + 2) 0 ∷ get_or d (at + 3) 0 ∷ get_or d (at + 4) 0 ∷ get_or d (at + 5) 0 ∷ get_or d (at + 6) 0 ∷ get_or d (at + 7) 0 ∷ []
 
-  pub packing-more : (b : ℕ) → n < 8 → b < 256 → b ≡ get_or d (at + n) 0 → Packing d at (w * 256 + b) (n + 1)
-  packing-more b h j e =
-      let s : n * 8 + 8 ≡ (n + 1) * 8 = omega arith in
-      record {
-        within = omega arith;
-        small = subst (λ (x : ℕ). w * 256 + b < x) (sym (pow-add 2 (n * 8) 8) ∙ ap (λ (x : ℕ). 2 ^ x) s) (digits_lt p.small j);
-        held =
-            ap (λ (k : ℕ). unpack k (w * 256 + b)) (add-one n) ∙ unpack_push n w b j
-            ∙ ap₂ (λ (l : List ℕ) (x : ℕ). l ++ (x ∷ [])) p.held e
-            ∙ sym (part-append d at n 1);
-      }
+  eight_part : eight ≡ part d at 8
+  eight_part =
+      let e1 : at + 1 ≡ suc at = omega arith in
+      let e2 : at + 2 ≡ suc (suc at) = omega arith in
+      let e3 : at + 3 ≡ suc (suc (suc at)) = omega arith in
+      let e4 : at + 4 ≡ suc (suc (suc (suc at))) = omega arith in
+      let e5 : at + 5 ≡ suc (suc (suc (suc (suc at)))) = omega arith in
+      let e6 : at + 6 ≡ suc (suc (suc (suc (suc (suc at))))) = omega arith in
+      let e7 : at + 7 ≡ suc (suc (suc (suc (suc (suc (suc at)))))) = omega arith in
+      λ i. get_or d at 0 ∷ get_or d (e1 i) 0 ∷ get_or d (e2 i) 0 ∷ get_or d (e3 i) 0 ∷ get_or d (e4 i) 0 ∷ get_or d (e5 i) 0 ∷ get_or d (e6 i) 0 ∷ get_or d (e7 i) 0 ∷ []
 
-  pub packing-done : 8 ≤ n → unpack 8 w ≡ part d at 8
-  packing-done h =
-      let j : n ≤ 8 = p.within in
-      let e : n ≡ 8 = omega arith in
-      ap (λ (k : ℕ). unpack k w) (sym e) ∙ p.held ∙ ap (part d at) e
+  module _ (fit : (k : ℕ) → get_or d k 0 < 256) where
+    small : (i : ℕ) → get_or eight i 0 < 256
+    small zero = fit at
+    small (suc zero) = fit (at + 1)
+    small (suc (suc zero)) = fit (at + 2)
+    small (suc (suc (suc zero))) = fit (at + 3)
+    small (suc (suc (suc (suc zero)))) = fit (at + 4)
+    small (suc (suc (suc (suc (suc zero))))) = fit (at + 5)
+    small (suc (suc (suc (suc (suc (suc zero)))))) = fit (at + 6)
+    small (suc (suc (suc (suc (suc (suc (suc zero))))))) = fit (at + 7)
+    small (suc (suc (suc (suc (suc (suc (suc (suc i)))))))) = omega arith
 
--- the top bytes of w are written; its k low bytes are left
-pub record Unpacking (w at : ℕ) (out₀ out : List ℕ) (i k : ℕ) : Type 0 where
-  pub within : k ≤ 8
-  pub place : i + k ≡ at + 8
-  pub long : length out ≡ length out₀
-  pub left : sets out i (unpack k w) ≡ sets out₀ at (unpack 8 w)
+    pub word_is : (w : ℕ) → w ≡ from_be_bytes w64 eight → unpack 8 w ≡ part d at 8
+    word_is w e = sym (bytes_of w) ∙ be_bytes_8 eight w refl small e ∙ eight_part
 
-pub unpacking_start : (w at : ℕ) (out : List ℕ) → Unpacking w at out out at 8
-unpacking_start w at out = record { within = omega arith; place = refl; long = refl; left = refl }
-
-pub unpacking_more : (w at : ℕ) (out₀ out : List ℕ) (i k b : ℕ) → 0 < k → b ≡ byte_at w (k - 1) → Unpacking w at out₀ out i k
-    → Unpacking w at out₀ (set out i b) (i + 1) (k - 1)
-unfolding unpack byte_at
-unpacking_more w at out₀ out i k b h e u =
-    let p : i + k ≡ at + 8 = u.place in
-    let m : k ≤ 8 = u.within in
-    let s : k ≡ suc (k - 1) = omega arith in
-    record {
-      within = omega arith;
-      place = omega arith;
-      long = length-set out i b ∙ u.long;
-      left =
-          ap₂ (λ (x j : ℕ). sets (set out i x) j (unpack (k - 1) w)) e (add-one i)
-          ∙ ap (λ (n : ℕ). sets out i (unpack n w)) (sym s) ∙ u.left;
-    }
-
-pub unpacking_done : (w at : ℕ) (out₀ out : List ℕ) (i k : ℕ) → k ≤ 0 → Unpacking w at out₀ out i k → out ≡ sets out₀ at (unpack 8 w)
-unfolding unpack
-unpacking_done w at out₀ out i k h u =
-    let e : k ≡ 0 = omega arith in ap (λ (n : ℕ). sets out i (unpack n w)) (sym e) ∙ u.left
+-- eight bytes in the place of those that stand from `at` on
+pub put_back : (out bytes : List ℕ) (at w : ℕ) → at + 8 ≤ length out → bytes ≡ unpack 8 w → put_mid at (at + 8 - at) out bytes ≡ sets out at (unpack 8 w)
+put_back out bytes at w h e =
+    let k : at + 8 - at ≡ length (unpack 8 w) = omega (arith, length-unpack 8 w) in
+    ap₂ (λ (n : ℕ) (l : List ℕ). put_mid at n out l) k e
+    ∙ ap (λ (l : List ℕ). take at out ++ (unpack 8 w ++ l)) (drop-drop (length (unpack 8 w)) at out)
+    ∙ sym (append_assoc (take at out) (unpack 8 w) _) ∙ sym (sets-eq (unpack 8 w) out at (omega (arith, length-unpack 8 w)))
 
 pub put_both : (out : List ℕ) (at h l : ℕ) → sets (sets out at (unpack 8 h)) (at + 8) (unpack 8 l) ≡ sets out at (both h l)
 unfolding both

@@ -66,17 +66,17 @@ module _ (b₀ b : List ℕ) (n r : ℕ) (room : n * 255 ≤ length b₀) (c : C
   checking_done h e = laid_done (checked_row b₀) 255 n 0 b₀ b r h c.laid ∙ ap (λ (k : ℕ). sets b₀ 0 (pieces (checked_row b₀) k 0)) e
 
 -- two rows at once: the first one's checks are no information of the second
-pub checking_two : (b₀ b : List ℕ) (n r : ℕ) → n * 255 ≤ length b₀ → Checking b₀ b n r → (next : List ℕ) → r + 2 ≤ n → next ≡ sealed b (r * 255)
-    → Checking b₀ next n (r + 2)
+pub checking_two : (b₀ b : List ℕ) (n r s : ℕ) → n * 255 ≤ length b₀ → Checking b₀ b n r → (next : List ℕ) → s ≡ r + 2 → s ≤ n → next ≡ sealed b (r * 255)
+    → Checking b₀ next n s
 unfolding sealed checks_at
-checking_two b₀ b n r room c next h e =
+checking_two b₀ b n r s room c next g h e =
     let o : ℕ = r * 255 in
     let x : List ℕ = sets b (o + 239) (checks_at b o) in
     let d : Checking b₀ x n (r + 1) = checking_more b₀ b n r room c x (checks_at b o) (omega arith) refl refl in
-    let s : part b (o + 255) 239 ≡ part x (o + 255) 239 =
+    let p : part b (o + 255) 239 ≡ part x (o + 255) 239 =
     same_info b₀ b n r room c (o + 255) (omega arith) ∙ sym (same_info b₀ x n (r + 1) room d (o + 255) (omega arith)) in
     let u : o + 255 ≡ (r + 1) * 255 = omega arith in
-    let v : r + 1 + 1 ≡ r + 2 = omega arith in
+    let v : r + 1 + 1 ≡ s = omega arith in
     subst (Checking b₀ next n) v
     (checking_more b₀ x n (r + 1) room d next (checks_at x ((r + 1) * 255)) (omega arith) refl
-    (e ∙ ap (λ (q : List ℕ). sets x (o + 255 + 239) (checks_of q)) s ∙ ap (λ (k : ℕ). sets x (k + 239) (checks_at x k)) u))
+    (e ∙ ap (λ (q : List ℕ). sets x (o + 255 + 239) (checks_of q)) p ∙ ap (λ (k : ℕ). sets x (k + 239) (checks_at x k)) u))

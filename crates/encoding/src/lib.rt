@@ -52,11 +52,11 @@ pub fn put_checks(rows: &mut [u8])
     let table = register::table();
     let t = &table;
     let n = rows.len() / 255;
-    let mut r: usize = 0;
-    while r + 2 <= n {
-        register::seal_two(rows, r * 255, t);
-        r += 2;
+    let pairs = n / 2;
+    for i in 0..pairs {
+        register::seal_two(rows, 2 * i * 255, t);
     }
+    let r = 2 * pairs;
     if n <= r {
         return;
     }
@@ -70,15 +70,12 @@ pub fn put_checks(rows: &mut [u8])
 pub fn remainders(rows: &[u8]) -> [u8; 240]
     ensures { result ≡ remainders_of rows.now }
 {
-    let whole = rows.len() / 255;
-    let n: usize = if 15 < whole { 15 } else { whole };
+    let n = (rows.len() / 255).min(15);
     let t = register::table();
     let mut out = [0u8; 240];
-    let mut i: usize = 0;
-    while i < n {
+    for i in 0..n {
         let r = register::rest(rows, i * 255, &t);
         register::put(&mut out, i * 16, r);
-        i += 1;
     }
     out
 }

@@ -15,32 +15,34 @@ pub(crate) struct Reg {
     pub l: u64,
 }
 
+// The table of what a half byte leaves, by its place and its value, with its rule.
+#[derive(Drop)]
+pub(crate) struct HalfBytes {
+    halves: [u64; 512],
+    ghost ruled: { Halves halves },
+}
+
 // The table. The entry of 1 at the lowest place is the generator itself, without its leading coefficient; the others are multiples of it.
-pub(crate) fn table() -> [u64; 512]
-    ensures { Halves result }
-{
+pub(crate) fn table() -> HalfBytes {
     let generator = crate::GENERATOR;
-    let mut t = halves::HALVES;
-    t[2] = word(&generator, 1);
-    t[3] = word(&generator, 9);
-    t
+    let mut halves = halves::HALVES;
+    halves[2] = word(&generator, 1);
+    halves[3] = word(&generator, 9);
+    HalfBytes { halves }
 }
 
 // The register after the eight bytes of `x`.
-fn turn(r: Reg, x: u64, t: &[u64; 512]) -> Reg
-    requires { Halves t.now }
+fn turn(r: Reg, x: u64, t: &HalfBytes) -> Reg
     ensures { both result.h result.l ≡ run (both r.h r.l) (unpack 8 x) }
 {
     let mut w = r.h ^ x;
     let mut h = r.l;
     let mut l: u64 = 0;
-    let mut k: usize = 0;
-    while k < 16 {
+    for k in 0..16 {
         let i = 32 * k + 2 * (w % 16) as usize;
-        h = h ^ t[i];
-        l = l ^ t[i + 1];
+        h = h ^ t.halves[i];
+        l = l ^ t.halves[i + 1];
         w = w / 16;
-        k += 1;
     }
     Reg { h, l }
 }
@@ -50,68 +52,67 @@ fn word(d: &[u8], at: usize) -> u64
     requires { at + 8 ≤ length d.now }
     ensures { unpack 8 result ≡ part d.now at 8 }
 {
-    let mut w: u64 = 0;
-    let mut n: usize = 0;
-    while n < 8 {
-        w = w * 256 + words::wide(d[at + n]);
-        n += 1;
-    }
-    w
+    u64::from_be_bytes([
+        d[at],
+        d[at + 1],
+        d[at + 2],
+        d[at + 3],
+        d[at + 4],
+        d[at + 5],
+        d[at + 6],
+        d[at + 7],
+    ])
 }
 
 // The register after the first seven of the 239 bytes of `d` from `at` on.
-fn begin(d: &[u8], at: usize, t: &[u64; 512]) -> Reg
-    requires { (at + 239 ≤ length d.now) × Halves t.now }
+fn begin(d: &[u8], at: usize, t: &HalfBytes) -> Reg
+    requires { at + 239 ≤ length d.now }
     ensures { Feeding d.now at (both result.h result.l) 0 }
 {
     turn(Reg { h: 0, l: 0 }, word(d, at) / 256, t)
 }
 
 // The register after eight bytes more, of which there were k times eight.
-fn go_on(r: Reg, d: &[u8], at: usize, k: usize, t: &[u64; 512]) -> Reg
-    requires { (at + 239 ≤ length d.now) × (k < 29) × Feeding d.now at (both r.h r.l) k × Halves t.now }
+fn go_on(r: Reg, d: &[u8], at: usize, k: usize, t: &HalfBytes) -> Reg
+    requires { (at + 239 ≤ length d.now) × (k < 29) × Feeding d.now at (both r.h r.l) k }
     ensures { Feeding d.now at (both result.h result.l) (k + 1) }
 {
     turn(r, word(d, at + 8 * k + 7), t)
 }
 
 // The checks of the 239 bytes of `d` from `at` on.
-pub(crate) fn checks(d: &[u8], at: usize, t: &[u64; 512]) -> Reg
-    requires { (at + 239 ≤ length d.now) × Halves t.now }
+pub(crate) fn checks(d: &[u8], at: usize, t: &HalfBytes) -> Reg
+    requires { at + 239 ≤ length d.now }
     ensures { both result.h result.l ≡ checks_at d.now at }
 {
     let mut r = begin(d, at, t);
-    let mut k: usize = 0;
-    while k < 29 {
+    for k in 0..29 {
         r = go_on(r, d, at, k, t);
-        k += 1;
     }
     r
 }
 
 // Writes the checks of two rows that stand one behind the other, each behind its 239 bytes: of the row from `at` on, and of the one from `at + 255` on. The two
 // registers take turns, so that neither waits for the other.
-pub(crate) fn seal_two(rows: &mut [u8], at: usize, t: &[u64; 512])
-    requires { (at + 510 ≤ length rows.old) × Halves t.now }
+pub(crate) fn seal_two(rows: &mut [u8], at: usize, t: &HalfBytes)
+    requires { at + 510 ≤ length rows.old }
     ensures { rows.new ≡ sealed rows.old at }
 {
     let from = at + 255;
     let d: &[u8] = rows;
     let mut a = begin(d, at, t);
     let mut b = begin(d, from, t);
-    let mut k: usize = 0;
-    while k < 29 {
+    for k in 0..29 {
         a = go_on(a, d, at, k, t);
         b = go_on(b, d, from, k, t);
-        k += 1;
     }
     put(rows, at + 239, a);
     put(rows, from + 239, b);
 }
 
 // The remainder of the row of 255 bytes from `at` on.
-pub(crate) fn rest(d: &[u8], at: usize, t: &[u64; 512]) -> Reg
-    requires { (at + 255 ≤ length d.now) × Halves t.now }
+pub(crate) fn rest(d: &[u8], at: usize, t: &HalfBytes) -> Reg
+    requires { at + 255 ≤ length d.now }
     ensures { both result.h result.l ≡ remainder_at d.now at }
 {
     let q = checks(d, at, t);
@@ -126,13 +127,7 @@ fn put_word(out: &mut [u8], at: usize, w: u64)
     requires { at + 8 ≤ length out.old }
     ensures { out.new ≡ sets out.old at (unpack 8 w) }
 {
-    let mut i = at;
-    let mut k: u64 = 8;
-    while 0 < k {
-        k -= 1;
-        out[i] = words::byte(w, k);
-        i += 1;
-    }
+    out[at..at + 8].copy_from_slice(&w.to_be_bytes());
 }
 
 // Writes the sixteen bytes of a register.

@@ -45,14 +45,12 @@ horner_suc n a b = ap (sum (keep (a % 2) b)) (sym (horner_doubled n (a / 2) b))
 
 -- s is what is added after i steps, x is the factor a doubled i times
 pub record Adding (a b x s i : ℕ) : Type 0 where
-  pub within : i ≤ 8
   pub word : s < 2 ^ 64
   pub left : (k : ℕ) → k < 8 → sum (byte_at s k) (horner (8 - i) (byte_at b k / 2 ^ i) (byte_at x k)) ≡ product (byte_at a k) (byte_at b k)
 
 pub adding_start : (a b : ℕ) → Adding a b a 0 0
 adding_start a b =
     record {
-      within = omega arith;
       word = lit< tt;
       left =
           λ k h.
@@ -65,7 +63,7 @@ adding_start a b =
 
 pub adding_step : {a b x s i : ℕ} → Adding a b x s i → i < 8 → (s' x' : ℕ) → Taken s x b i s' → Doubled x x' → Adding a b x' s' (i + 1)
 adding_step {a} {b} {x} {s} {i} so l s' x' taken doubled =
-    record { within = omega arith; word = taken.word; left = λ k h. left_step k h }
+    record { word = taken.word; left = λ k h. left_step k h }
   where
     left_step : (k : ℕ) → k < 8 → sum (byte_at s' k) (horner (8 - (i + 1)) (byte_at b k / 2 ^ (i + 1)) (byte_at x' k)) ≡ product (byte_at a k) (byte_at b k)
     left_step k h =

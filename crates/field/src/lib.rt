@@ -1,7 +1,7 @@
 // GF(256): the bytes as a field, document 01, section 3. The sum of two elements is `^`. Products are formed without a table, by repeated doubling, eight in a word.
 #![tactic(auto)]
 
-ghost use Rattle.std.specs.Prelude.{◌≡◌};
+ghost use Rattle.std.specs.Prelude.{◌≡◌, ◌<◌};
 ghost use Rattle.field.specs.Field.{product, Inverse};
 ghost use Rattle.field.specs.Tables.{Powers};
 ghost use Rattle.field.specs.Words.{Doubled, Products, Inverses};
@@ -39,18 +39,13 @@ pub fn products(a: Sixteen, b: Sixteen) -> Sixteen
     let mut high: u64 = 0;
     let mut x = a.low;
     let mut y = a.high;
-    let mut i: u64 = 0;
-    while i < 8 {
+    for i in 0..8 {
         low = bitwise::take(low, x, b.low, i);
         high = bitwise::take(high, y, b.high, i);
         x = doubles(x);
         y = doubles(y);
-        i += 1;
     }
-    Sixteen {
-        low: low,
-        high: high,
-    }
+    Sixteen { low, high }
 }
 
 // One over each of sixteen elements; 0 for 0. That is the power 254, since the power 255 is 1.
@@ -67,18 +62,22 @@ pub fn inverses(a: Sixteen) -> Sixteen
     products(x240, x14)
 }
 
+// A byte as the first of sixteen elements, the others 0.
+fn first(b: u8) -> Sixteen
+    ensures { (result.low ≡ b) × (b < 256) }
+{
+    Sixteen {
+        low: words::wide(b),
+        high: 0,
+    }
+}
+
 // The product of two elements.
 pub fn mul(a: u8, b: u8) -> u8
     ensures { result ≡ product a b }
 {
-    let x = Sixteen {
-        low: words::wide(a),
-        high: 0,
-    };
-    let y = Sixteen {
-        low: words::wide(b),
-        high: 0,
-    };
+    let x = first(a);
+    let y = first(b);
     let r = products(x, y);
     words::byte(r.low, 0)
 }
@@ -87,8 +86,7 @@ pub fn mul(a: u8, b: u8) -> u8
 pub fn inverse(a: u8) -> u8
     ensures { Inverse a result }
 {
-    let w = words::wide(a);
-    let x = Sixteen { low: w, high: 0 };
-    let r = inverses(x);
+    let w = first(a);
+    let r = inverses(w);
     words::byte(r.low, 0)
 }

@@ -12,38 +12,35 @@ fn marked(packet: &[u8]) -> bool
     requires { 14 ≤ length packet.now }
     ensures { result ≡ marked packet.now }
 {
-    if packet[0] != 0x49 {
-        return false;
-    }
-    packet[1] == 0x59 && packet[2] == 0x69
+    packet[0] == 0x49 && packet[1] == 0x59 && packet[2] == 0x69
 }
 
 // The sixteen bits of the resource: bytes 3 and 4.
 fn resource_in(high: u8, low: u8) -> u16
     ensures { result ≡ high * 256 + low }
 {
-    high as u16 * 256 + low as u16
+    u16::from(high) * 256 + u16::from(low)
 }
 
 // The twenty bits of the packet number: bytes 5 and 6 and the high half of byte 7.
 fn number_in(high: u8, middle: u8, low: u8) -> u32
     ensures { result ≡ high * 4096 + middle * 16 + low / 16 }
 {
-    high as u32 * 4096 + middle as u32 * 16 + low as u32 / 16
+    u32::from(high) * 4096 + u32::from(middle) * 16 + u32::from(low) / 16
 }
 
 // The twelve bits of the packet length: byte 8 and the high half of byte 9.
 fn length_in(high: u8, low: u8) -> u16
     ensures { result ≡ high * 16 + low / 16 }
 {
-    high as u16 * 16 + low as u16 / 16
+    u16::from(high) * 16 + u16::from(low) / 16
 }
 
 // The twenty bits of the packet count: the low half of byte 9 and bytes 10 and 11.
 fn count_in(high: u8, middle: u8, low: u8) -> u32
     ensures { result ≡ high % 16 * 65536 + middle * 256 + low }
 {
-    high as u32 % 16 * 65536 + middle as u32 * 256 + low as u32
+    u32::from(high) % 16 * 65536 + u32::from(middle) * 256 + u32::from(low)
 }
 
 // The eight bits of the rows: the low half of byte 12 and the high half of byte 13.
@@ -93,10 +90,7 @@ fn bad_rows(rows: bool, fields: Packet, n: usize) -> bool
     requires { 19 ≤ n }
     ensures { result ≡ rows && bad_rows fields n }
 {
-    if !rows {
-        return false;
-    }
-    fields.protection == 1 && (n - (Packet::HEADER + Packet::CRC)) % 255 != 0
+    rows && fields.protection == 1 && (n - (Packet::HEADER + Packet::CRC)) % 255 != 0
 }
 
 // The fields of a packet of n bytes, or the first of the refusals 4 to 8; 7 only where rows are judged.

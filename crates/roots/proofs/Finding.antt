@@ -41,7 +41,6 @@ same_test m n p q f g = go (eqb m n) (eqb p q) refl refl
 
 -- b times eight exponents behind 0 have been tried
 pub record Finding (v : List ℕ) (first top n : ℕ) (at t : List ℕ) (b : ℕ) : Type 0 where
-  pub within : b ≤ 32
   pub bytes : (i : ℕ) → get_or v i 0 < 256
   pub constant : get_or t 0 0 ≡ first
   pub stretched : Stretched (8 * b) v t
@@ -54,7 +53,6 @@ pub finding_start : (v : List ℕ) (top n x : ℕ) (at : List ℕ) → ((i : ℕ
 unfolding passing
 finding_start v top n x at fit short e noted =
     record {
-      within = omega arith;
       bytes = fit;
       constant = refl;
       stretched = record { sized = refl; entry = λ i. sym (ap (λ (j : ℕ). product (get_or v i 0) (power j)) (zero_times i) ∙ ap (product (get_or v i 0)) power_zero ∙ one_product (get_or v i 0) (fit i)) };
@@ -101,7 +99,6 @@ module _ {v : List ℕ} {first top n : ℕ} {at t : List ℕ} {b : ℕ} (was : F
       let s : length t ≡ length v = was.stretched.sized in
       let n : length t ≡ 9 = was.short.sized in
       record {
-        within = omega arith;
         bytes = was.bytes;
         constant = is.first ∙ was.constant;
         stretched = record { sized = is.sized ∙ sym n ∙ s; entry = further };
@@ -148,9 +145,8 @@ answer l n at h r e =
     (λ k s. let z : length at ≡ 16 = h.sized in h.entry k (omega arith) ∙ sym (get_or-listed_0 (λ j. get_or l j 0) 16 k 0 (omega arith))))
     ∙ sym e
 
-pub finding_end : {v : List ℕ} {first top n : ℕ} {at t : List ℕ} {b : ℕ} → Finding v first top n at t b → 32 ≤ b → ◌≡◌ {A = Roots} (record { n = n; at = at }) (roots_of v)
+pub finding_end : {v : List ℕ} {first top n : ℕ} {at t : List ℕ} {b : ℕ} → Finding v first top n at t b → b ≡ 32 → ◌≡◌ {A = Roots} (record { n = n; at = at }) (roots_of v)
 unfolding roots_of
 finding_end {v} {first} {top} {n} {at} {t} {b} was h =
-    let le : b ≤ 32 = was.within in
     let e : 8 * b + 1 ≡ 257 = omega arith in
     answer (root_list v) n at (subst (λ (l : List ℕ). Held l n at) (ap (λ (k : ℕ). passing (inside v) k 0) e ∙ all_roots v) was.held) (roots_of v) refl

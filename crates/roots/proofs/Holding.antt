@@ -93,13 +93,12 @@ passes x y e p h = go (eqb x y) (ltb e 255) refl refl
 
 -- the exponents e + 1 to e + k have been looked at
 pub record Looking (w y e n₀ : ℕ) (at₀ : List ℕ) (n : ℕ) (at : List ℕ) (k : ℕ) : Type 0 where
-  pub within : k ≤ 8
   pub sized : length at ≡ 16
   pub held : (l : List ℕ) (f : ℕ → Bool) → ((j : ℕ) → j < 8 → f (e + 1 + j) ≡ (eqb (byte_at w j) y && ltb (e + 1 + j) 255)) → Held l n₀ at₀ → Held (l ++ passing f k (e + 1)) n at
 
 pub looking_start : (w y e n : ℕ) (at : List ℕ) → length at ≡ 16 → Looking w y e n at n at 0
 unfolding passing
-looking_start w y e n at long = record { within = omega arith; sized = long; held = λ l f q h. rw (append-nil l) h }
+looking_start w y e n at long = record { sized = long; held = λ l f q h. rw (append-nil l) h }
 
 pub looking_more : {w y e n₀ : ℕ} {at₀ : List ℕ} {n : ℕ} {at : List ℕ} {k : ℕ} → Looking w y e n₀ at₀ n at k → k < 8 → (x : ℕ) → x ≡ byte_at w k
     → (m : ℕ) (next : List ℕ) → length next ≡ 16
@@ -107,7 +106,6 @@ pub looking_more : {w y e n₀ : ℕ} {at₀ : List ℕ} {n : ℕ} {at : List �
     → Looking w y e n₀ at₀ m next (k + 1)
 looking_more {w} {y} {e} {n₀} {at₀} {n} {at} {k} was h x q m next long step =
     record {
-      within = omega arith;
       sized = long;
       held = λ l f a b.
           let s : single (f (e + 1 + k)) (e + 1 + k) ≡ single (eqb x y && ltb (e + 1 + k) 255) (e + 1 + k) =
@@ -119,12 +117,10 @@ looking_more {w} {y} {e} {n₀} {at₀} {n} {at} {k} was h x q m next long step 
           (step (l ++ passing f k (e + 1)) (was.held l f a b));
     }
 
-pub looking_end : {w y e n₀ : ℕ} {at₀ : List ℕ} {n : ℕ} {at : List ℕ} {k : ℕ} → Looking w y e n₀ at₀ n at k → 8 ≤ k
+pub looking_end : {w y e n₀ : ℕ} {at₀ : List ℕ} {n : ℕ} {at : List ℕ} {k : ℕ} → Looking w y e n₀ at₀ n at k → k ≡ 8
     → (l : List ℕ) (f : ℕ → Bool) → ((j : ℕ) → j < 8 → f (e + 1 + j) ≡ (eqb (byte_at w j) y && ltb (e + 1 + j) 255)) → Held l n₀ at₀
     → Held (l ++ passing f 8 (e + 1)) n at
-looking_end {w} {y} {e} {n₀} {at₀} {n} {at} {k} was h l f a b =
-    let le : k ≤ 8 = was.within in
-    let i : k ≡ 8 = omega arith in
+looking_end {w} {y} {e} {n₀} {at₀} {n} {at} {k} was i l f a b =
     rw i at (was.held l f a b)
 
 -- none of the eight bytes is y

@@ -5,9 +5,11 @@ use mathlib.Core.List.{List, [], ◌∷◌}
 use Prim.Native.Nat.{ℕ, zero, suc, ◌+◌, ◌*◌, ◌≤◌, ◌<◌, zero-le, suc-le-suc}
 use native.Mathlib.Omega.{arith}
 use lib.ListN.{length, get_or, drop}
-use lib.Seq.{drop-cons, drop-nil, get_or-drop}
+use lib.Seq.{drop-cons, drop-nil}
+use lib.Bits.{bit_xor}
+use Rattle.std.specs.List.{fold}
 use Rattle.ground.specs.Bits.{sum}
-use Rattle.ground.proofs.Sums.{sum_assoc, zero_sum}
+use Rattle.ground.proofs.Sums.{sum_assoc, sum_zero, zero_sum}
 use Rattle.field.specs.Field.{product, expo, power}
 use Rattle.field.proofs.Laws.{ring, product-byte, product_assoc, product_comm, product_one, product_zero, product-power, expo-byte, expo-power, power_zero}
 use Rattle.code.specs.Code.{Bytes}
@@ -39,17 +41,20 @@ eval-above (c ∷ w) (suc n) x z = eval-above w n x (λ m h. z (suc m) (suc-le-s
 
 -- ---- at 1 the coefficients are added
 
-pub one_more : (v : List ℕ) (s i : ℕ) → ((m : ℕ) → get_or v m 0 < 256) → i < length v → sum s (eval (drop i v) (power 0)) ≡ eval v (power 0)
-    → sum (sum s (get_or v i 0)) (eval (drop (i + 1) v) (power 0)) ≡ eval v (power 0)
-one_more v s i fit h e =
-    let n : i + 1 ≡ suc i = omega arith in
-    let r : ℕ = eval (drop (suc i) v) (power 0) in
-    let bytes : Bytes (drop (suc i) v) = bytes_of (drop (suc i) v) (λ m. rw get_or-drop (fit (suc i + m))) in
-    ap (λ (j : ℕ). sum (sum s (get_or v i 0)) (eval (drop j v) (power 0))) n
-    ∙ sum_assoc s (get_or v i 0) r
-    ∙ ap (λ (z : ℕ). sum s (sum (get_or v i 0) z)) (sym (ap (λ (y : ℕ). product y r) power_zero ∙ product_one r (eval-byte (drop (suc i) v) (power 0) bytes)))
-    ∙ ap (sum s) (sym (eval-drop v i (power 0) h))
-    ∙ e
+one_more : (c s : ℕ) (u : List ℕ) → Bytes u → sum (sum s c) (eval u (power 0)) ≡ sum s (eval (c ∷ u) (power 0))
+one_more c s u bytes =
+    let r : ℕ = eval u (power 0) in
+    sum_assoc s c r
+    ∙ ap (λ (z : ℕ). sum s (sum c z)) (sym (ap (λ (y : ℕ). product y r) power_zero ∙ product_one r (eval-byte u (power 0) bytes)))
+    ∙ ap (sum s) (sym (eval_cons c u (power 0)))
+
+fold_all : (v : List ℕ) (s : ℕ) → ((m : ℕ) → get_or v m 0 < 256) → fold sum s v ≡ sum s (eval v (power 0))
+fold_all [] s fit = sym (ap (sum s) (eval_nil (power 0)) ∙ sum_zero s)
+fold_all (c ∷ u) s fit = fold_all u (sum s c) (λ m. fit (suc m)) ∙ one_more c s u (bytes_of u (λ m. fit (suc m)))
+
+pub fold_value : (v : List ℕ) (r : ℕ) → ((m : ℕ) → get_or v m 0 < 256) → r ≡ fold bit_xor 0 v → r ≡ eval v (power 0)
+unfolding sum
+fold_value v r fit e = e ∙ fold_all v 0 fit ∙ zero_sum (eval v (power 0))
 
 -- ---- coefficients times the powers of y
 

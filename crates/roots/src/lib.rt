@@ -29,11 +29,9 @@ pub fn find(v: [u8; 9]) -> Roots
     let mut n = search::note(&mut at, 0, at_one(v), 0, 0);
     let first = v[0];
     let mut t = products::wide(v);
-    let mut b: usize = 0;
-    while b < 32 {
+    for b in 0..32 {
         let w = products::move_on(&mut t, top, &table);
         n = search::look(&mut at, n, w, first, 8 * b);
-        b += 1;
     }
     Roots { n, at }
 }
@@ -42,25 +40,17 @@ pub fn find(v: [u8; 9]) -> Roots
 fn last(v: [u8; 9]) -> usize
     ensures { (result ≤ 8) × Short result v }
 {
-    let mut top: usize = 8;
-    while 0 < top {
+    for top in (1..9).rev() {
         if v[top] != 0 {
             return top;
         }
-        top -= 1;
     }
-    top
+    0
 }
 
 // The value at 1.
 fn at_one(v: [u8; 9]) -> u8
     ensures { result ≡ eval v (power 0) }
 {
-    let mut sum: u8 = 0;
-    let mut i: usize = 0;
-    while i < 9 {
-        sum = sum ^ v[i];
-        i += 1;
-    }
-    sum
+    v.iter().fold(0, |sum, c| sum ^ *c)
 }

@@ -11,10 +11,8 @@ fn put_block(t: &mut [u64; 256], at: usize, n: usize, w: u64)
     requires { (length t.old ≡ 256) × (at + 2 * n ≤ 256) }
     ensures { Added n n at w t.old t.new }
 {
-    let mut j: usize = 0;
-    while j < n {
+    for j in 0..n {
         t[at + n + j] = t[at + j] ^ w;
-        j += 1;
     }
 }
 
@@ -40,12 +38,10 @@ pub(crate) fn table(top: usize) -> [u64; 256]
 {
     let points = table::POINTS;
     let mut t = [0u64; 256];
-    let mut i: usize = 0;
-    while i < top {
+    for i in 0..top {
         put_multiples(&mut t, 32 * i, points[i]);
         let high = field::doubles(t[32 * i + 8]);
         put_multiples(&mut t, 32 * i + 16, high);
-        i += 1;
     }
     t
 }
@@ -65,10 +61,8 @@ pub(crate) fn wide(v: [u8; 9]) -> [u64; 9]
     ensures { result ≡ v }
 {
     let mut t = [0u64; 9];
-    let mut i: usize = 0;
-    while i < 9 {
+    for i in 0..9 {
         t[i] = words::wide(v[i]);
-        i += 1;
     }
     t
 }
@@ -79,12 +73,10 @@ pub(crate) fn move_on(t: &mut [u64; 9], top: usize, words: &[u64; 256]) -> u64
     ensures { Moved t.old result t.new }
 {
     let mut sum: u64 = 0;
-    let mut i: usize = 0;
-    while i < top {
+    for i in 0..top {
         let w = word(words, i, t[i + 1]);
         sum = sum ^ w;
         t[i + 1] = (w >> 56) % 256;
-        i += 1;
     }
     sum
 }

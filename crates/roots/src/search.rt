@@ -47,10 +47,8 @@ fn look_each(at: &mut [u8; 16], n: usize, w: u64, y: u8, e: usize) -> usize
     ensures { Looked w y e n at.old result at.new }
 {
     let mut m = n;
-    let mut k: usize = 0;
-    while k < 8 {
+    for k in 0..8 {
         m = note(at, m, words::byte(w, k as u64), y, e + 1 + k);
-        k += 1;
     }
     m
 }

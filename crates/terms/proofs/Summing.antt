@@ -96,14 +96,12 @@ come_all rest j long bytes =
 -- ---- the turns over the bits, from bit i on
 
 pub record Coming (rest : List ℕ) (s : Sixteen) (i : ℕ) : Type 0 where
-  pub within : i ≤ 8
   pub words : InWords s
   pub come : (j : ℕ) → j < 16 → entry s j ≡ come_by rest i j
 
 pub coming_start : (rest : List ℕ) → Coming rest (record { low = 0; high = 0 }) 8
 coming_start rest =
     record {
-      within = omega arith;
       words = record { low = omega arith; high = omega arith };
       come = λ j h. nothing j ∙ sym (come_none rest j);
     }
@@ -111,18 +109,17 @@ coming_start rest =
     nothing : (j : ℕ) → entry (record { low = 0; high = 0 }) j ≡ 0
     nothing j = ⊎_elim (λ (h : j < 8). entry-low _ j h ∙ byte_zero j) (λ (h : 8 ≤ j). entry-high _ j h ∙ byte_zero (j - 8)) (lt_or_ge j 8)
 
-pub coming_more : {rest : List ℕ} {s : Sixteen} {i : ℕ} → Coming rest s i → 0 < i → (r : Sixteen) → InWords r → ((j : ℕ) → j < 16 → entry r j ≡ turned rest (i - 1) (entry s j) j)
+pub coming_more : {rest : List ℕ} {s : Sixteen} {i : ℕ} → Coming rest s i → 0 < i → i ≤ 8 → (r : Sixteen) → InWords r → ((j : ℕ) → j < 16 → entry r j ≡ turned rest (i - 1) (entry s j) j)
     → Coming rest r (i - 1)
 unfolding turned
-coming_more {rest} {s} {i} was some r words next =
+coming_more {rest} {s} {i} was some within r words next =
     let e : suc (i - 1) ≡ i = omega arith in
     record {
-      within = omega (arith, was.within);
       words = words;
       come = λ j h.
           next j h
           ∙ ap (λ (x : ℕ). sum x (added rest (i - 1) 16 j)) (product-two (entry s j) (entry_small s j) ∙ ap double (was.come j h ∙ ap (λ (n : ℕ). come_by rest n j) (sym e)))
-          ∙ come_more rest (i - 1) j (omega (arith, was.within));
+          ∙ come_more rest (i - 1) j (omega arith);
     }
 
 pub coming_end : {rest : List ℕ} {s : Sixteen} {i : ℕ} → Coming rest s i → i ≤ 0 → length rest ≡ 16 → ((m : ℕ) → get_or rest m 0 < 256) → Syndromes rest s
@@ -136,7 +133,6 @@ word_kept : (e w k : ℕ) → e < 2 → w < 2 ^ 64 → byte_at (bit_and (e * 0xF
 word_kept e w k h fit = ap (λ (z : ℕ). byte_at z k) (masked 64 e w h fit) ∙ byte-keep e w k
 
 pub record Adding (rest : List ℕ) (s : Sixteen) (i : ℕ) (low high m : ℕ) : Type 0 where
-  pub within : m ≤ 16
   pub words : InWords (record { low = low; high = high })
   pub sums : (j : ℕ) → j < 16 → entry (record { low = low; high = high }) j ≡ sum (product 2 (entry s j)) (added rest i m j)
 
@@ -157,7 +153,6 @@ pub adding_start : (rest : List ℕ) (s : Sixteen) (i : ℕ) {low high : ℕ} �
 unfolding added total
 adding_start rest s i {low} {high} l h =
     record {
-      within = omega arith;
       words = record { low = l.word; high = h.word };
       sums = λ j b. doubled j b ∙ sym (sum_zero (product 2 (entry s j)));
     }
@@ -176,7 +171,6 @@ adding_more {rest} {s} {i} {low} {high} {m} was more {t} points b q =
     let d : ℕ = get_or t (2 * m + 1) 0 in
     let small : e < 2 = mod-lt (b / 2 ^ i) (zero-lt-suc 1) in
     record {
-      within = omega arith;
       words =
           record {
             low = xor_lt 64 low (bit_and (e * 0xFFFFFFFFFFFFFFFF) c) was.words.low (le_lt_trans (and_le_r (e * 0xFFFFFFFFFFFFFFFF) c) (points.word (2 * m)));
@@ -192,9 +186,8 @@ adding_more {rest} {s} {i} {low} {high} {m} was more {t} points b q =
     le_lt_trans : {x y z : ℕ} → x ≤ y → y < z → x < z
     le_lt_trans p r = omega arith
 
-pub adding_end : {rest : List ℕ} {s : Sixteen} {i low high m : ℕ} → Adding rest s i low high m → 16 ≤ m
+pub adding_end : {rest : List ℕ} {s : Sixteen} {i low high m : ℕ} → Adding rest s i low high m → m ≡ 16
     → InWords (record { low = low; high = high }) × ((j : ℕ) → j < 16 → entry (record { low = low; high = high }) j ≡ turned rest i (entry s j) j)
 unfolding turned
-adding_end {rest} {s} {i} {low} {high} {m} was h =
-    let e : m ≡ 16 = omega (arith, was.within) in
+adding_end {rest} {s} {i} {low} {high} {m} was e =
     (was.words, λ j b. was.sums j b ∙ ap (λ (n : ℕ). sum (product 2 (entry s j)) (added rest i n j)) e)

@@ -17,11 +17,8 @@ pub fn syndromes(rest: [u8; 16]) -> Sixteen
 {
     let points = table();
     let mut s = Sixteen { low: 0, high: 0 };
-    let mut i: u64 = 8;
-    while 0 < i {
-        i -= 1;
-        let next = turn(s, rest, i, &points);
-        s = next;
+    for i in (0..8).rev() {
+        s = turn(s, rest, i, &points);
     }
     s
 }
@@ -40,12 +37,10 @@ fn turn(s: Sixteen, rest: [u8; 16], i: u64, points: &[u64; 32]) -> Sixteen
 {
     let mut low = field::doubles(s.low);
     let mut high = field::doubles(s.high);
-    let mut m: usize = 0;
-    while m < 16 {
+    for m in 0..16 {
         let all = ((words::wide(rest[m]) >> i) % 2) * 0xFFFFFFFFFFFFFFFF;
         low = low ^ (all & points[2 * m]);
         high = high ^ (all & points[2 * m + 1]);
-        m += 1;
     }
     Sixteen { low, high }
 }

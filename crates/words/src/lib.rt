@@ -11,21 +11,21 @@ ghost use Rattle.words.specs.Words.{byte_at};
 pub fn wide(b: u8) -> u64
     ensures { (result ≡ b) × (result < 256) }
 {
-    b as u64
+    u64::from(b)
 }
 
 // A byte as a word of 32 bits.
 pub fn wide32(b: u8) -> u32
     ensures { (result ≡ b) × (result < 256) }
 {
-    b as u32
+    u32::from(b)
 }
 
 // A byte as an index.
 pub fn index(b: u8) -> usize
     ensures { (result ≡ b) × (result < 256) }
 {
-    b as usize
+    usize::from(b)
 }
 
 // Byte k of a word, the lowest one counted 0; it has eight, and 0 stands for any behind them.
@@ -49,7 +49,7 @@ pub fn within(low: u64, high: u64, n: u64) -> bool
 pub fn lesser(a: usize, b: usize) -> usize
     ensures { result ≡ min a b }
 {
-    if a <= b { a } else { b }
+    a.min(b)
 }
 
 // a over b, rounded up; 0 where b is 0.
@@ -59,8 +59,5 @@ pub fn over(a: usize, b: usize) -> usize
     if b == 0 {
         return 0;
     }
-    if a == 0 {
-        return 0;
-    }
-    (a - 1) / b + 1
+    a.div_ceil(b)
 }

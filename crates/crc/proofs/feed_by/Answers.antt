@@ -1,38 +1,16 @@
--- `crc::feed_by` walks by sixteen bytes, and leaves fewer than sixteen to `feed_fours`. The invariant: what is left from i on gives, from the present register, the answer.
+-- `crc::feed_by` folds the groups of each size into the register, one size after the other, as the walk over a table does.
 -- Assumes nothing.
-use native.Mathlib.Omega.{arith}
-use borrow.Author.Rules.{rules}
-use mathlib.Core.Path.{refl, ◌∙◌}
-use mathlib.Core.List.{[], ◌∷◌}
-use Rattle.crc.proofs.Walk.{turn_at, end_at}
+use Rattle.std.proofs.Common.{rules, ◌≡◌, ◌∷◌, [], List, ℕ}
+use Rattle.std.specs.List.{fold}
+use Rattle.crc.specs.Table.{group_by}
+use Rattle.crc.proofs.Walk.{fed_ones, fed_groups}
 use Rattle.crc.proofs.feed_by.Goals as goal
-
-pub loop-i-init : goal.loop-i-init
-loop-i-init c = (search rules, refl)
-
-pub overflow_sub-bytes : goal.overflow_sub-bytes
-overflow_sub-bytes c = omega arith
-
-pub sixteen-r-requires : goal.sixteen-r-requires
-sixteen-r-requires c = omega arith
-
-pub overflow_add-i : goal.overflow_add-i
-overflow_add-i c = omega arith
-
-pub loop-i-smaller : goal.loop-i-smaller
-loop-i-smaller c = omega arith
-
-pub loop-i-preserved : goal.loop-i-preserved
-loop-i-preserved c =
-    let s = c.args in
-    let l = c.loop-i in
-    (search rules, turn_at 32 s.table.now 16 (4 ∷ 1 ∷ []) l.r l.i c.sixteen-r.result _ s.bytes.now (search rules) (search rules) c.sixteen-r.ensures l.invariant.1)
-
-pub feed_fours-requires : goal.feed_fours-requires
-feed_fours-requires c = omega arith
 
 pub returns : goal.returns
 returns c =
-    let s = c.args in
-    let l = c.loop-i in
-    c.feed_fours.ensures ∙ end_at 32 s.table.now 16 (4 ∷ 1 ∷ []) l.r l.i _ s.bytes.now c.loop-i-test.false l.invariant.1
+    let t : List ℕ = c.args.table.now in
+    let sixteens : c.fold-r.result ≡ fold (group_by 32 t 16) c.args.register c.as_chunks.result.0.now = search rules in
+    let fours : c.fold-s.result ≡ fold (group_by 32 t 4) c.fold-r.result c.as_chunks-2.result.0.now = search rules in
+    let ones : c.fold.result ≡ fold (λ x b. group_by 32 t 1 x (b ∷ [])) c.fold-s.result c.as_chunks-2.result.1.now = search rules in
+    fed_groups 32 t 16 (4 ∷ 1 ∷ []) _ _ _ _ _ _ c.as_chunks.ensures.front c.as_chunks.ensures.back sixteens
+    (fed_groups 32 t 4 (1 ∷ []) _ _ _ _ _ _ c.as_chunks-2.ensures.front c.as_chunks-2.ensures.back fours (fed_ones 32 t _ _ _ ones))

@@ -15,9 +15,6 @@ pub returns-then-info-ne239 : goal.returns-then-info-ne239
 unfolding encode_of
 returns-then-info-ne239 c = rw (ne_eqb (length c.args.info.now) 239 (search rules))
 
-pub row_checks-requires : goal.row_checks-requires
-row_checks-requires c = omega arith
-
 pub returns : goal.returns
 unfolding encode_of
 returns c =

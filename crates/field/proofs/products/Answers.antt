@@ -1,4 +1,4 @@
--- `field::products` doubles one factor and adds it where the other has a bit, in both words (`Adding`).
+-- From nothing added to all eight bits.
 -- Assumes nothing.
 use native.Mathlib.Omega.{arith}
 use Rattle.field.proofs.Walking.{adding_start, adding_step, adding_end, both_words}
@@ -6,12 +6,6 @@ use Rattle.field.proofs.products.Goals as goal
 
 pub loop-i-init : goal.loop-i-init
 loop-i-init c = (adding_start _ _, adding_start _ _)
-
-pub overflow_add-i : goal.overflow_add-i
-overflow_add-i c = omega arith
-
-pub loop-i-smaller : goal.loop-i-smaller
-loop-i-smaller c = omega arith
 
 pub loop-i-preserved : goal.loop-i-preserved
 loop-i-preserved c =

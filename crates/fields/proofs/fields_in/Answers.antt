@@ -3,7 +3,6 @@
 use mathlib.Core.Path.{◌≡◌}
 use mathlib.Core.List.{List}
 use Prim.Native.Nat.{ℕ, ◌+◌, ◌*◌, ◌/◌, ◌%◌}
-use native.Mathlib.Omega.{arith}
 use lib.ListN.{get_or}
 use Rattle.packet.specs.declared.Packet.{Packet}
 use Rattle.packet.specs.Packet.{fields_in}
@@ -32,54 +31,6 @@ same :
     (fields_in q)
 unfolding fields_in
 same q r n l c m e f g h k = rw (e, f, g, h, k)
-
-pub bounds-packet-3 : goal.bounds-packet-3
-bounds-packet-3 c = omega arith
-
-pub bounds-packet-4 : goal.bounds-packet-4
-bounds-packet-4 c = omega arith
-
-pub bounds-packet-5 : goal.bounds-packet-5
-bounds-packet-5 c = omega arith
-
-pub bounds-packet-6 : goal.bounds-packet-6
-bounds-packet-6 c = omega arith
-
-pub bounds-packet-7 : goal.bounds-packet-7
-bounds-packet-7 c = omega arith
-
-pub bounds-packet-7-2 : goal.bounds-packet-7-2
-bounds-packet-7-2 c = omega arith
-
-pub bounds-packet-8 : goal.bounds-packet-8
-bounds-packet-8 c = omega arith
-
-pub bounds-packet-9 : goal.bounds-packet-9
-bounds-packet-9 c = omega arith
-
-pub bounds-packet-9-2 : goal.bounds-packet-9-2
-bounds-packet-9-2 c = omega arith
-
-pub bounds-packet-10 : goal.bounds-packet-10
-bounds-packet-10 c = omega arith
-
-pub bounds-packet-11 : goal.bounds-packet-11
-bounds-packet-11 c = omega arith
-
-pub bounds-packet-12 : goal.bounds-packet-12
-bounds-packet-12 c = omega arith
-
-pub bounds-packet-12-2 : goal.bounds-packet-12-2
-bounds-packet-12-2 c = omega arith
-
-pub bounds-packet-12-3 : goal.bounds-packet-12-3
-bounds-packet-12-3 c = omega arith
-
-pub bounds-packet-13 : goal.bounds-packet-13
-bounds-packet-13 c = omega arith
-
-pub bounds-packet-13-2 : goal.bounds-packet-13-2
-bounds-packet-13-2 c = omega arith
 
 pub returns : goal.returns
 returns c =

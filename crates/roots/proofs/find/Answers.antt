@@ -1,4 +1,4 @@
--- `roots::find` tries exponent 0, and then eight exponents a turn (`Finding`).
+-- From exponent 0 alone to all of them.
 -- Assumes nothing.
 use mathlib.Core.Path.{◌≡◌, refl, sym, ap, subst, ◌∙◌}
 use mathlib.Core.List.{List}
@@ -20,9 +20,6 @@ table-table-requires c = c.last-top.ensures.0
 pub note-n-requires : goal.note-n-requires
 note-n-requires c = refl
 
-pub wide-t-requires : goal.wide-t-requires
-wide-t-requires c = omega arith
-
 pub loop-b-init : goal.loop-b-init
 loop-b-init c =
     let v : List ℕ = c.args.v in
@@ -35,17 +32,8 @@ move_on-w-requires c =
     let inv = c.loop-b.invariant in
     (c.last-top.ensures.0, inv.short, c.table-table.ensures, stretched_byte inv.stretched)
 
-pub overflow_mul-b : goal.overflow_mul-b
-overflow_mul-b c = omega arith
-
 pub look-n-requires : goal.look-n-requires
 look-n-requires c = (c.loop-b.invariant.held.sized, omega arith)
-
-pub overflow_add-b : goal.overflow_add-b
-overflow_add-b c = omega arith
-
-pub loop-b-smaller : goal.loop-b-smaller
-loop-b-smaller c = omega arith
 
 pub loop-b-preserved : goal.loop-b-preserved
 loop-b-preserved c =

@@ -4,11 +4,5 @@ use Rattle.encoding.proofs.Feeding.{feeding_start}
 use native.Mathlib.Omega.{arith}
 use Rattle.encoding.proofs.register.begin.Goals as goal
 
-pub word-requires : goal.word-requires
-word-requires c = omega arith
-
-pub turn-requires : goal.turn-requires
-turn-requires c = c.requires.1
-
 pub returns : goal.returns
 returns c = feeding_start _ _ c.word.result _ (omega arith) c.word.ensures c.turn.ensures

@@ -1,11 +1,7 @@
 -- `register::checks` feeds the register word by word. The invariant: what is left to feed gives what the whole gives (`Feeding`).
 -- Assumes nothing.
-use Prim.Native.Nat.{◌-◌}
 use Rattle.encoding.specs.InnerRegister.{both, Feeding}
 use Rattle.encoding.proofs.register.checks.Given as goal
 
 abbrev pub invariant-loop-k : goal.invariant-loop-k
 invariant-loop-k l = Feeding l.d l.at (both l.r.h l.r.l) l.k
-
-abbrev pub decreases-loop-k : goal.decreases-loop-k
-decreases-loop-k l = 29 - l.k

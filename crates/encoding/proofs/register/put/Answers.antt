@@ -6,20 +6,7 @@ use Prim.Native.Nat.{ℕ, ◌+◌}
 use lib.Seq.{sets}
 use Rattle.encoding.specs.InnerRegister.{unpack}
 use Rattle.encoding.proofs.Bytes.{put_both}
-use native.Mathlib.Omega.{arith}
 use Rattle.encoding.proofs.register.put.Goals as goal
-
-pub put_word-requires : goal.put_word-requires
-put_word-requires c = omega arith
-
-pub overflow_add-at : goal.overflow_add-at
-overflow_add-at c = omega arith
-
-pub put_word-requires-2 : goal.put_word-requires-2
-put_word-requires-2 c = omega arith
-
-pub shape_of-out : goal.shape_of-out
-shape_of-out c = omega arith
 
 pub returns : goal.returns
 returns c =

@@ -1,23 +1,7 @@
 -- `register::rest` adds the checks that came with the row to those that its information has.
 -- Assumes nothing.
-use native.Mathlib.Omega.{arith}
 use Rattle.encoding.proofs.Feeding.{rest_is}
 use Rattle.encoding.proofs.register.rest.Goals as goal
-
-pub checks-q-requires : goal.checks-q-requires
-checks-q-requires c = (omega arith, c.requires.1)
-
-pub overflow_add-at : goal.overflow_add-at
-overflow_add-at c = omega arith
-
-pub word-requires : goal.word-requires
-word-requires c = omega arith
-
-pub overflow_add-at-2 : goal.overflow_add-at-2
-overflow_add-at-2 c = omega arith
-
-pub word-requires-2 : goal.word-requires-2
-word-requires-2 c = omega arith
 
 pub returns : goal.returns
 returns c =

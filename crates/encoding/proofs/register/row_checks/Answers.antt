@@ -1,21 +1,11 @@
 -- `register::row_checks` writes what the register holds over sixteen zeros.
 -- Assumes nothing.
 use mathlib.Core.Path.{◌∙◌}
-use native.Mathlib.Omega.{arith}
 use lib.ListN.{replicate}
 use Rattle.ground.proofs.Writing.{sets-all}
 use Rattle.encoding.proofs.Words.{length_both}
 use Rattle.encoding.proofs.Feeding.{checks_whole}
 use Rattle.encoding.proofs.register.row_checks.Goals as goal
-
-pub checks-q-requires : goal.checks-q-requires
-checks-q-requires c = (omega arith, c.table-t.ensures)
-
-pub slice_bounds-put-end : goal.slice_bounds-put-end
-slice_bounds-put-end c = omega arith
-
-pub put-requires : goal.put-requires
-put-requires c = omega arith
 
 pub returns : goal.returns
 returns c =

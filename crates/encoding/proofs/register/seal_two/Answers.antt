@@ -1,5 +1,5 @@
--- `register::seal_two` feeds two registers, each as `checks` feeds one, and writes what they hold. The invariant: what is left to feed gives what the whole gives, in both
--- (`Feeding`). Assumes nothing.
+-- Both registers at once, and then both are written.
+-- Assumes nothing.
 use mathlib.Core.Path.{ap, ap₂, ◌∙◌}
 use mathlib.Core.List.{List}
 use Prim.Native.Nat.{ℕ, ◌+◌}
@@ -9,49 +9,19 @@ use Rattle.encoding.specs.InnerRegister.{sealed}
 use Rattle.encoding.proofs.Feeding.{feeding_done}
 use Rattle.encoding.proofs.register.seal_two.Goals as goal
 
-pub overflow_add-from : goal.overflow_add-from
-overflow_add-from c = omega arith
-
-pub begin-a-requires : goal.begin-a-requires
-begin-a-requires c = (omega arith, c.requires.1)
-
-pub begin-b-requires : goal.begin-b-requires
-begin-b-requires c = (omega arith, c.requires.1)
-
 pub loop-k-init : goal.loop-k-init
 loop-k-init c = (c.begin-a.ensures, c.begin-b.ensures)
 
 pub go_on-a-requires : goal.go_on-a-requires
 go_on-a-requires c =
-    (omega arith, c.loop-k-test.true, c.loop-k.invariant.0, c.requires.1)
+    (omega arith, c.loop-k-test.true, c.loop-k.invariant.0)
 
 pub go_on-b-requires : goal.go_on-b-requires
 go_on-b-requires c =
-    (omega arith, c.loop-k-test.true, c.loop-k.invariant.1, c.requires.1)
-
-pub overflow_add-k : goal.overflow_add-k
-overflow_add-k c = omega arith
-
-pub loop-k-smaller : goal.loop-k-smaller
-loop-k-smaller c = omega arith
+    (omega arith, c.loop-k-test.true, c.loop-k.invariant.1)
 
 pub loop-k-preserved : goal.loop-k-preserved
 loop-k-preserved c = (c.go_on-a.ensures, c.go_on-b.ensures)
-
-pub overflow_add-at : goal.overflow_add-at
-overflow_add-at c = omega arith
-
-pub put-requires : goal.put-requires
-put-requires c = omega arith
-
-pub overflow_add-from-2 : goal.overflow_add-from-2
-overflow_add-from-2 c = omega arith
-
-pub put-requires-2 : goal.put-requires-2
-put-requires-2 c = omega arith
-
-pub shape_of-rows : goal.shape_of-rows
-shape_of-rows c = omega arith
 
 pub returns : goal.returns
 unfolding sealed

@@ -1,11 +1,7 @@
 -- `register::seal_two` feeds two registers, each as `checks` feeds one, and writes what they hold. The invariant: what is left to feed gives what the whole gives, in both
 -- (`Feeding`). Assumes nothing.
-use Prim.Native.Nat.{◌-◌}
 use Rattle.encoding.specs.InnerRegister.{both, Feeding}
 use Rattle.encoding.proofs.register.seal_two.Given as goal
 
 abbrev pub invariant-loop-k : goal.invariant-loop-k
 invariant-loop-k l = Feeding l.d l.at (both l.a.h l.a.l) l.k × Feeding l.d l.from (both l.b.h l.b.l) l.k
-
-abbrev pub decreases-loop-k : goal.decreases-loop-k
-decreases-loop-k l = 29 - l.k

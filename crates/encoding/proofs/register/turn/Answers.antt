@@ -1,5 +1,5 @@
--- `register::turn` moves the register up by eight bytes and adds what the bytes that leave it leave behind, one half byte after the other. The invariant: what is added,
--- and what the rest of the word still leaves, make the whole (`Turning`). Assumes nothing.
+-- From the lowest half byte to the highest.
+-- Assumes nothing.
 use mathlib.Core.Path.{refl, sym, ◌∙◌}
 use Prim.Native.Nat.{ℕ}
 use native.Mathlib.Omega.{arith}
@@ -12,39 +12,9 @@ use Rattle.encoding.proofs.register.turn.Goals as goal
 pub loop-k-init : goal.loop-k-init
 loop-k-init c = turning_start _ _
 
-pub overflow_mul-i : goal.overflow_mul-i
-overflow_mul-i c = omega arith
-
-pub overflow_mul-i-in-loop-k : goal.overflow_mul-i-in-loop-k
-overflow_mul-i-in-loop-k c = omega arith
-
-pub overflow_add-i : goal.overflow_add-i
-overflow_add-i c = omega arith
-
-pub offset_bounds-t-i : goal.offset_bounds-t-i
-offset_bounds-t-i c = omega arith
-
-pub bounds-t-i : goal.bounds-t-i
-bounds-t-i c = omega arith
-
-pub overflow_add-l : goal.overflow_add-l
-overflow_add-l c = omega arith
-
-pub offset_bounds-t-i-in-loop-k : goal.offset_bounds-t-i-in-loop-k
-offset_bounds-t-i-in-loop-k c = omega arith
-
-pub bounds-t-i-in-loop-k : goal.bounds-t-i-in-loop-k
-bounds-t-i-in-loop-k c = omega arith
-
-pub overflow_add-k : goal.overflow_add-k
-overflow_add-k c = omega arith
-
-pub loop-k-smaller : goal.loop-k-smaller
-loop-k-smaller c = omega arith
-
 pub loop-k-preserved : goal.loop-k-preserved
 loop-k-preserved c =
-    turning_more _ _ _ _ _ _ _ _ c.requires c.loop-k-test.true refl c.loop-k.invariant
+    turning_more _ _ _ _ _ _ _ _ c.args.t.now.ruled c.loop-k-test.true refl c.loop-k.invariant
 
 pub returns : goal.returns
 returns c =

@@ -1,11 +1,7 @@
 -- `register::turn` moves the register up by eight bytes and adds what the bytes that leave it leave behind, one half byte after the other. The invariant: what is added,
 -- and what the rest of the word still leaves, make the whole (`Turning`). Assumes nothing.
-use Prim.Native.Nat.{◌-◌}
 use Rattle.encoding.proofs.Turns.{Turning}
 use Rattle.encoding.proofs.register.turn.Given as goal
 
 abbrev pub invariant-loop-k : goal.invariant-loop-k
 invariant-loop-k l = Turning l.initial.w l.initial.h l.w l.h l.l l.k
-
-abbrev pub decreases-loop-k : goal.decreases-loop-k
-decreases-loop-k l = 16 - l.k

@@ -1,11 +1,7 @@
 -- `roots::products::move_on` moves one coefficient after the other (`Moving`).
 -- Assumes nothing.
-use Prim.Native.Nat.{◌-◌, ◌≤◌}
 use Rattle.roots.proofs.Moving.{Moving}
 use Rattle.roots.proofs.products.move_on.Given as goal
 
 abbrev pub invariant-loop-i : goal.invariant-loop-i
-invariant-loop-i l = (l.i ≤ l.top) × Moving l.initial.t l.t l.sum l.i
-
-abbrev pub decreases-loop-i : goal.decreases-loop-i
-decreases-loop-i l = l.top - l.i
+invariant-loop-i l = Moving l.initial.t l.t l.sum l.i

@@ -6,12 +6,6 @@ use lib.ListN.{length-set}
 use Rattle.roots.proofs.Making.{multiples_all}
 use Rattle.roots.proofs.products.put_multiples.Goals as goal
 
-pub offset_bounds-t-at : goal.offset_bounds-t-at
-offset_bounds-t-at c = omega arith
-
-pub bounds-t-at : goal.bounds-t-at
-bounds-t-at c = omega arith
-
 pub put_block-requires : goal.put_block-requires
 put_block-requires c = (length-set c.args.t.now c.args.at 0 ∙ c.requires.0, omega arith)
 

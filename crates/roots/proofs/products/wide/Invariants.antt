@@ -1,11 +1,7 @@
 -- `roots::products::wide` copies one coefficient after the other (`Copied`).
 -- Assumes nothing.
-use Prim.Native.Nat.{◌-◌}
 use Rattle.roots.proofs.Moving.{Copied}
 use Rattle.roots.proofs.products.wide.Given as goal
 
 abbrev pub invariant-loop-i : goal.invariant-loop-i
 invariant-loop-i l = Copied l.v l.t l.i
-
-abbrev pub decreases-loop-i : goal.decreases-loop-i
-decreases-loop-i l = 9 - l.i

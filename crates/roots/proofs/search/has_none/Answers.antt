@@ -8,9 +8,6 @@ use Rattle.roots.proofs.Bytes.{none_is}
 use borrow.Author.Tests.{eqb-true}
 use Rattle.roots.proofs.search.has_none.Goals as goal
 
-pub overflow_mul-x : goal.overflow_mul-x
-overflow_mul-x c = omega arith
-
 pub overflow_add-s : goal.overflow_add-s
 overflow_add-s c = omega (arith, and_le_r (bit_xor c.args.w (c.wide.result * 0x0101010101010101)) 0x7F7F7F7F7F7F7F7F)
 

@@ -1,4 +1,4 @@
--- `roots::search::look_each` looks at one byte after the other (`Looking`).
+-- From no byte to all eight.
 -- Assumes nothing.
 use native.Mathlib.Omega.{arith}
 use Rattle.roots.proofs.Holding.{looking_start, looking_more, looking_end}
@@ -7,20 +7,8 @@ use Rattle.roots.proofs.search.look_each.Goals as goal
 pub loop-k-init : goal.loop-k-init
 loop-k-init c = looking_start _ _ _ _ _ c.requires.0
 
-pub overflow_add-e : goal.overflow_add-e
-overflow_add-e c = omega arith
-
-pub overflow_add-e-in-loop-k : goal.overflow_add-e-in-loop-k
-overflow_add-e-in-loop-k c = omega arith
-
 pub note-m-requires : goal.note-m-requires
 note-m-requires c = c.loop-k.invariant.sized
-
-pub overflow_add-k : goal.overflow_add-k
-overflow_add-k c = omega arith
-
-pub loop-k-smaller : goal.loop-k-smaller
-loop-k-smaller c = omega arith
 
 pub loop-k-preserved : goal.loop-k-preserved
 loop-k-preserved c =

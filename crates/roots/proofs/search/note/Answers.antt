@@ -23,15 +23,6 @@ returns-then-n-ge16 c =
     let a = c.args in
     record { sized = c.requires; held = λ l h. held-full h (eqb a.x a.y && ltb a.e 255) a.e (omega arith) }
 
-pub overflow_cast-at : goal.overflow_cast-at
-overflow_cast-at c = omega arith
-
-pub bounds-at-n : goal.bounds-at-n
-bounds-at-n c = omega arith
-
-pub overflow_add-result : goal.overflow_add-result
-overflow_add-result c = omega arith
-
 pub returns : goal.returns
 returns c =
     let a = c.args in
