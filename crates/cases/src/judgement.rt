@@ -140,20 +140,14 @@ fn judge_file(file: &Buffer, out: &Buffer) -> bool {
     judge_digest(Digest::of(expected), Digest::of(got))
 }
 
-fn judge_accepted(line: &[u8], got: Answer) -> bool {
-    judge_answer(Answer::Accepted(tokens::number(line, 3)), got)
-}
-
-fn judge_refused(line: &[u8], got: Answer) -> bool {
-    let expected = Answer::of(tokens::number(line, 3), tokens::number(line, 4), false);
-    judge_answer(expected, got)
-}
-
 impl State<'_> {
     fn is_right(&self, kind: Kind, line: &[u8]) -> bool {
+        let n = tokens::number(line, 3);
         match kind {
-            Kind::Accepted => judge_accepted(line, self.answer),
-            Kind::Refused => judge_refused(line, self.answer),
+            Kind::Accepted => judge_answer(Answer::Accepted(n), self.answer),
+            Kind::Refused => {
+                judge_answer(Answer::of(n, tokens::number(line, 4), false), self.answer)
+            }
             Kind::Bytes => judge_bytes(line, &self.out),
             Kind::Out => judge_memory(line, &self.out),
             Kind::Store => judge_memory(line, &self.store),

@@ -26,7 +26,7 @@ pub(crate) fn append(text: &[u8], bytes: &mut Buffer) {
     bytes.append(b"\n");
 }
 
-// The text from word 2 on and one LF in front of the line that word 1 counts.
+// The text from word 2 on and one LF in front of the line that word 1 counts; what is then beyond the room is dropped.
 pub(crate) fn insert(line: &[u8], bytes: &mut Buffer) {
     let mut room = [0u8; 8192];
     let mut behind = Buffer::new(&mut room);
@@ -40,12 +40,11 @@ pub(crate) fn insert(line: &[u8], bytes: &mut Buffer) {
 
 // Takes the line away that word 1 counts, if there is one.
 pub(crate) fn remove(line: &[u8], bytes: &mut Buffer) {
-    let mut room = [0u8; 8192];
-    let mut behind = Buffer::new(&mut room);
-    let all = bytes.as_slice();
+    let all = bytes.as_mut_slice();
     let at = start(all, tokens::number(line, 1));
-    let from = &all[at..];
-    behind.append(&from[start(from, 2)..]);
-    bytes.resize(at);
-    bytes.append(behind.as_slice());
+    let part = &mut all[at..];
+    let n = start(part, 2);
+    part.rotate_left(n);
+    let length = all.len() - n;
+    bytes.resize(length);
 }

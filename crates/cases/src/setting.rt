@@ -120,8 +120,7 @@ fn take(line: &[u8], bytes: &mut Buffer, out: &Buffer) {
 }
 
 // The CRC of the bytes before the last four, in the last four.
-fn seal(buffer: &mut Buffer) {
-    let bytes = buffer.as_mut_slice();
+fn seal(bytes: &mut [u8]) {
     if let Some(at) = bytes.len().checked_sub(4) {
         let crc = brithelva::bh_crc32(buffer::first(at, bytes));
         buffer::put(&crc.to_be_bytes(), bytes, at);
@@ -156,7 +155,7 @@ pub(crate) fn set_bytes(command: OnBytes, line: &[u8], bytes: &mut Buffer, out: 
         OnBytes::Grow => grow(line, bytes),
         OnBytes::Take => take(line, bytes, out),
         OnBytes::Append => append(line, bytes, out),
-        OnBytes::Seal => seal(bytes),
+        OnBytes::Seal => seal(bytes.as_mut_slice()),
         OnBytes::Damage => damage(line, bytes),
         OnBytes::Line => lines::append(tokens::from_word(line, 1), bytes),
         OnBytes::Insert => lines::insert(line, bytes),

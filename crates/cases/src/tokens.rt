@@ -61,7 +61,7 @@ pub(crate) fn number(line: &[u8], k: usize) -> u64 {
     value(word(line, k), 10)
 }
 
-// The same modulo 2^32, 2^16 and 2^8.
+// The same modulo 2^32, 2^16 and 2^8. One generic function for the three would need a trait with three impls, which is longer.
 pub(crate) fn number32(line: &[u8], k: usize) -> u32 {
     (number(line, k) % 4294967296) as u32
 }
