@@ -1,104 +1,160 @@
-// The commands by number: reference/README.md says what each does. Those of one kind stand together, so that a range of numbers names the kind.
+// The commands: reference/README.md says what each does. Those of one kind are an enum of their own.
 use crate::tokens;
 
-pub(crate) const FILE: u8 = 0;
+#[derive(Clone, Copy)]
+pub(crate) enum Command {
+    File(OnFile),
+    Bytes(OnBytes),
+    Out(OnOut),
+    Store(OnStore),
+    Held(OnHeld),
+    Settings(OnSettings),
+    Call(Call),
+    Send,
+    Case,
+}
 
-pub(crate) const FILE_PUT: u8 = 1;
+#[derive(Clone, Copy)]
+pub(crate) enum OnFile {
+    Generate,
+    Put,
+    Value,
+}
 
-pub(crate) const VALUE: u8 = 2;
+#[derive(Clone, Copy)]
+pub(crate) enum OnBytes {
+    Pairs,
+    Random,
+    Fill,
+    Put,
+    Flip,
+    Cut,
+    Grow,
+    Take,
+    Append,
+    Seal,
+    Damage,
+    Line,
+    Insert,
+    Drop,
+    Swap,
+}
 
-pub(crate) const BYTES: u8 = 3;
+#[derive(Clone, Copy)]
+pub(crate) enum OnOut {
+    Fill,
+    ShowHeld,
+    ShowStore,
+}
 
-pub(crate) const RANDOM: u8 = 4;
+#[derive(Clone, Copy)]
+pub(crate) enum OnStore {
+    Fill,
+    Poke,
+}
 
-pub(crate) const FILL: u8 = 5;
+#[derive(Clone, Copy)]
+pub(crate) enum OnHeld {
+    Zeros,
+    Place,
+}
 
-pub(crate) const PUT: u8 = 6;
+#[derive(Clone, Copy)]
+pub(crate) enum OnSettings {
+    All,
+    Edition,
+    Order,
+}
 
-pub(crate) const FLIP: u8 = 7;
+// A call of the library: one that takes no record, or one that does.
+#[derive(Clone, Copy)]
+pub(crate) enum Call {
+    Plain(Plain),
+    Record(Record),
+}
 
-pub(crate) const CUT: u8 = 8;
+#[derive(Clone, Copy)]
+pub(crate) enum Plain {
+    Crc,
+    Encode,
+    Repair,
+    Read,
+    ReadHeader,
+    Describe,
+    Compose,
+    Pack,
+    PackAs,
+    PackHouse,
+}
 
-pub(crate) const GROW: u8 = 9;
+#[derive(Clone, Copy)]
+pub(crate) enum Record {
+    Open,
+    OpenAs,
+    OpenHouse,
+    Offer,
+    Status,
+    Hand,
+    Close,
+}
 
-pub(crate) const TAKE: u8 = 10;
+static COMMANDS: [(&[u8], Command); 47] = [
+    (b"file", Command::File(OnFile::Generate)),
+    (b"file-put", Command::File(OnFile::Put)),
+    (b"value", Command::File(OnFile::Value)),
+    (b"bytes", Command::Bytes(OnBytes::Pairs)),
+    (b"random", Command::Bytes(OnBytes::Random)),
+    (b"fill", Command::Bytes(OnBytes::Fill)),
+    (b"put", Command::Bytes(OnBytes::Put)),
+    (b"flip", Command::Bytes(OnBytes::Flip)),
+    (b"cut", Command::Bytes(OnBytes::Cut)),
+    (b"grow", Command::Bytes(OnBytes::Grow)),
+    (b"take", Command::Bytes(OnBytes::Take)),
+    (b"append", Command::Bytes(OnBytes::Append)),
+    (b"seal", Command::Bytes(OnBytes::Seal)),
+    (b"damage", Command::Bytes(OnBytes::Damage)),
+    (b"line", Command::Bytes(OnBytes::Line)),
+    (b"insert", Command::Bytes(OnBytes::Insert)),
+    (b"drop", Command::Bytes(OnBytes::Drop)),
+    (b"swap", Command::Bytes(OnBytes::Swap)),
+    (b"out", Command::Out(OnOut::Fill)),
+    (b"store", Command::Store(OnStore::Fill)),
+    (b"poke", Command::Store(OnStore::Poke)),
+    (b"held", Command::Held(OnHeld::Zeros)),
+    (b"place", Command::Held(OnHeld::Place)),
+    (b"settings", Command::Settings(OnSettings::All)),
+    (b"edition", Command::Settings(OnSettings::Edition)),
+    (b"order", Command::Settings(OnSettings::Order)),
+    (b"show-held", Command::Out(OnOut::ShowHeld)),
+    (b"show-store", Command::Out(OnOut::ShowStore)),
+    (b"crc", Command::Call(Call::Plain(Plain::Crc))),
+    (b"encode", Command::Call(Call::Plain(Plain::Encode))),
+    (b"repair", Command::Call(Call::Plain(Plain::Repair))),
+    (b"read", Command::Call(Call::Plain(Plain::Read))),
+    (
+        b"read-header",
+        Command::Call(Call::Plain(Plain::ReadHeader)),
+    ),
+    (b"describe", Command::Call(Call::Plain(Plain::Describe))),
+    (b"compose", Command::Call(Call::Plain(Plain::Compose))),
+    (b"pack", Command::Call(Call::Plain(Plain::Pack))),
+    (b"pack-as", Command::Call(Call::Plain(Plain::PackAs))),
+    (b"pack-house", Command::Call(Call::Plain(Plain::PackHouse))),
+    (b"open", Command::Call(Call::Record(Record::Open))),
+    (b"open-as", Command::Call(Call::Record(Record::OpenAs))),
+    (
+        b"open-house",
+        Command::Call(Call::Record(Record::OpenHouse)),
+    ),
+    (b"offer", Command::Call(Call::Record(Record::Offer))),
+    (b"status", Command::Call(Call::Record(Record::Status))),
+    (b"hand", Command::Call(Call::Record(Record::Hand))),
+    (b"close", Command::Call(Call::Record(Record::Close))),
+    (b"send", Command::Send),
+    (b"case", Command::Case),
+];
 
-pub(crate) const APPEND: u8 = 11;
-
-pub(crate) const SEAL: u8 = 12;
-
-pub(crate) const DAMAGE: u8 = 13;
-
-pub(crate) const LINE: u8 = 14;
-
-pub(crate) const INSERT: u8 = 15;
-
-pub(crate) const DROP: u8 = 16;
-
-pub(crate) const SWAP: u8 = 17;
-
-pub(crate) const OUT: u8 = 18;
-
-pub(crate) const STORE: u8 = 19;
-
-pub(crate) const POKE: u8 = 20;
-
-pub(crate) const HELD: u8 = 21;
-
-pub(crate) const PLACE: u8 = 22;
-
-pub(crate) const SETTINGS: u8 = 23;
-
-pub(crate) const EDITION: u8 = 24;
-
-pub(crate) const ORDER: u8 = 25;
-
-pub(crate) const SHOW_HELD: u8 = 26;
-
-pub(crate) const SHOW_STORE: u8 = 27;
-
-pub(crate) const CRC: u8 = 28;
-
-pub(crate) const ENCODE: u8 = 29;
-
-pub(crate) const REPAIR: u8 = 30;
-
-pub(crate) const READ: u8 = 31;
-
-pub(crate) const READ_HEADER: u8 = 32;
-
-pub(crate) const DESCRIBE: u8 = 33;
-
-pub(crate) const COMPOSE: u8 = 34;
-
-pub(crate) const PACK: u8 = 35;
-
-pub(crate) const PACK_AS: u8 = 36;
-
-pub(crate) const PACK_HOUSE: u8 = 37;
-
-pub(crate) const OPEN: u8 = 38;
-
-pub(crate) const OPEN_AS: u8 = 39;
-
-pub(crate) const OPEN_HOUSE: u8 = 40;
-
-pub(crate) const OFFER: u8 = 41;
-
-pub(crate) const STATUS: u8 = 42;
-
-pub(crate) const HAND: u8 = 43;
-
-pub(crate) const CLOSE: u8 = 44;
-
-pub(crate) const SEND: u8 = 45;
-
-pub(crate) const CASE: u8 = 46;
-
-// The command that a line names; a number above all of these if it names none.
-pub(crate) fn command_of(line: &[u8]) -> u8 {
-    tokens::order(
-        tokens::word(line, 0),
-        b"file file-put value bytes random fill put flip cut grow take append seal damage line insert drop swap out store poke held place settings edition order show-held show-store crc encode repair read read-header describe compose pack pack-as pack-house open open-as open-house offer status hand close send case",
-    )
+// The command that a line names.
+pub(crate) fn command_of(line: &[u8]) -> Option<Command> {
+    tokens::meaning(&COMMANDS, tokens::word(line, 0))
 }

@@ -1,38 +1,46 @@
-// The cases: each compares what is got with what is expected, writes one line, and counts.
+// The cases: each compares what is got with what is expected, writes one line, and counts. Names are bytes of the file that need not be text, so the
+// lines are written by crate io and not by `println!`.
+use crate::buffer::{self, Buffer};
 use crate::calls::Answer;
 use crate::digests::Digest;
-use crate::{commands, digests, memory, tokens};
+use crate::state::State;
+use crate::tokens;
 
-// The kinds of cases.
-const ACCEPTED: u8 = 0;
-
-const REFUSED: u8 = 1;
-
-const BYTES: u8 = 2;
-
-const OUT: u8 = 3;
-
-const STORE: u8 = 4;
-
-const HELD: u8 = 5;
-
-const PACKET: u8 = 6;
-
-const FILE: u8 = 7;
-
-// The kind of case that a line names; a number above all of these if it names none.
-fn kind_of(line: &[u8]) -> u8 {
-    tokens::order(
-        tokens::word(line, 2),
-        b"accepted refused bytes out store held packet file",
-    )
+#[derive(Clone, Copy)]
+enum Kind {
+    Accepted,
+    Refused,
+    Bytes,
+    Out,
+    Store,
+    Held,
+    Packet,
+    File,
 }
+
+static KINDS: [(&[u8], Kind); 8] = [
+    (b"accepted", Kind::Accepted),
+    (b"refused", Kind::Refused),
+    (b"bytes", Kind::Bytes),
+    (b"out", Kind::Out),
+    (b"store", Kind::Store),
+    (b"held", Kind::Held),
+    (b"packet", Kind::Packet),
+    (b"file", Kind::File),
+];
 
 // How many cases there were, and how many of them were wrong.
 #[derive(Clone, Copy)]
 pub(crate) struct Tally {
     pub(crate) cases: u64,
     pub(crate) wrong: u64,
+}
+
+impl Tally {
+    fn count(&mut self, right: bool) {
+        self.cases = self.cases.wrapping_add(1);
+        self.wrong = self.wrong.wrapping_add(u64::from(!right));
+    }
 }
 
 // A line up to what is expected.
@@ -42,21 +50,11 @@ fn begin(line: &[u8]) {
     io::write_all(1, b": expected ");
 }
 
-// The end of a line, and the tally with it.
-fn end(right: bool, tally: Tally) -> Tally {
-    let cases = std::num::wrapping_add_u64(tally.cases, 1);
+fn end(right: bool) {
     if right {
         io::write_all(1, b" ok\n");
-        Tally {
-            cases,
-            wrong: tally.wrong,
-        }
     } else {
         io::write_all(1, b" wrong\n");
-        Tally {
-            cases,
-            wrong: std::num::wrapping_add_u64(tally.wrong, 1),
-        }
     }
 }
 
@@ -68,136 +66,104 @@ fn print_value(before: &[u8], value: u64) {
     }
 }
 
-fn print_answer(a: Answer) {
-    if a.number == 0 {
-        io::write_all(1, b"accepted");
-        print_value(b" ", a.value);
-    } else {
-        io::write_all(1, b"refused ");
-        io::print_decimal(1, a.number);
-        print_value(b" value ", a.value);
+fn print_answer(answer: Answer) {
+    match answer {
+        Answer::Accepted(value) => {
+            io::write_all(1, b"accepted");
+            print_value(b" ", value);
+        }
+        Answer::Refused {
+            number,
+            value,
+            changed,
+        } => {
+            io::write_all(1, b"refused ");
+            io::print_decimal(1, number);
+            print_value(b" value ", value);
+            if changed {
+                io::write_all(1, b", changed");
+            }
+        }
     }
-    if a.changed {
-        io::write_all(1, b", changed");
-    }
-}
-
-fn judge_answer(line: &[u8], expected: Answer, got: Answer, tally: Tally) -> Tally {
-    begin(line);
-    print_answer(expected);
-    io::write_all(1, b" got ");
-    print_answer(got);
-    let right = expected.number == got.number && expected.value == got.value && !got.changed;
-    end(right, tally)
-}
-
-fn judge_digest(line: &[u8], expected: Digest, got: Digest, tally: Tally) -> Tally {
-    begin(line);
-    digests::print(expected);
-    io::write_all(1, b" got ");
-    digests::print(got);
-    end(digests::agree(expected, got), tally)
 }
 
 fn print_pairs(bytes: &[u8]) {
-    let mut i: usize = 0;
-    while i < bytes.len() {
-        io::print_hex(1, digests::wide(bytes[i]), 2);
-        i += 1;
+    for b in bytes {
+        io::print_hex(1, u64::from(*b), 2);
     }
+}
+
+fn judge_answer(expected: Answer, got: Answer) -> bool {
+    print_answer(expected);
+    io::write_all(1, b" got ");
+    print_answer(got);
+    expected == got
+}
+
+fn judge_digest(expected: Digest, got: Digest) -> bool {
+    expected.print();
+    io::write_all(1, b" got ");
+    got.print();
+    expected == got
+}
+
+fn judge_pairs(expected: &[u8], got: &[u8]) -> bool {
+    print_pairs(expected);
+    io::write_all(1, b" got ");
+    print_pairs(got);
+    expected == got
 }
 
 // The pairs from word 4 on, of which there are at most 8,192, with as many bytes of the output, from the position in word 3 on.
-fn judge_bytes(line: &[u8], out: &[u8], tally: Tally) -> Tally {
-    let mut expected = [0u8; 8192];
-    let n = memory::fit(tokens::put_pairs(line, 4, &mut expected), &expected);
-    let from = memory::fit(tokens::number(line, 3) as usize, out);
-    let to = from + memory::least(n, out.len() - from);
-    begin(line);
-    print_pairs(&expected[..n]);
-    io::write_all(1, b" got ");
-    print_pairs(&out[from..to]);
-    end(check::same(&expected[..n], &out[from..to]), tally)
+fn judge_bytes(line: &[u8], out: &Buffer) -> bool {
+    let mut room = [0u8; 8192];
+    let n = tokens::put_pairs(line, 4, &mut room);
+    let expected = buffer::first(n, &room);
+    let behind = buffer::behind(tokens::number(line, 3) as usize, out.as_slice());
+    judge_pairs(expected, buffer::first(expected.len(), behind))
 }
 
 // The digests in the words from 3 on.
-fn expected(line: &[u8]) -> Digest {
-    Digest {
+fn judge_memory(line: &[u8], got: &Buffer) -> bool {
+    let expected = Digest {
         length: tokens::number(line, 3),
         crc: tokens::hexadecimal(line, 4),
         fnv: tokens::hexadecimal(line, 5),
-    }
+    };
+    judge_digest(expected, Digest::of(got.as_slice()))
 }
 
-// Judges the bytes that word 2 names.
-fn judge_memory(
-    kind: u8,
-    line: &[u8],
-    file: &[u8],
-    held: &[u8],
-    store: &[u8],
-    bytes: &[u8],
-    out: &[u8],
-    tally: Tally,
-) -> Tally {
-    if kind == BYTES {
-        return judge_bytes(line, out, tally);
-    }
-    if kind == OUT {
-        return judge_digest(line, expected(line), digests::digest_of(out), tally);
-    }
-    if kind == STORE {
-        return judge_digest(line, expected(line), digests::digest_of(store), tally);
-    }
-    if kind == HELD {
-        return judge_digest(line, expected(line), digests::digest_of(held), tally);
-    }
-    if kind == PACKET {
-        return judge_digest(line, expected(line), digests::digest_of(bytes), tally);
-    }
-    if kind == FILE {
-        let n = memory::fit(file.len(), out);
-        return judge_digest(
-            line,
-            digests::digest_of(file),
-            digests::digest_of(&out[..n]),
-            tally,
-        );
-    }
-    tally
+// The file, with as many bytes of the output.
+fn judge_file(file: &Buffer, out: &Buffer) -> bool {
+    let expected = file.as_slice();
+    let got = buffer::first(expected.len(), out.as_slice());
+    judge_digest(Digest::of(expected), Digest::of(got))
 }
 
-// The tally after a line.
-pub(crate) fn judge(
-    command: u8,
-    line: &[u8],
-    file: &[u8],
-    held: &[u8],
-    store: &[u8],
-    bytes: &[u8],
-    out: &[u8],
-    got: Answer,
-    tally: Tally,
-) -> Tally {
-    if command != commands::CASE {
-        return tally;
+impl State<'_> {
+    fn is_right(&self, kind: Kind, line: &[u8]) -> bool {
+        let n = tokens::number(line, 3);
+        match kind {
+            Kind::Accepted => judge_answer(Answer::Accepted(n), self.answer),
+            Kind::Refused => {
+                judge_answer(Answer::of(n, tokens::number(line, 4), false), self.answer)
+            }
+            Kind::Bytes => judge_bytes(line, &self.out),
+            Kind::Out => judge_memory(line, &self.out),
+            Kind::Store => judge_memory(line, &self.store),
+            Kind::Held => judge_memory(line, &self.held),
+            Kind::Packet => judge_memory(line, &self.bytes),
+            Kind::File => judge_file(&self.file, &self.out),
+        }
     }
-    let kind = kind_of(line);
-    if kind == ACCEPTED {
-        let expected = Answer {
-            number: 0,
-            value: tokens::number(line, 3),
-            changed: false,
-        };
-        return judge_answer(line, expected, got, tally);
+
+    // Judges what word 2 names; nothing where it names none.
+    pub(crate) fn judge(&mut self, line: &[u8]) {
+        if let Some(kind) = tokens::meaning(&KINDS, tokens::word(line, 2)) {
+            begin(line);
+            let right = self.is_right(kind, line);
+            end(right);
+            self.tally.count(right);
+        }
     }
-    if kind == REFUSED {
-        let expected = Answer {
-            number: tokens::number(line, 3),
-            value: tokens::number(line, 4),
-            changed: false,
-        };
-        return judge_answer(line, expected, got, tally);
-    }
-    judge_memory(kind, line, file, held, store, bytes, out, tally)
 }

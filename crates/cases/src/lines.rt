@@ -1,66 +1,50 @@
-// Lines of the bytes at hand: put in, taken away, exchanged. They are counted from 1, and 0 is taken as 1.
+// Lines of the bytes at hand: put in, taken away. They are counted from 1, and 0 is taken as 1.
 ghost use Rattle.std.specs.Prelude.{◌≤◌, length};
 
-use crate::{commands, memory, tokens};
+use crate::buffer::Buffer;
+use crate::tokens;
 
 // Where line k begins; the end if there are fewer.
 fn start(text: &[u8], k: u64) -> usize
     ensures { result ≤ length text.now }
 {
-    let mut at: usize = 0;
-    let mut line: u64 = 1;
-    while line < k && at < text.len() {
-        let end = tokens::next(text, at, b'\n');
-        at = tokens::after(text, at, end);
-        line += 1;
+    let mut left = k;
+    for (i, b) in text.iter().enumerate() {
+        if left <= 1 {
+            return i;
+        }
+        if *b == b'\n' {
+            left -= 1;
+        }
     }
-    at
+    text.len()
 }
 
-// A text and one LF, from a position on, in front of what is there. Answers the length.
-pub(crate) fn insert(text: &[u8], bytes: &mut [u8], length: usize, at: usize) -> usize {
-    let to = memory::fit(length, bytes);
-    let from = memory::least(at, to);
-    let mut behind = [0u8; 8192];
-    let n = memory::fit(memory::copy(&bytes[from..to], &mut behind), &behind);
-    let line = memory::put(text, bytes, from);
-    let end = memory::put(b"\n", bytes, line);
-    memory::put(&behind[..n], bytes, end)
+// A text and one LF behind what is there.
+pub(crate) fn append(text: &[u8], bytes: &mut Buffer) {
+    bytes.append(text);
+    bytes.append(b"\n");
 }
 
-// Without the bytes from a position to another. Answers the length.
-fn cut_out(bytes: &mut [u8], length: usize, from: usize, to: usize) -> usize {
-    let end = memory::fit(length, bytes);
-    let begin = memory::least(to, end);
-    let mut behind = [0u8; 8192];
-    let n = memory::fit(memory::copy(&bytes[begin..end], &mut behind), &behind);
-    memory::put(&behind[..n], bytes, from)
+// The text from word 2 on and one LF in front of the line that word 1 counts; what is then beyond the room is dropped.
+pub(crate) fn insert(line: &[u8], bytes: &mut Buffer) {
+    let mut room = [0u8; 8192];
+    let mut behind = Buffer::new(&mut room);
+    let all = bytes.as_slice();
+    let at = start(all, tokens::number(line, 1));
+    behind.append(&all[at..]);
+    bytes.resize(at);
+    append(tokens::from_word(line, 2), bytes);
+    bytes.append(behind.as_slice());
 }
 
-// The length without line k.
-fn take_away(bytes: &mut [u8], length: usize, k: u64) -> usize {
-    let n = memory::fit(length, bytes);
-    let from = start(&bytes[..n], k);
-    let to = from + start(&bytes[from..n], 2);
-    cut_out(bytes, n, from, to)
-}
-
-// The length with the text of word 2 and the rest in front of line k.
-fn put_in(line: &[u8], bytes: &mut [u8], length: usize, k: u64) -> usize {
-    let n = memory::fit(length, bytes);
-    let at = start(&bytes[..n], k);
-    insert(tokens::rest(line, 1), bytes, n, at)
-}
-
-// Takes a line away, puts one in, or both, and answers the length.
-pub(crate) fn edit(command: u8, line: &[u8], bytes: &mut [u8], length: usize) -> usize {
-    let k = tokens::number(line, 1);
-    if command == commands::INSERT {
-        return put_in(line, bytes, length, k);
-    }
-    let n = take_away(bytes, length, k);
-    if command == commands::DROP {
-        return n;
-    }
-    put_in(line, bytes, n, k)
+// Takes the line away that word 1 counts, if there is one.
+pub(crate) fn remove(line: &[u8], bytes: &mut Buffer) {
+    let all = bytes.as_mut_slice();
+    let at = start(all, tokens::number(line, 1));
+    let part = &mut all[at..];
+    let n = start(part, 2);
+    part.rotate_left(n);
+    let length = all.len() - n;
+    bytes.resize(length);
 }

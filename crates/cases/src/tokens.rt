@@ -1,138 +1,87 @@
 // The words of a line: names, decimal and hexadecimal numbers, pairs of hexadecimal digits. A word that is missing is empty, and an empty number is 0.
-ghost use Rattle.std.specs.Prelude.{◌+◌, ◌*◌, ◌<◌, ◌≤◌, length};
+ghost use Rattle.std.specs.Prelude.{◌+◌, ◌*◌, ◌≤◌};
 
-use crate::memory;
+use crate::buffer;
 
-// Where the byte next stands, from `at` on, or the end of the text.
-pub(crate) fn next(text: &[u8], at: usize, byte: u8) -> usize
-    requires { at ≤ length text.now }
-    ensures { (at ≤ result) × (result ≤ length text.now) }
-{
-    let mut i = at;
-    while i < text.len() {
-        if text[i] == byte {
+// Word k, counted from 0.
+pub(crate) fn word(line: &[u8], k: usize) -> &[u8] {
+    let rest = from_word(line, k);
+    buffer::first(space_in(rest), rest)
+}
+
+// All that stands from word k on, as it stands.
+pub(crate) fn from_word(line: &[u8], k: usize) -> &[u8] {
+    let mut rest = line;
+    for _ in 0..k {
+        rest = buffer::behind(space_in(rest).saturating_add(1), rest);
+    }
+    rest
+}
+
+// Where the first space stands, or the end.
+fn space_in(line: &[u8]) -> usize {
+    for (i, b) in line.iter().enumerate() {
+        if *b == b' ' {
             return i;
         }
-        i += 1;
     }
-    text.len()
+    line.len()
 }
 
-// Where the line after one that begins at `at` and ends at `end` begins.
-pub(crate) fn after(text: &[u8], at: usize, end: usize) -> usize
-    requires { (at ≤ end) × (end ≤ length text.now) × (at < length text.now) }
-    ensures { (at < result) × (result ≤ length text.now) }
-{
-    if end < text.len() { end + 1 } else { end }
-}
-
-// Where word k begins, counted from 0; the end of the line if there are fewer.
-pub(crate) fn start(line: &[u8], k: u8) -> usize
-    ensures { result ≤ length line.now }
-{
-    let mut at: usize = 0;
-    let mut left = k;
-    while left > 0 {
-        let end = next(line, at, b' ');
-        if end == line.len() {
-            return end;
+// What a name stands for in a table.
+pub(crate) fn meaning<T: Copy>(table: &[(&[u8], T)], name: &[u8]) -> Option<T> {
+    for entry in table {
+        if entry.0 == name {
+            return Some(entry.1);
         }
-        at = end + 1;
-        left -= 1;
     }
-    at
-}
-
-// Word k.
-pub(crate) fn word(line: &[u8], k: u8) -> &[u8] {
-    let from = start(line, k);
-    let to = next(line, from, b' ');
-    &line[from..to]
-}
-
-// All that stands behind word k, as it stands.
-pub(crate) fn rest(line: &[u8], k: u8) -> &[u8]
-    requires { k < 8 }
-{
-    let from = start(line, k + 1);
-    &line[from..]
-}
-
-// Which of the names it is, counted from 0; 50 if it is none of the first 50.
-pub(crate) fn order(name: &[u8], names: &[u8]) -> u8 {
-    let mut k: u8 = 0;
-    while k < 50 {
-        if check::same(word(names, k), name) {
-            return k;
-        }
-        k += 1;
-    }
-    k
+    None
 }
 
 // What a digit stands for, decimal or hexadecimal.
-fn digit(b: u8) -> u64
-    ensures { result < 16 }
-{
-    if b < b'0' {
-        0
-    } else if b <= b'9' {
-        (b - b'0') as u64
-    } else if b < b'a' {
-        0
-    } else if b <= b'f' {
-        (b - b'a') as u64 + 10
-    } else {
-        0
+fn digit(b: u8) -> u8 {
+    match b {
+        b'0'..=b'9' => b - b'0',
+        b'a'..=b'f' => b - b'a' + 10,
+        _ => 0,
     }
 }
 
-// n times ten, or times sixteen, modulo 2^64.
-fn shifted(n: u64, hexadecimal: bool) -> u64 {
-    if hexadecimal {
-        n << 4
-    } else {
-        std::num::wrapping_add_u64(n << 3, n << 1)
-    }
-}
-
-// A word's digits as a number, modulo 2^64.
-fn value(word: &[u8], hexadecimal: bool) -> u64 {
+// A word's digits as a number of this base, modulo 2^64.
+fn value(word: &[u8], base: u64) -> u64 {
     let mut n: u64 = 0;
-    let mut i: usize = 0;
-    while i < word.len() {
-        n = std::num::wrapping_add_u64(shifted(n, hexadecimal), digit(word[i]));
-        i += 1;
+    for b in word {
+        n = n.wrapping_mul(base).wrapping_add(u64::from(digit(*b)));
     }
     n
 }
 
 // Word k as a decimal number.
-pub(crate) fn number(line: &[u8], k: u8) -> u64 {
-    value(word(line, k), false)
+pub(crate) fn number(line: &[u8], k: usize) -> u64 {
+    value(word(line, k), 10)
 }
 
-// The same modulo 2^32, 2^16 and 2^8.
-pub(crate) fn number32(line: &[u8], k: u8) -> u32 {
+// The same modulo 2^32, 2^16 and 2^8. One generic function for the three would need a trait with three impls, which is longer.
+pub(crate) fn number32(line: &[u8], k: usize) -> u32 {
     (number(line, k) % 4294967296) as u32
 }
 
-pub(crate) fn number16(line: &[u8], k: u8) -> u16 {
+pub(crate) fn number16(line: &[u8], k: usize) -> u16 {
     (number(line, k) % 65536) as u16
 }
 
-pub(crate) fn number8(line: &[u8], k: u8) -> u8 {
+pub(crate) fn number8(line: &[u8], k: usize) -> u8 {
     (number(line, k) % 256) as u8
 }
 
 // Word k as a hexadecimal number.
-pub(crate) fn hexadecimal(line: &[u8], k: u8) -> u64 {
-    value(word(line, k), true)
+pub(crate) fn hexadecimal(line: &[u8], k: usize) -> u64 {
+    value(word(line, k), 16)
 }
 
 // The byte of two hexadecimal digits.
 fn pair(high: u8, low: u8) -> u8 {
-    (digit(high) * 16 + digit(low)) as u8
+    (digit(high) << 4) | digit(low)
 }
 
 // How many pairs there are in so many bytes, with a space between two.
@@ -143,13 +92,11 @@ fn pairs_in(length: usize) -> usize
 }
 
 // The pairs from word k on, as many as there are and fit, at the start of `out`. Answers how many.
-pub(crate) fn put_pairs(line: &[u8], k: u8, out: &mut [u8]) -> usize {
-    let at = start(line, k);
-    let n = memory::least(pairs_in(line.len() - at), out.len());
-    let mut i: usize = 0;
-    while i < n {
-        out[i] = pair(line[at + 3 * i], line[at + 3 * i + 1]);
-        i += 1;
+pub(crate) fn put_pairs(line: &[u8], k: usize, out: &mut [u8]) -> usize {
+    let pairs = from_word(line, k);
+    let n = pairs_in(pairs.len()).min(out.len());
+    for i in 0..n {
+        out[i] = pair(pairs[3 * i], pairs[3 * i + 1]);
     }
     n
 }

@@ -1,9 +1,0 @@
--- Fifty turns.
-use Rattle.std.proofs.Common.{◌-◌}
-use Rattle.cases.proofs.tokens.order.Given as goal
-
-abbrev pub invariant-loop-k : goal.invariant-loop-k
-invariant-loop-k l = Unit {0}
-
-abbrev pub decreases-loop-k : goal.decreases-loop-k
-decreases-loop-k l = 50 - l.k

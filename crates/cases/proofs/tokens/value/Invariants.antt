@@ -1,9 +1,0 @@
--- Every turn leaves one byte less of the word.
-use Rattle.std.proofs.Common.{◌-◌, length}
-use Rattle.cases.proofs.tokens.value.Given as goal
-
-abbrev pub invariant-loop-i : goal.invariant-loop-i
-invariant-loop-i l = Unit {0}
-
-abbrev pub decreases-loop-i : goal.decreases-loop-i
-decreases-loop-i l = length l.word - l.i
