@@ -9,22 +9,11 @@ ghost use Rattle.filling.specs.Put.{info_from, rows_from, put_serves, put_verdic
 use refusals::{Refusal, Verdict};
 
 // Whether `put_rows` serves, given room.
+#[tactic(auto, unfolding(crate::specs::Put::put_serves))]
 fn serves(len: usize, m: usize, at: usize, n: usize) -> bool
     ensures { result ≡ put_serves len m at n }
 {
-    if m == 0 {
-        return false;
-    }
-    if 255 < m {
-        return false;
-    }
-    if 15 < n {
-        return false;
-    }
-    if 16777216 < at {
-        return false;
-    }
-    len <= 16777216
+    0 < m && m <= 255 && n <= 15 && at <= 16777216 && len <= 16777216
 }
 
 // Copies eight bytes of the file, from byte `at` on and m apart.
