@@ -50,6 +50,12 @@ lent-sets a vs l i h =
     ∙ sym (sets_behind (take a l) (drop a l) i vs)
     ∙ ap₂ (λ (x : List ℕ) (y : ℕ). sets x (y + i) vs) (take-append-drop a l) e
 
+-- a part that is lent and all written: the same as its bytes stored there
+pub put_whole : (l ys : List ℕ) (a k : ℕ) → length ys ≡ k → a + k ≤ length l → put_mid a k l ys ≡ sets l a ys
+put_whole l ys a k e h =
+    ap (λ (x : List ℕ). take a l ++ (ys ++ x)) (ap (λ (x : ℕ). drop x (drop a l)) (sym e) ∙ drop-drop (length ys) a l)
+    ∙ sym (sets-eq ys l a (omega arith) ∙ append_assoc (take a l) ys (drop (a + length ys) l))
+
 -- beyond the end nothing is stored
 pub sets_out : (l : List ℕ) (at : ℕ) (vs : List ℕ) → length l ≤ at → sets l at vs ≡ l
 sets_out l at [] h = refl
@@ -74,10 +80,7 @@ module _ (l : List ℕ) (at n : ℕ) (vs : List ℕ) (h : n ≤ length vs) (e : 
 
   -- and likewise where n are put there as one part
   pub put_reach : (ys : List ℕ) (k : ℕ) → ys ≡ take n vs → k ≡ n → at + n ≤ length l → put_mid at k l ys ≡ sets l at vs
-  put_reach ys k p d room =
-      let z : length (take n vs) ≡ n = length-take-le n vs h in
-      ap₂ (λ (x y : List ℕ). take at l ++ (x ++ y)) p (ap (λ (x : ℕ). drop x (drop at l)) (d ∙ sym z) ∙ drop-drop (length (take n vs)) at l)
-      ∙ sym (sets-eq (take n vs) l at (omega arith) ∙ append_assoc (take at l) (take n vs) (drop (at + length (take n vs)) l)) ∙ reaches
+  put_reach ys k p d room = put_whole l ys at k (ap length p ∙ length-take-le n vs h ∙ sym d) (omega arith) ∙ ap (sets l at) p ∙ reaches
 
 -- ---- a run of writes: l is l₀ with the first k of n values of f written from at on
 pub record Run (f : ℕ → ℕ) (n at : ℕ) (l₀ l : List ℕ) (k : ℕ) : Type 0 where
