@@ -1,17 +1,19 @@
 -- The bytes of a store after slots were cleared or a payload was stored: at the bytes written, and at every other.
 -- Assumes nothing.
 use mathlib.Core.Path.{◌≡◌, refl, sym, ap, ap₂, ◌∙◌}
-use mathlib.Core.Bool.{Bool, true, false, true≢false, ◌&&◌}
+use mathlib.Core.Bool.{true, false}
 use mathlib.Core.List.{List, [], ◌∷◌}
 use mathlib.Core.Logic.{◌⊎◌, inl, inr}
 use Prim.Native.Nat.{ℕ, zero, suc, ◌+◌, ◌*◌, ◌/◌, ◌%◌, ◌<◌, ◌≤◌}
 use native.Mathlib.Nat.{suc-mul}
 use native.Mathlib.Numerals.{add-one, add-two}
 use native.Mathlib.Omega.{arith}
-use borrow.Author.Tests.{lt-ltb, le-ltb, ltb-true, lt-leb, le-leb, leb-true}
-use lib.Dec.{leb, ltb}
-use lib.ListN.{length, get_or, set, take, drop, length-set, get_or-eq_default}
+use borrow.Author.Tests.{lt-ltb, le-leb}
+use borrow.Rule.Slice.PartMut.{put_mid}
+use lib.ListN.{length, get_or, set, take, drop, length-set}
 use lib.Seq.{sets, set_comm, get_or-set_same, get_or-set_other, length-sets}
+use Rattle.std.proofs.lemmas.Bool.Decides.{nat_tests}
+use Rattle.ground.proofs.Writing.{put_whole}
 use Rattle.ground.proofs.Listed.{length-listed, listed_ext, listed-part}
 use Rattle.refusals.specs.declared.Refusal.TheVariants.{Output}
 use Rattle.contents.specs.Slots.{length_at, cleared, stored, room_for, slot_verdict, stored_within}
@@ -49,14 +51,6 @@ sets_hit l at (v ∷ vs) h =
     ap₂ ◌∷◌ (sets_below (set l at v) (suc at) vs at (omega arith) ∙ get_or-set_same l at v 0 (omega arith))
     (sets_hit (set l at v) (suc at) vs (omega (arith, length-set l at v)))
 
--- ---- a length is read as 0 where the store has no byte
-
-pub length-out : (s : List ℕ) (at : ℕ) → length s ≤ at → 0 ≡ length_at s at
-length-out s at h = rw (get_or-eq_default s 0 {n = at} h, get_or-eq_default s 0 {n = at + 1} (omega arith)) refl
-
-pub length_half : (s : List ℕ) (at : ℕ) → length s ≤ at + 1 → get_or s at 0 ≡ length_at s at
-length_half s at h = rw (get_or-eq_default s 0 {n = at + 1} h) (omega arith)
-
 -- ---- a payload first, then its length: the same as in the order in which they stand
 
 set_before : (s : List ℕ) (i x : ℕ) (at : ℕ) (b : List ℕ) → i < at → set (sets s at b) i x ≡ sets (set s i x) at b
@@ -65,25 +59,21 @@ set_before s i x at (v ∷ b) h =
     set_before (set s at v) i x (suc at) b (omega arith)
     ∙ ap (λ (l : List ℕ). sets l (suc at) b) (set_comm s at i v x (omega arith))
 
-pub stored_made : (s : List ℕ) (at : ℕ) (b : List ℕ) → set (set (sets s (at + 2) b) at (length b % 256)) (at + 1) (length b / 256) ≡ stored s at b
-stored_made s at b =
-    ap (λ (l : List ℕ). set l (at + 1) (length b / 256)) (set_before s at (length b % 256) (at + 2) b (omega arith))
-    ∙ set_before (set s at (length b % 256)) (at + 1) (length b / 256) (at + 2) b (omega arith)
-    ∙ rw (add-two at, add-one at) refl
+-- the length's two bytes are put there as one part
+pub stored_made : (s : List ℕ) (at : ℕ) (b : List ℕ) (l ys : List ℕ) (k : ℕ) → at + 2 ≤ length s → l ≡ sets s (at + 2) b → k ≡ 2
+    → ys ≡ length b % 256 ∷ length b / 256 ∷ [] → put_mid at k l ys ≡ stored s at b
+stored_made s at b l ys k h c d e =
+    let z : length l ≡ length s = ap length c ∙ length-sets s (at + 2) b in
+    put_whole l ys at k (ap length e ∙ sym d) (omega arith) ∙ ap₂ (λ (x y : List ℕ). sets x at y) c e
+    ∙ ap (λ (x : List ℕ). set x (suc at) (length b / 256)) (set_before s at (length b % 256) (at + 2) b (omega arith))
+    ∙ set_before (set s at (length b % 256)) (suc at) (length b / 256) (at + 2) b (omega arith)
+    ∙ rw (add-two at) refl
 
 -- ---- where there is room
 
 module _ (size at n : ℕ) where
   pub room_made : n < 65536 → at + 2 + n ≤ size → room_for size at n ≡ true
   room_made h l = rw (lt-ltb n 65536 h, le-leb (at + 2 + n) size l) refl
-
-  pub room-none : (65536 ≤ n) ⊎ (size < at + 2 + n) → room_for size at n ≡ false
-  room-none (inl h) = rw (le-ltb n 65536 h) refl
-  room-none (inr h) = rw (lt-leb (at + 2 + n) size h) (either (ltb n 65536))
-    where
-      either : (x : Bool) → (x && false) ≡ false
-      either true = refl
-      either false = refl
 
   pub slot_served : room_for size at n ≡ true → (Ok tt) ≡ slot_verdict size at n
   unfolding slot_verdict
@@ -94,12 +84,7 @@ module _ (size at n : ℕ) where
   slot-refused e = rw e refl
 
   pub room-known : room_for size at n ≡ true → (n < 65536) × (at + 2 + n ≤ size)
-  room-known e = by (ltb n 65536) (leb (at + 2 + n) size) refl refl e
-    where
-      by : (x y : Bool) → ltb n 65536 ≡ x → leb (at + 2 + n) size ≡ y → (x && y) ≡ true → (n < 65536) × (at + 2 + n ≤ size)
-      by true true t u e = (ltb-true n 65536 t, leb-true (at + 2 + n) size u)
-      by true false t u e = absurd (true≢false (sym e))
-      by false y t u e = absurd (true≢false (sym e))
+  room-known e = (grind (arith, nat_tests), grind (arith, nat_tests))
 
 module _ (s : List ℕ) (at : ℕ) (b : List ℕ) where
   pub stored_within_lem : room_for (length s) at (length b) ≡ true → stored_within s at b ≡ stored s at b

@@ -2,7 +2,7 @@
 // which what a place holds is told. A store reads as 0 beyond its end.
 #![tactic(auto)]
 
-ghost use Rattle.std.specs.Prelude.{◌≡◌, ◌+◌, ◌≤◌, length};
+ghost use Rattle.std.specs.Prelude.{◌≡◌, length, get_or};
 ghost use Rattle.contents.specs.Slots.{length_at, room_for, slot_verdict, stored_within};
 ghost use Rattle.contents.specs.Contents.{length_fits};
 
@@ -13,35 +13,23 @@ use refusals::Refusal;
 pub fn slot_length(store: &[u8], at: usize) -> usize
     ensures { result ≡ length_at store.now at }
 {
-    let n = store.len();
-    if n < 2 {
-        return low_byte(store, at);
-    }
-    if n - 1 <= at {
-        return low_byte(store, at);
-    }
-    words::index(store[at]) + words::index(store[at + 1]) * 256
+    let low = byte(store, at);
+    let high = byte(store, at.saturating_add(1));
+    u16::from_le_bytes([low, high]) as usize
 }
 
-// The same where the store has at most the first byte of it.
-fn low_byte(store: &[u8], at: usize) -> usize
-    requires { length store.now ≤ at + 1 }
-    ensures { result ≡ length_at store.now at }
+// Byte i of the store, 0 beyond its end.
+fn byte(store: &[u8], i: usize) -> u8
+    ensures { result ≡ get_or store.now i 0 }
 {
-    if store.len() <= at {
-        return 0;
-    }
-    words::index(store[at])
+    store.get(i).copied().unwrap_or(0)
 }
 
 // Whether a slot of a place may hold `n` bytes.
 pub fn length_fits(p: Place, n: usize) -> bool
     ensures { result ≡ length_fits p n }
 {
-    if (p.slot as usize) < n {
-        return false;
-    }
-    !settings::row_wise(p.protection, p.order) || n % 255 == 0
+    n <= p.slot as usize && (!settings::row_wise(p.protection, p.order) || n % 255 == 0)
 }
 
 // Puts a payload into the slot at `at`. Its length is written last: a process that is killed before leaves the slot empty. Refused, and nothing written: 26 where
@@ -54,8 +42,7 @@ pub fn put_slot(store: &mut [u8], at: usize, payload: &[u8]) -> Result<(), Refus
         return Err(Refusal::Output);
     }
     slices::copy_in(store, at + 2, payload);
-    store[at] = (n % 256) as u8;
-    store[at + 1] = (n / 256) as u8;
+    store[at..at + 2].copy_from_slice(&(n as u16).to_le_bytes());
     Ok(())
 }
 
@@ -63,14 +50,5 @@ pub fn put_slot(store: &mut [u8], at: usize, payload: &[u8]) -> Result<(), Refus
 fn has_room(size: usize, at: usize, n: usize) -> bool
     ensures { result ≡ room_for size at n }
 {
-    if 65535 < n {
-        return false;
-    }
-    if size < n + 2 {
-        return false;
-    }
-    if size - (n + 2) < at {
-        return false;
-    }
-    true
+    n <= 65535 && n + 2 <= size && at <= size - (n + 2)
 }

@@ -28,15 +28,17 @@ pub fn put_fields(f: Packet, out: &mut [u32]) -> u64
     if out.len() < 10 {
         return NO_ROOM;
     }
-    out[0] = f.resource as u32;
-    out[1] = f.number;
-    out[2] = f.update as u32;
-    out[3] = f.length as u32;
-    out[4] = f.count;
-    out[5] = f.kind as u32;
-    out[6] = f.protection as u32;
-    out[7] = f.rows as u32;
-    out[8] = f.reserved as u32;
-    out[9] = edition::edition_of(f) as u32;
+    out[..10].copy_from_slice(&[
+        f.resource as u32,
+        f.number,
+        f.update as u32,
+        f.length as u32,
+        f.count,
+        f.kind as u32,
+        f.protection as u32,
+        f.rows as u32,
+        f.reserved as u32,
+        edition::edition_of(f) as u32,
+    ]);
     0
 }

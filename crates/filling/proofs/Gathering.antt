@@ -40,15 +40,21 @@ column_from file m at i n =
     let e : at + i * m + k * m ≡ at + (i + k) * m = omega (arith, add-mul i k m) in
     ap (λ (c : ℕ). get_or file (at + i * m + c * m) 0) z ∙ ap (λ (j : ℕ). get_or file j 0) e)
 
-module _ (file : List ℕ) (m at o c : ℕ) (out₀ out next : List ℕ) (run : Run (λ j. get_or file (at + j * m) 0) 239 o out₀ out c) where
+module _ (file : List ℕ) (m at o k : ℕ) (out₀ out next : List ℕ) (run : Run (λ j. get_or file (at + j * m) 0) 239 o out₀ out (k * 8)) where
   -- eight bytes more
-  pub eight_more : c + 8 ≤ 239 → next ≡ sets out (o + c) (column file m (at + c * m) 8) → Run (λ j. get_or file (at + j * m) 0) 239 o out₀ next (c + 8)
-  eight_more h e = run_jump (λ j. get_or file (at + j * m) 0) 239 o out₀ out c run 8 next h (e ∙ ap (sets out (o + c)) (column_from file m at c 8))
+  pub eight_more : (k + 1) * 8 ≤ 239 → next ≡ sets out (o + k * 8) (column file m (at + k * 8 * m) 8)
+      → Run (λ j. get_or file (at + j * m) 0) 239 o out₀ next ((k + 1) * 8)
+  eight_more h e =
+      let z : k * 8 + 8 ≡ (k + 1) * 8 = omega arith in
+      subst (Run (λ j. get_or file (at + j * m) 0) 239 o out₀ next) z
+      (run_jump (λ j. get_or file (at + j * m) 0) 239 o out₀ out (k * 8) run 8 next (omega arith) (e ∙ ap (sets out (o + k * 8)) (column_from file m at (k * 8) 8)))
 
-  -- all that are left
-  pub row-gathered : next ≡ sets out (o + c) (column file m (at + c * m) (239 - c)) → next ≡ sets out₀ o (info_from file m at)
+  -- all that are left, behind n times eight
+  pub row-gathered : (n : ℕ) → next ≡ sets out (o + n * 8) (column file m (at + n * 8 * m) (239 - n * 8)) → n ≡ k → next ≡ sets out₀ o (info_from file m at)
   unfolding info_from
-  row-gathered e = e ∙ ap (sets out (o + c)) (column_from file m at c (239 - c)) ∙ run.rest
+  row-gathered n e d =
+      e ∙ ap (λ (x : ℕ). sets out (o + x * 8) (column file m (at + x * 8 * m) (239 - x * 8))) d
+      ∙ ap (sets out (o + k * 8)) (column_from file m at (k * 8) (239 - k * 8)) ∙ run.rest
 
 -- ---- rows
 

@@ -1,15 +1,15 @@
--- What `put_rows` serves: the tests of `serves`, one after the other, what is known where all of them passed, and the call's three ends.
+-- What `put_rows` serves: what is known where all tests of `serves` passed, and the call's three ends.
 -- Assumes nothing.
 use mathlib.Core.Path.{◌≡◌, refl, sym, ap, ap₂, ◌∙◌}
-use mathlib.Core.Bool.{Bool, true, false, not, ◌&&◌}
+use mathlib.Core.Bool.{Bool, true, false, not}
 use mathlib.Core.List.{List, ◌++◌}
 use Prim.Native.Nat.{ℕ, ◌-◌, ◌*◌, ◌<◌, ◌≤◌}
 use native.Mathlib.Omega.{arith}
-use borrow.Author.Tests.{lt-ltb, le-ltb, le-leb, lt-leb, leb-true, not-true, not-false}
+use borrow.Author.Tests.{lt-ltb, le-ltb, not-true, not-false}
 use borrow.Rule.Slice.PartMut.{put_mid}
-use lib.Dec.{leb, ltb}
 use lib.ListN.{length, take, drop}
 use lib.Seq.{sets, length-take-le}
+use Rattle.std.proofs.lemmas.Bool.Decides.{nat_tests}
 use Rattle.ground.proofs.Writing.{sets-front}
 use Rattle.refusals.specs.declared.Refusal.TheVariants.{Field, Output}
 use Rattle.filling.specs.Put.{rows_from, put_serves, put_verdict, put_as, put_rows}
@@ -18,54 +18,20 @@ use Rattle.refusals.specs.declared.Refusal.{Refusal}
 use Rattle.std.specs.Prelude.{Result}
 use Rattle.std.specs.Prelude.{Ok, Err}
 
-module _ (len m at n : ℕ) where
-  pub no_rows : m ≡ 0 → false ≡ put_serves len m at n
-  unfolding put_serves
-  no_rows e = rw (le-ltb 0 m (omega arith))
+-- where all tests pass it serves
+pub serves_where : (len m at n : ℕ) → 0 < m → m ≤ 255 → n ≤ 15 → at ≤ 16777216 → len ≤ 16777216 → put_serves len m at n ≡ true
+unfolding put_serves
+serves_where len m at n a b c d e = grind (arith, nat_tests)
 
-  module _ (a : (m ≡ 0 → ⊥)) where
-    some : ltb 0 m ≡ true
-    some = lt-ltb 0 m (omega arith)
-
-    pub too_tall : 255 < m → false ≡ put_serves len m at n
-    unfolding put_serves
-    too_tall h = rw (some, lt-leb m 255 h)
-
-    module _ (b : m ≤ 255) where
-      pub too_many : 15 < n → false ≡ put_serves len m at n
-      unfolding put_serves
-      too_many h = rw (some, le-leb m 255 b, lt-leb n 15 h)
-
-      module _ (c : n ≤ 15) where
-        pub too_far : 16777216 < at → false ≡ put_serves len m at n
-        unfolding put_serves
-        too_far h = rw (some, le-leb m 255 b, le-leb n 15 c, lt-leb at 16777216 h)
-
-        pub by_length : at ≤ 16777216 → leb len 16777216 ≡ put_serves len m at n
-        unfolding put_serves
-        by_length h = rw (some, le-leb m 255 b, le-leb n 15 c, le-leb at 16777216 h)
-
--- all tests passed
+-- and only there
 pub record Served (m at n : ℕ) : Type 0 where
   pub rows : m ≤ 255
   pub count : n ≤ 15
   pub start : at ≤ 16777216
 
-and-true : (a b : Bool) → a && b ≡ true → (a ≡ true) × (b ≡ true)
-and-true true b e = (refl, e)
-and-true false b e = (e, cc)
-
 served : (len m at n : ℕ) → put_serves len m at n ≡ true → Served m at n
 unfolding put_serves
-served len m at n e =
-    let a : Bool = ltb 0 m && leb m 255 in
-    let b : Bool = a && leb n 15 in
-    let c : Bool = b && leb at 16777216 in
-    let q = and-true c (leb len 16777216) e in
-    let r = and-true b (leb at 16777216) q.0 in
-    let s = and-true a (leb n 15) r.0 in
-    let t = and-true (ltb 0 m) (leb m 255) s.0 in
-    record { rows = leb-true m 255 t.1; count = leb-true n 15 s.1; start = leb-true at 16777216 r.1 }
+served len m at n e = record { rows = grind (arith, nat_tests); count = grind (arith, nat_tests); start = grind (arith, nat_tests) }
 
 -- ---- what the call answers and leaves
 

@@ -9,29 +9,11 @@ ghost use Rattle.filling.specs.Put.{info_from, rows_from, put_serves, put_verdic
 use refusals::Refusal;
 
 // Whether `put_rows` serves, given room.
+#[tactic(auto, unfolding(crate::specs::Put::put_serves))]
 fn serves(len: usize, m: usize, at: usize, n: usize) -> bool
     ensures { result ≡ put_serves len m at n }
 {
-    if m == 0 {
-        return false;
-    }
-    if 255 < m {
-        return false;
-    }
-    if 15 < n {
-        return false;
-    }
-    if 16777216 < at {
-        return false;
-    }
-    len <= 16777216
-}
-
-// Byte i of the file, 0 beyond it.
-fn byte(file: &[u8], i: usize) -> u8
-    ensures { result ≡ get_or file.now i 0 }
-{
-    if i < file.len() { file[i] } else { 0 }
+    0 < m && m <= 255 && n <= 15 && at <= 16777216 && len <= 16777216
 }
 
 // Copies eight bytes of the file, from byte `at` on and m apart.
@@ -39,10 +21,8 @@ fn copy_eight(file: &[u8], m: usize, at: usize, out: &mut [u8], o: usize)
     requires { (m ≤ 255) × (at + 7 * m < length file.now) × (o + 8 ≤ length out.old) }
     ensures { out.new ≡ sets out.old o (column file.now m at 8) }
 {
-    let mut c: usize = 0;
-    while c < 8 {
+    for c in 0..8 {
         out[o + c] = file[at + c * m];
-        c += 1;
     }
 }
 
@@ -51,10 +31,8 @@ fn copy_padded(file: &[u8], m: usize, at: usize, n: usize, out: &mut [u8], o: us
     requires { (m ≤ 255) × (at ≤ 16838176) × (n ≤ 239) × (o + n ≤ length out.old) }
     ensures { out.new ≡ sets out.old o (column file.now m at n) }
 {
-    let mut c: usize = 0;
-    while c < n {
-        out[o + c] = byte(file, at + c * m);
-        c += 1;
+    for c in 0..n {
+        out[o + c] = file.get(at + c * m).copied().unwrap_or(0);
     }
 }
 
@@ -63,12 +41,11 @@ fn gather(file: &[u8], m: usize, at: usize, out: &mut [u8], o: usize)
     requires { (m ≤ 255) × (at ≤ 16777231) × (o + 239 ≤ length out.old) }
     ensures { out.new ≡ sets out.old o (info_from file.now m at) }
 {
-    let whole: usize = if at + 238 * m < file.len() { 232 } else { 0 };
-    let mut c: usize = 0;
-    while c < whole {
-        copy_eight(file, m, at + c * m, out, o + c);
-        c += 8;
+    let eights = if at + 238 * m < file.len() { 29 } else { 0 };
+    for k in 0..eights {
+        copy_eight(file, m, at + k * 8 * m, out, o + k * 8);
     }
+    let c = eights * 8;
     copy_padded(file, m, at + c * m, 239 - c, out, o + c);
 }
 
@@ -77,10 +54,8 @@ fn fill(file: &[u8], m: usize, at: usize, n: usize, rows: &mut [u8])
     requires { (m ≤ 255) × (n ≤ 15) × (at ≤ 16777216) × (length rows.old ≡ n * 255) }
     ensures { rows.new ≡ rows_from file.now m at n }
 {
-    let mut r: usize = 0;
-    while r < n {
+    for r in 0..n {
         gather(file, m, at + r, rows, r * 255);
-        r += 1;
     }
     encoding::put_checks(rows);
 }

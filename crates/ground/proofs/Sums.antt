@@ -92,7 +92,7 @@ sum_cancel a b e =
     sym (sum_zero a) ∙ ap (sum a) (sym (sum_self b)) ∙ sym (sum_assoc a b b) ∙ ap (λ (x : ℕ). sum x b) e ∙ zero_sum b
 
 pub swap4 : (a b c d : ℕ) → sum (sum a b) (sum c d) ≡ sum (sum a c) (sum b d)
-swap4 a b c d = simp (sum_assoc, sum_comm, sum-left_comm)
+swap4 a b c d = simp (sum_assoc, sum-left_comm)
 
 -- ---- a bit times a polynomial
 

@@ -1,16 +1,16 @@
 -- A loop that writes one value after the other, in one record: `Run`. What is left to write makes what the whole run makes. And what a run of writes holds
 -- afterwards, as parts of lists. Assumes nothing.
 use mathlib.Core.Path.{◌≡◌, refl, sym, ap, ap₂, subst, ◌∙◌}
-use mathlib.Core.Logic.{◌⊎◌, inl, inr}
-use mathlib.Core.List.{List, [], ◌∷◌, ◌++◌, append-nil}
+use mathlib.Core.Logic.{⊎_elim}
+use mathlib.Core.List.{List, [], ◌∷◌, ◌++◌, append_assoc, append-nil}
 use Prim.Native.Nat.{ℕ, suc, ◌+◌, ◌-◌, ◌<◌, ◌≤◌}
 use native.Mathlib.Nat.{add-zero, zero-add, add-suc, suc-add}
 use native.Mathlib.Omega.{arith}
 use lib.ListN.{length, get_or, set, take, drop, length-set, length-drop, drop_of_length-le, take-append-drop}
-use lib.Seq.{sets, set_out, sets-eq, length-sets, take_all, length-take-le}
+use lib.Seq.{sets, set_out, sets-eq, length-sets, take_all, length-take-le, drop-drop}
 use borrow.Rule.Slice.PartMut.{put_mid}
 use Rattle.ground.specs.Lists.{listed}
-use Rattle.ground.proofs.Listed.{length-listed, listed-append, listed-whole, listed-part, le_or_lt}
+use Rattle.ground.proofs.Listed.{length-listed, listed-append, listed-part, le_or_lt}
 
 -- ---- stores that follow each other
 
@@ -50,26 +50,37 @@ lent-sets a vs l i h =
     ∙ sym (sets_behind (take a l) (drop a l) i vs)
     ∙ ap₂ (λ (x : List ℕ) (y : ℕ). sets x (y + i) vs) (take-append-drop a l) e
 
+-- a part that is lent and all written: the same as its bytes stored there
+pub put_whole : (l ys : List ℕ) (a k : ℕ) → length ys ≡ k → a + k ≤ length l → put_mid a k l ys ≡ sets l a ys
+put_whole l ys a k e h =
+    ap (λ (x : List ℕ). take a l ++ (ys ++ x)) (ap (λ (x : ℕ). drop x (drop a l)) (sym e) ∙ drop-drop (length ys) a l)
+    ∙ sym (sets-eq ys l a (omega arith) ∙ append_assoc (take a l) ys (drop (a + length ys) l))
+
 -- beyond the end nothing is stored
-sets-out : (l : List ℕ) (at : ℕ) (vs : List ℕ) → length l ≤ at → sets l at vs ≡ l
-sets-out l at [] h = refl
-sets-out l at (v ∷ vs) h = sets-out (set l at v) (suc at) vs (omega (arith, length-set l at v)) ∙ set_out l at v h
+pub sets_out : (l : List ℕ) (at : ℕ) (vs : List ℕ) → length l ≤ at → sets l at vs ≡ l
+sets_out l at [] h = refl
+sets_out l at (v ∷ vs) h = sets_out (set l at v) (suc at) vs (omega (arith, length-set l at v)) ∙ set_out l at v h
 
 -- so where n values reach the end, the others do not matter
-pub sets_reach : (l : List ℕ) (at n : ℕ) (vs : List ℕ) → n ≤ length vs → (n < length vs → length l ≤ at + n)
-    → sets l at (listed (λ k. get_or vs k 0) n 0) ≡ sets l at vs
-sets_reach l at n vs h e = by (le_or_lt (length vs) n)
-  where
-    by : (length vs ≤ n) ⊎ (n < length vs) → sets l at (listed (λ k. get_or vs k 0) n 0) ≡ sets l at vs
-    by (inl b) =
-        let d : n ≡ length vs = omega arith in
-        ap (λ (x : ℕ). sets l at (listed (λ k. get_or vs k 0) x 0)) d ∙ ap (sets l at) (listed-whole vs 0)
-    by (inr b) =
-        let a : listed (λ k. get_or vs k 0) n 0 ≡ take n vs = listed-part vs 0 n 0 (omega arith) in
-        let z : length (take n vs) ≡ n = length-take-le n vs h in
-        ap (sets l at) a
-        ∙ sym (sets-out (sets l at (take n vs)) (at + length (take n vs)) (drop n vs) (omega (arith, length-sets l at (take n vs), e b)))
-        ∙ sym (sets-append l at (take n vs) (drop n vs)) ∙ ap (sets l at) (take-append-drop n vs)
+module _ (l : List ℕ) (at n : ℕ) (vs : List ℕ) (h : n ≤ length vs) (e : n < length vs → length l ≤ at + n) where
+  reaches : sets l at (take n vs) ≡ sets l at vs
+  reaches = ⊎_elim all part (le_or_lt (length vs) n)
+    where
+      all : length vs ≤ n → sets l at (take n vs) ≡ sets l at vs
+      all b = ap (sets l at) (take_all n vs b)
+
+      part : n < length vs → sets l at (take n vs) ≡ sets l at vs
+      part b =
+          let z : length (take n vs) ≡ n = length-take-le n vs h in
+          sym (sets_out (sets l at (take n vs)) (at + length (take n vs)) (drop n vs) (omega (arith, length-sets l at (take n vs), e b)))
+          ∙ sym (sets-append l at (take n vs) (drop n vs)) ∙ ap (sets l at) (take-append-drop n vs)
+
+  pub sets_reach : sets l at (listed (λ k. get_or vs k 0) n 0) ≡ sets l at vs
+  sets_reach = ap (sets l at) (listed-part vs 0 n 0 (omega arith)) ∙ reaches
+
+  -- and likewise where n are put there as one part
+  pub put_reach : (ys : List ℕ) (k : ℕ) → ys ≡ take n vs → k ≡ n → at + n ≤ length l → put_mid at k l ys ≡ sets l at vs
+  put_reach ys k p d room = put_whole l ys at k (ap length p ∙ length-take-le n vs h ∙ sym d) (omega arith) ∙ ap (sets l at) p ∙ reaches
 
 -- ---- a run of writes: l is l₀ with the first k of n values of f written from at on
 pub record Run (f : ℕ → ℕ) (n at : ℕ) (l₀ l : List ℕ) (k : ℕ) : Type 0 where

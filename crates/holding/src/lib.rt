@@ -6,25 +6,19 @@ ghost use Rattle.std.proofs.lemmas.List.Edits.{sets};
 ghost use Rattle.holding.specs.Layout.{place_length, record_length, two, four, place_in, record_in, place_bytes, record_bytes};
 
 use places::{Place, Record};
+use std::array;
 
 // The bytes of a place, and of a record's eight.
 const PLACE: usize = 20;
 
 pub const RECORD: usize = 160;
 
-// The number of a low and a high byte.
-fn joined(low: u8, high: u8) -> u16
-    ensures { result ≡ low + high * 256 }
-{
-    low as u16 + high as u16 * 256
-}
-
 // Two bytes as a number.
 fn two_in(bytes: &[u8], at: usize) -> u16
     requires { at + 2 ≤ length bytes.now }
     ensures { result ≡ two bytes.now at }
 {
-    joined(bytes[at], bytes[at + 1])
+    u16::from_le_bytes([bytes[at], bytes[at + 1]])
 }
 
 // Four bytes as a number.
@@ -32,10 +26,11 @@ fn four_in(bytes: &[u8], at: usize) -> u32
     requires { at + 4 ≤ length bytes.now }
     ensures { result ≡ four bytes.now at }
 {
-    two_in(bytes, at) as u32 + two_in(bytes, at + 2) as u32 * 65536
+    u32::from_le_bytes([bytes[at], bytes[at + 1], bytes[at + 2], bytes[at + 3]])
 }
 
 // The place in the bytes from `at` on.
+#[tactic(auto, unfolding(crate::specs::Layout::place_in))]
 fn place_in(bytes: &[u8], at: usize) -> Place
     requires { at + place_length ≤ length bytes.now }
     ensures { result ≡ place_in bytes.now at }
@@ -55,21 +50,13 @@ fn place_in(bytes: &[u8], at: usize) -> Place
 }
 
 // The record in its bytes, and others behind them.
+#[tactic(auto, unfolding(crate::specs::Layout::record_in))]
 fn places_in(bytes: &[u8]) -> Record
     requires { record_length ≤ length bytes.now }
     ensures { result ≡ record_in bytes.now }
 {
     Record {
-        places: [
-            place_in(bytes, 0),
-            place_in(bytes, 1 * PLACE),
-            place_in(bytes, 2 * PLACE),
-            place_in(bytes, 3 * PLACE),
-            place_in(bytes, 4 * PLACE),
-            place_in(bytes, 5 * PLACE),
-            place_in(bytes, 6 * PLACE),
-            place_in(bytes, 7 * PLACE),
-        ],
+        places: array::from_fn(|i| place_in(bytes, i * PLACE)),
     }
 }
 
@@ -86,30 +73,37 @@ pub fn record_in(bytes: &[u8]) -> Record
 }
 
 // The bytes of a place.
+#[tactic(auto, unfolding(crate::specs::Layout::place_bytes))]
 fn place_bytes(p: Place) -> [u8; PLACE]
     ensures { result ≡ place_bytes p }
 {
+    let resource = p.resource.to_le_bytes();
+    let count = p.count.to_le_bytes();
+    let slot = p.slot.to_le_bytes();
+    let start = p.start.to_le_bytes();
+    let edition = p.edition.to_le_bytes();
+    let order = p.order.to_le_bytes();
     [
-        (p.resource % 256) as u8,
-        (p.resource / 256 % 256) as u8,
+        resource[0],
+        resource[1],
         p.kind,
         p.update,
-        (p.count % 256) as u8,
-        (p.count / 256 % 256) as u8,
-        (p.count / 65536 % 256) as u8,
-        (p.count / 65536 / 256 % 256) as u8,
+        count[0],
+        count[1],
+        count[2],
+        count[3],
         p.protection,
         p.rows,
-        (p.slot % 256) as u8,
-        (p.slot / 256 % 256) as u8,
-        (p.start % 256) as u8,
-        (p.start / 256 % 256) as u8,
-        (p.start / 65536 % 256) as u8,
-        (p.start / 65536 / 256 % 256) as u8,
-        (p.edition % 256) as u8,
-        (p.edition / 256 % 256) as u8,
-        (p.order % 256) as u8,
-        (p.order / 256 % 256) as u8,
+        slot[0],
+        slot[1],
+        start[0],
+        start[1],
+        start[2],
+        start[3],
+        edition[0],
+        edition[1],
+        order[0],
+        order[1],
     ]
 }
 
@@ -118,12 +112,8 @@ fn record_bytes(held: Record) -> [u8; RECORD]
     ensures { result ≡ record_bytes held }
 {
     let mut out = [0u8; RECORD];
-    let mut i: usize = 0;
-    while i < 8 {
-        let p = held.places[i];
-        let bytes = place_bytes(p);
-        slices::copy_in(&mut out, i * PLACE, &bytes);
-        i += 1;
+    for (i, p) in held.places.iter().enumerate() {
+        slices::copy_in(&mut out, i * PLACE, &place_bytes(*p));
     }
     out
 }

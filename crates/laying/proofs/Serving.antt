@@ -1,18 +1,14 @@
--- What `put_columns` serves: the tests of `serves`, one after the other, what is known where all of them passed, what a call that is served comes to, and the
--- call's three ends. Assumes nothing.
+-- What `put_columns` serves: what is known where all tests of `serves` passed, what a call that is served comes to, and the call's three ends. Assumes nothing.
 use mathlib.Core.Path.{◌≡◌, refl, sym, ap, ◌∙◌}
-use mathlib.Core.Bool.{Bool, true, false, not, ◌&&◌}
-use mathlib.Core.Logic.{⊎_elim}
+use mathlib.Core.Bool.{Bool, true, false, not}
 use mathlib.Core.List.{List}
-use Prim.Native.Nat.{ℕ, ◌+◌, ◌-◌, ◌*◌, ◌<◌, ◌≤◌}
+use Prim.Native.Nat.{ℕ, ◌+◌, ◌*◌, ◌<◌, ◌≤◌}
 use native.Mathlib.Omega.{arith}
-use borrow.Author.Tests.{lt-ltb, le-ltb, le-leb, lt-leb, leb-true, ltb-true, not-true, not-false}
-use lib.Dec.{leb, ltb}
+use borrow.Author.Tests.{lt-ltb, le-ltb, le-leb, not-true, not-false}
 use lib.ListN.{length}
 use lib.Seq.{sets}
+use Rattle.std.proofs.lemmas.Bool.Decides.{nat_tests}
 use Rattle.ground.specs.Lists.{listed}
-use Rattle.ground.proofs.Listed.{le_or_lt}
-use Rattle.ground.proofs.Truth.{and_both}
 use Rattle.ground.proofs.Writing.{sets-front}
 use Rattle.refusals.specs.declared.Refusal.TheVariants.{Field, Output}
 use Rattle.layout.specs.Layout.{tables_of}
@@ -24,77 +20,31 @@ use Rattle.refusals.specs.declared.Refusal.{Refusal}
 use Rattle.std.specs.Prelude.{Result}
 use Rattle.std.specs.Prelude.{Ok, Err}
 
-module _ (len m from n : ℕ) where
-  pub no_rows : m ≡ 0 → false ≡ lay_serves len m from n
-  unfolding lay_serves
-  no_rows e = rw (le-ltb 0 m (omega arith))
-
-  module _ (a : (m ≡ 0 → ⊥)) where
-    some : ltb 0 m ≡ true
-    some = lt-ltb 0 m (omega arith)
-
-    pub too_tall : 255 < m → false ≡ lay_serves len m from n
-    unfolding lay_serves
-    too_tall h = rw (some, lt-leb m 255 h)
-
-    module _ (b : m ≤ 255) where
-      pub too_long : 16777216 < len → false ≡ lay_serves len m from n
-      unfolding lay_serves
-      too_long h = rw (some, le-leb m 255 b, lt-leb len 16777216 h)
-
-      module _ (c : len ≤ 16777216) where
-        pub too_many : 4077 < n → false ≡ lay_serves len m from n
-        unfolding lay_serves
-        too_many h = rw (some, le-leb m 255 b, le-leb len 16777216 c, lt-leb n 4077 h)
-
-        module _ (d : n ≤ 4077) where
-          by_end : leb (from + n) (255 * m * tables_of m len) ≡ lay_serves len m from n
-          unfolding lay_serves
-          by_end = rw (some, le-leb m 255 b, le-leb len 16777216 c, le-leb n 4077 d)
-
-          pub too_far : 255 * m * tables_of m len < from → false ≡ lay_serves len m from n
-          too_far h = sym (lt-leb (from + n) (255 * m * tables_of m len) (omega arith)) ∙ by_end
-
-          pub by_room : from ≤ 255 * m * tables_of m len → leb n (255 * m * tables_of m len - from) ≡ lay_serves len m from n
-          by_room h =
-              let all : ℕ = 255 * m * tables_of m len in
-              ⊎_elim
-              (λ (l : n ≤ all - from). le-leb n (all - from) l ∙ sym (le-leb (from + n) all (omega arith)))
-              (λ (l : all - from < n). lt-leb n (all - from) l ∙ sym (lt-leb (from + n) all (omega arith)))
-              (le_or_lt n (all - from))
-              ∙ by_end
-
 -- all tests passed, and there is room
 part_served : (len m from n room : ℕ) → lay_serves len m from n ≡ true → n ≤ room → Part len m from n room 0
 unfolding lay_serves
-part_served len m from n room e l =
-    let a : Bool = ltb 0 m && leb m 255 in
-    let b : Bool = a && leb len 16777216 in
-    let c : Bool = b && leb n 4077 in
-    let q = and_both c (leb (from + n) (255 * m * tables_of m len)) e in
-    let r = and_both b (leb n 4077) q.0 in
-    let s = and_both a (leb len 16777216) r.0 in
-    let t = and_both (ltb 0 m) (leb m 255) s.0 in
-    record {
-      rows = ltb-true 0 m t.0;
-      rows-most = leb-true m 255 t.1;
-      len-most = leb-true len 16777216 s.1;
-      few = leb-true n 4077 r.1;
-      there = leb-true (from + n) (255 * m * tables_of m len) q.1;
-      enough = omega arith;
-    }
+part_served len m from n room e l = record {
+  rows = grind (arith, nat_tests);
+  rows-most = grind (arith, nat_tests);
+  len-most = grind (arith, nat_tests);
+  few = grind (arith, nat_tests);
+  there = grind (arith, nat_tests);
+  enough = omega arith;
+}
+
+serves_part : (len m from n room : ℕ) → Part len m from n room 0 → lay_serves len m from n ≡ true
+unfolding lay_serves
+serves_part len m from n room fits =
+    rw (lt-ltb 0 m fits.rows, le-leb m 255 fits.rows-most, le-leb len 16777216 fits.len-most, le-leb n 4077 fits.few)
+    (le-leb (from + n) (255 * m * tables_of m len) fits.there)
 
 -- ---- the call is served: the answer, and what is written
 
 pub lay_accepted : (len m from n room : ℕ) → Part len m from n room 0 → lay_verdict len m from n room ≡ (Ok tt)
 unfolding lay_verdict
 lay_accepted len m from n room fits =
-    let p : 0 < m = fits.rows in
     let r : 0 + n ≤ room = fits.enough in
-    let e : lay_serves len m from n ≡ true =
-    sym (by_end len m from n (λ (z : m ≡ 0). omega arith) fits.rows-most fits.len-most fits.few)
-    ∙ le-leb (from + n) (255 * m * tables_of m len) fits.there in
-    rw (e, le-ltb room n (omega arith)) refl
+    rw (serves_part len m from n room fits, le-ltb room n (omega arith)) refl
 
 pub lay_done : (file : List ℕ) (m from n : ℕ) (out : List ℕ) → Part (length file) m from n (length out) 0 → sets out 0 (part_of m file from n) ≡ lay_into file m from n out
 unfolding lay_into

@@ -6,7 +6,6 @@ use mathlib.Core.List.{List}
 use Prim.Native.Nat.{ℕ, ◌+◌, ◌-◌, ◌*◌, ◌/◌, ◌<◌, ◌≤◌}
 use native.Mathlib.Nat.{add-zero, mul_assoc, mul_comm, mul_left_comm, mul-pos, mul-le-mul_right, zero-lt-suc, le-div_iff_mul-le}
 use native.Mathlib.Omega.{arith}
-use borrow.Author.Tests.{le-leb}
 use lib.Dec.{T, leb, leb→le}
 use lib.ListN.{length}
 use Rattle.ground.proofs.Sweep.{all, below}
@@ -16,7 +15,7 @@ use Rattle.ground.proofs.Pieces.{pieces_one}
 use Rattle.encoding.specs.Encode.{coded_row}
 use Rattle.filling.specs.Put.{info_from, rows_from, put_verdict, put_rows}
 use Rattle.filling.proofs.Gathering.{length-rows}
-use Rattle.filling.proofs.Serving.{by_length, put_accepted, put-done}
+use Rattle.filling.proofs.Serving.{serves_where, put_accepted, put-done}
 use Rattle.layout.specs.Layout.{tables_of, info_of, row_of}
 use Rattle.layout.proofs.Coded.{info_from_lem}
 use Rattle.laying.specs.InnerLay.{Table}
@@ -69,9 +68,6 @@ module _ (file : List ℕ) (m t : ℕ) (is : Table (length file) m t) where
     row_put buffer e =
         let s : put_verdict (length file) m (t * (239 * m) + r) 1 (length buffer) ≡ (Ok tt) =
         put_accepted (length file) m (t * (239 * m) + r) 1 (length buffer)
-        (sym
-        (by_length (length file) m (t * (239 * m) + r) 1 (λ (z : m ≡ 0). let p : 0 < m = is.rows in omega arith) is.rows-most (omega arith) row_start_lem)
-        ∙ le-leb (length file) 16777216 is.len-most)
-        (omega arith) in
+        (serves_where (length file) m (t * (239 * m) + r) 1 is.rows is.rows-most (omega arith) row_start_lem is.len-most) (omega arith) in
         sym (put-done file m (t * (239 * m) + r) 1 buffer s (omega arith))
         ∙ sets-all buffer (rows_from file m (t * (239 * m) + r) 1) (length-rows file m (t * (239 * m) + r) 1 ∙ omega arith) ∙ one_row

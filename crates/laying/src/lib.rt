@@ -11,38 +11,15 @@ ghost use Rattle.laying.specs.Lay.{lay_serves, lay_verdict, lay_into};
 use refusals::Refusal;
 
 // Whether `put_columns` serves, given room.
+#[tactic(auto, unfolding(crate::specs::Lay::lay_serves))]
 fn serves(len: usize, m: usize, from: usize, n: usize) -> bool
     ensures { result ≡ lay_serves len m from n }
 {
-    if m == 0 {
+    if m == 0 || 255 < m || 16777216 < len || 4077 < n {
         return false;
     }
-    if 255 < m {
-        return false;
-    }
-    if 16777216 < len {
-        return false;
-    }
-    if 4077 < n {
-        return false;
-    }
-    let all = 255 * m * ((len + (239 * m - 1)) / (239 * m));
-    if all < from {
-        return false;
-    }
-    n <= all - from
-}
-
-// Writes n zeros from byte o of `out` on.
-fn put_zeros(n: usize, out: &mut [u8], o: usize)
-    requires { o + n ≤ length out.old }
-    ensures { out.new ≡ sets out.old o (listed (λ k. 0) n 0) }
-{
-    let mut i: usize = 0;
-    while i < n {
-        out[o + i] = 0;
-        i += 1;
-    }
+    let all = 255 * m * words::over(len, 239 * m);
+    from <= all && n <= all - from
 }
 
 // Writes n bytes of the file, from byte `at` on, and zeros beyond it.
@@ -50,10 +27,10 @@ fn put_info(file: &[u8], at: usize, n: usize, out: &mut [u8], o: usize)
     requires { (at ≤ 16842240) × (n ≤ 4077) × (o + n ≤ length out.old) }
     ensures { out.new ≡ sets out.old o (listed (λ k. get_or file.now k 0) n at) }
 {
-    let a = words::lesser(at, file.len());
-    let b = words::lesser(at + n, file.len());
+    let a = at.min(file.len());
+    let b = (at + n).min(file.len());
     slices::copy_in(out, o, &file[a..b]);
-    put_zeros(n - (b - a), out, o + (b - a));
+    out[o + (b - a)..o + n].fill(0);
 }
 
 // Writes the bytes of a row, from byte c on, m bytes apart: to o, o + m, .., as long as that is below o + n.
@@ -61,10 +38,8 @@ fn strew(row: &[u8], c: usize, m: usize, n: usize, out: &mut [u8], o: usize)
     requires { (0 < m) × (m ≤ 255) × (length row.now ≡ 255) × (n ≤ (255 - c) * m) × (o + n ≤ length out.old) }
     ensures { Strewn (λ q. get_or row.now (c + q) 0) m n o out.old out.new }
 {
-    let mut q: usize = 0;
-    while q * m < n {
+    for q in 0..words::over(n, m) {
         out[o + q * m] = row[c + q];
-        q += 1;
     }
 }
 
@@ -85,11 +60,8 @@ fn put_checks(file: &[u8], m: usize, t: usize, p: usize, n: usize, out: &mut [u8
     requires { Table (length file.now) m t × (p + n ≤ 255 * m) × (o + n ≤ length out.old) }
     ensures { out.new ≡ sets out.old o (listed (table_byte m file.now t) n p) }
 {
-    let rows = words::lesser(n, m);
-    let mut i: usize = 0;
-    while i < rows {
+    for i in 0..n.min(m) {
         put_row(file, m, t, p + i, n - i, out, o + i);
-        i += 1;
     }
 }
 
@@ -101,11 +73,11 @@ fn put_run(file: &[u8], m: usize, j: usize, left: usize, out: &mut [u8], o: usiz
     let t = j / (255 * m);
     let p = j % (255 * m);
     if p < 239 * m {
-        let n = words::lesser(left, 239 * m - p);
+        let n = left.min(239 * m - p);
         put_info(file, t * (239 * m) + p, n, out, o);
         return n;
     }
-    let n = words::lesser(left, 255 * m - p);
+    let n = left.min(255 * m - p);
     put_checks(file, m, t, p, n, out, o);
     n
 }

@@ -52,13 +52,10 @@ fn clear_slots(store: &mut [u8], start: usize, count: usize, width: usize)
     requires { (2 ≤ width) × (start + count * width ≤ length store.old) }
     ensures { store.new ≡ cleared store.old start count width }
 {
-    let mut at = start;
-    let mut left = count;
-    while 0 < left {
+    for k in 0..count {
+        let at = start + k * width;
         store[at] = 0;
         store[at + 1] = 0;
-        at += width;
-        left -= 1;
     }
 }
 

@@ -5,7 +5,6 @@ use mathlib.Core.List.{List, ◌++◌, flatten}
 use Prim.Native.Nat.{ℕ, ◌+◌, ◌-◌, ◌*◌, ◌/◌, ◌%◌, ◌<◌, ◌≤◌}
 use native.Mathlib.Nat.{add-zero, mul_assoc, mul_comm, add-mul, mul-pos, zero-lt-suc, mod-lt, div-lt_iff_lt-mul}
 use native.Mathlib.Omega.{arith}
-use borrow.Author.Tests.{le-leb}
 use borrow.Rule.Slice.PartMut.{put_mid}
 use lib.ListN.{length, take, drop, length-take, length-drop}
 use lib.Seq.{sets, take-add, drop-drop}
@@ -13,7 +12,7 @@ use Rattle.ground.proofs.Listed.{listed_same, ceil-below}
 use Rattle.ground.proofs.Writing.{sets-append, lent-sets}
 use Rattle.encoding.specs.Encode.{coded_row}
 use Rattle.filling.specs.Put.{info_from, rows_from, put_verdict, put_rows}
-use Rattle.filling.proofs.Serving.{by_length, put_accepted, put-done}
+use Rattle.filling.proofs.Serving.{serves_where, put_accepted, put-done}
 use Rattle.layout.specs.Layout.{tables_of, row_of, coded_file}
 use Rattle.layout.proofs.Coded.{info_from_lem, length-coded, row-behind, coded_rows_lem}
 use Rattle.pack.specs.Inner.{coded_rows, RunFits}
@@ -89,10 +88,7 @@ module _ (file : List ℕ) (m q n room at : ℕ) (fits : RunFits file m q n room
     pub run_accepted : (o : ℕ) → k * 255 ≤ o → put_verdict (length file) m (q / m * (239 * m) + q % m) k o ≡ (Ok tt)
     run_accepted o h =
         put_accepted (length file) m (q / m * (239 * m) + q % m) k o
-        (sym
-        (by_length (length file) m (q / m * (239 * m) + q % m) k (λ (z : m ≡ 0). let p : 0 < m = fits.rows in omega arith) fits.rows-most
-        (omega (arith, fits.few)) run_start)
-        ∙ le-leb (length file) 16777216 fits.len) h
+        (serves_where (length file) m (q / m * (239 * m) + q % m) k fits.rows fits.rows-most (omega (arith, fits.few)) run_start fits.len) h
 
     -- written in the part of the output that is lent, from byte `at` on
     pub run-written : (out x : List ℕ) → length out ≡ room → x ≡ put_rows file m (q / m * (239 * m) + q % m) k (take (length out - at) (drop at out))

@@ -54,18 +54,6 @@ fn judge(settings: Settings, len: usize, number: u32) -> Result<(u32, usize), Re
     ))
 }
 
-// The bytes of `src` from `from` on, n of them, at the start of `out`.
-fn put_part(src: &[u8], from: usize, n: usize, out: &mut [u8])
-    requires { (from + n ≤ length src.now) × (n ≤ length out.old) }
-    ensures { out.new ≡ sets out.old 0 (take n (drop from src.now)) }
-{
-    let mut i: usize = 0;
-    while i < n {
-        out[i] = src[from + i];
-        i += 1;
-    }
-}
-
 // The header of a packet with a payload of `size` bytes, with the spare bits of the edition, at the start of `out`.
 fn put_header(settings: Settings, number: u32, count: u32, size: usize, out: &mut [u8])
     requires { (size ≤ 4077) × (14 ≤ length out.old) }
@@ -82,7 +70,7 @@ fn put_header(settings: Settings, number: u32, count: u32, size: usize, out: &mu
         rows: settings::rows_sent(settings),
         reserved: edition::spare_of(settings.edition).reserved,
     });
-    put_part(&head, 0, Packet::HEADER, out);
+    slices::copy_in(out, 0, &head);
 }
 
 // Of the `left` rows from row q of the coded file on those that lie in its table, at byte `at` of `out`. How many they are.
@@ -90,7 +78,7 @@ fn put_run(file: &[u8], m: usize, q: usize, left: usize, out: &mut [u8], at: usi
     requires { (0 < left) × RunFits file.now m q left (length out.old) at }
     ensures { (0 < result) × (result ≤ left) × (out.new ≡ sets out.old at (coded_rows file.now m q result)) }
 {
-    let n = words::lesser(left, m - q % m);
+    let n = left.min(m - q % m);
     let _ = filling::put_rows(file, m, q / m * (239 * m) + q % m, n, &mut out[at..]);
     n
 }
@@ -113,7 +101,7 @@ fn put_payload(file: &[u8], settings: Settings, number: u32, size: usize, out: &
 {
     let from = number as usize * settings.size as usize;
     if settings.protection == 0 {
-        put_part(file, from, size, out);
+        slices::copy_in(out, 0, &file[from..from + size]);
         return;
     }
     let rows = settings.rows as usize;

@@ -19,10 +19,7 @@ pub fn seal(out: &mut [u8], n: usize) -> Result<(), Refusal>
         return Err(Refusal::Output);
     }
     let sum = checksum::crc32(&out[..n]);
-    out[n] = (sum / 16777216 % 256) as u8;
-    out[n + 1] = (sum / 65536 % 256) as u8;
-    out[n + 2] = (sum / 256 % 256) as u8;
-    out[n + 3] = (sum % 256) as u8;
+    out[n..n + Packet::CRC].copy_from_slice(&sum.to_be_bytes());
     Ok(())
 }
 
@@ -34,10 +31,7 @@ pub fn agrees(packet: &[u8], payload: &[u8]) -> bool
     if n < Packet::HEADER {
         return false;
     }
-    let sent = packet[n - Packet::CRC] as u32 * 16777216
-        + packet[n - 3] as u32 * 65536
-        + packet[n - 2] as u32 * 256
-        + packet[n - 1] as u32;
+    let sent = u32::from_be_bytes([packet[n - 4], packet[n - 3], packet[n - 2], packet[n - 1]]);
     let t = crc::table();
     let header = crc::feed_by(&t, checksum::start(), &packet[..Packet::HEADER]);
     sent == checksum::finish(crc::feed_by(&t, header, payload))

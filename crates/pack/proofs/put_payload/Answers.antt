@@ -1,50 +1,25 @@
 -- `pack::put_payload` meets its contract: without protection the payload is a part of the file, with it a part of the coded file, in row order whole rows of it, and the
 -- functions called write those. Assumes nothing.
 use mathlib.Core.Path.{◌≡◌, sym, ap, subst, ◌∙◌}
-use Prim.Native.Nat.{ℕ, ◌+◌, ◌*◌, ◌/◌, ◌≤◌}
+use Prim.Native.Nat.{ℕ, ◌+◌, ◌-◌, ◌*◌, ◌/◌, ◌≤◌}
 use native.Mathlib.Omega.{arith}
-use borrow.Author.Rules.{rules}
 use lib.ListN.{length, take, drop}
 use lib.Seq.{sets}
 use Rattle.laying.specs.Lay.{lay_into}
 use Rattle.laying.proofs.Serving.{lay_done}
 use Rattle.pack.specs.Inner.{payload_length, coded_rows, RunFits}
 use Rattle.pack.proofs.Laws.{row-order}
-use Rattle.pack.proofs.Parts.{begin_below, plain_fits, plain_payload, columns_fit, columns_payload, coded-fits, coded_payload}
+use Rattle.pack.proofs.Parts.{plain_payload, columns_fit, columns_payload, coded-fits, coded_payload}
 use Rattle.pack.proofs.put_payload.Goals as goal
-
-pub overflow_cast-from-2 : goal.overflow_cast-from-2
-overflow_cast-from-2 c = omega arith
-
-pub overflow_mul-from : goal.overflow_mul-from
-overflow_mul-from c =
-    let a = c.args in
-    let b = begin_below a.settings a.file.now a.number c.requires.0 in
-    search rules
-
-pub put_part-requires : goal.put_part-requires
-put_part-requires c =
-    let a = c.args in
-    let e : a.size ≡ payload_length a.settings (length a.file.now) a.number = c.requires.1 in
-    let f = plain_fits a.settings a.file.now a.number c.requires.0 c.if-settings-eq0.true in
-    (subst (λ (c : ℕ). a.number * a.settings.size + c ≤ length a.file.now) (sym e) f, c.requires.2)
-
-pub shape_of-out-then-settings-eq0 : goal.shape_of-out-then-settings-eq0
-shape_of-out-then-settings-eq0 c = omega arith
 
 pub returns-then-settings-eq0 : goal.returns-then-settings-eq0
 returns-then-settings-eq0 c =
     let a = c.args in
-    let e : a.size ≡ payload_length a.settings (length a.file.now) a.number = c.requires.1 in
-    c.put_part.ensures
-    ∙ ap (λ (c : ℕ). sets a.out.now 0 (take c (drop (a.number * a.settings.size) a.file.now))) e
+    let from = a.number * a.settings.size in
+    let e : from + a.size - from ≡ payload_length a.settings (length a.file.now) a.number = omega (arith, c.requires.1) in
+    c.copy_in.ensures
+    ∙ ap (λ (x : ℕ). sets a.out.now 0 (take x (drop from a.file.now))) e
     ∙ ap (sets a.out.now 0) (plain_payload a.settings a.file.now a.number c.requires.0 c.if-settings-eq0.true)
-
-pub overflow_cast-rows : goal.overflow_cast-rows
-overflow_cast-rows c = omega arith
-
-pub shape_of-out-then-settings-eq1 : goal.shape_of-out-then-settings-eq1
-shape_of-out-then-settings-eq1 c = omega arith
 
 pub returns-then-settings-eq1 : goal.returns-then-settings-eq1
 returns-then-settings-eq1 c =
@@ -64,9 +39,6 @@ put_coded-requires c =
     let e : a.size ≡ payload_length a.settings (length a.file.now) a.number = c.requires.1 in
     subst (λ (c : ℕ). RunFits a.file.now a.settings.rows (a.number * a.settings.size / 255) (c / 255) (length a.out.now) 0) (sym e)
     (coded-fits a.settings a.file.now a.number c.requires.0 c.if-settings-eq0.false (row-order a.settings c.requires.0.fits c.if-settings-eq1.false) (length a.out.now) (subst (λ (c : ℕ). c ≤ length a.out.now) e c.requires.2))
-
-pub shape_of-out : goal.shape_of-out
-shape_of-out c = omega arith
 
 pub returns : goal.returns
 returns c =
