@@ -2,7 +2,6 @@
 -- Assumes nothing.
 use mathlib.Core.Path.{◌≡◌, refl, sym, ap, ap₂, subst, ◌∙◌}
 use mathlib.Core.Logic.{◌≢◌, ⊎_elim}
-use mathlib.Core.Bool.{true}
 use mathlib.Core.List.{List}
 use Prim.Native.Nat.{ℕ, zero, suc, ◌+◌, ◌-◌, ◌≤◌, ◌<◌}
 use native.Mathlib.Nat.{le_refl, not-suc-le-zero}
@@ -15,7 +14,7 @@ use Rattle.ground.proofs.Sums.{sum_zero}
 use Rattle.ground.proofs.Numbers.{same_or_not, below_suc}
 use Rattle.ground.proofs.Listed.{zeros_at}
 use Rattle.errata.specs.declared.Errata.{Errata}
-use Rattle.errata.specs.InnerErrata.{nothing_to, entries, mended_by, Ordered, added, Put, Listed, Kept}
+use Rattle.errata.specs.InnerErrata.{nothing_added, entries, mended_by, Ordered, added, Put, Listed, Kept}
 
 -- ---- the row
 
@@ -40,18 +39,16 @@ mended_ext row a b c d (suc k) e =
 
 pub record Keeping (at c : List ℕ) (n k : ℕ) (e : Errata) : Type 0 where
   pub within : k ≤ n
-  pub fits : e.fits ≡ true
   pub listed : Listed e
   pub few : e.n ≤ k
   pub before : (j l : ℕ) → j < e.n → k ≤ l → l < n → get_or e.at j 0 < get_or at l 0
   pub same : (row : List ℕ) → mended_by row (entries e.at) (entries e.values) e.n ≡ mended_by row (entries at) (entries c) k
 
-pub keeping_start : (at c : List ℕ) (n : ℕ) → Keeping at c n 0 (nothing_to true)
-unfolding mended_by nothing_to
+pub keeping_start : (at c : List ℕ) (n : ℕ) → Keeping at c n 0 (nothing_added)
+unfolding mended_by nothing_added
 keeping_start at c n =
     record {
       within = omega arith;
-      fits = refl;
       listed =
           record {
             ordered = record { few = omega arith; below = λ k h. absurd (not-suc-le-zero h); rising = λ j k b h. absurd (not-suc-le-zero h) };
@@ -112,7 +109,6 @@ module _ {at c : List ℕ} {n k : ℕ} {e : Errata} (was : Keeping at c n k e) (
   keeping_less z =
       record {
         within = omega arith;
-        fits = was.fits;
         listed = was.listed;
         few = omega (arith, was.few);
         before = λ j l b i. was.before j l b (omega arith);
@@ -144,7 +140,6 @@ module _ {at c : List ℕ} {n k : ℕ} {e : Errata} (was : Keeping at c n k e) (
   keeping_added nz =
       record {
         within = omega arith;
-        fits = was.fits;
         listed = longer nz;
         few = omega (arith, was.few);
         before =
@@ -172,4 +167,4 @@ module _ {at c : List ℕ} {n k : ℕ} {e : Errata} (was : Keeping at c n k e) (
 pub keeping_end : {at c : List ℕ} {n k : ℕ} {e : Errata} → Keeping at c n k e → n ≤ k → Kept at c n e
 keeping_end {at} {c} {n} {k} {e} was h =
     let q : k ≡ n = omega (arith, was.within) in
-    record { fits = was.fits; listed = was.listed; same = λ row. was.same row ∙ ap (mended_by row (entries at) (entries c)) q }
+    record { listed = was.listed; same = λ row. was.same row ∙ ap (mended_by row (entries at) (entries c)) q }
