@@ -20,9 +20,7 @@ fn rest_of(row: [u8; 255]) -> [u8; 16]
     ensures { result ≡ remainder 239 row }
 {
     let rests = encoding::remainders(&row);
-    let mut rest = [0u8; 16];
-    slices::copy_in(&mut rest, 0, &rests[0..16]);
-    rest
+    crate::rest_in(&rests, 0)
 }
 
 // The same as `fill` for every row that leaves `rest`.
@@ -73,9 +71,7 @@ fn front(l: [u8; 16], n: usize) -> [u8; 16]
     requires { n ≤ 16 }
     ensures { Front n l result }
 {
-    let mut out = l;
-    for k in n..16 {
-        out[k] = 0;
-    }
+    let mut out = [0u8; 16];
+    out[..n].copy_from_slice(&l[..n]);
     out
 }

@@ -5,8 +5,5 @@ use native.Mathlib.Omega.{arith}
 use Rattle.errata.proofs.Entries.{entry_each}
 use Rattle.solving.proofs.lanes.spread.Goals as goal
 
-pub overflow_mul-w : goal.overflow_mul-w
-overflow_mul-w c = omega arith
-
 pub returns : goal.returns
 returns c = λ k h. entry_each c.wide-w.result k c.wide-w.ensures.1 h ∙ c.wide-w.ensures.0

@@ -4,8 +4,5 @@ use mathlib.Core.Path.{refl}
 use native.Mathlib.Omega.{arith}
 use Rattle.solving.proofs.values.divide.Goals as goal
 
-pub returns-then-n-lt2 : goal.returns-then-n-lt2
-returns-then-n-lt2 c = record { few = λ h k b. refl; many = λ h k b. absurd (omega arith) }
-
 pub returns : goal.returns
 returns c = record { few = λ h k b. absurd (omega arith); many = λ h k b. (_, c.inverses.ensures.entry k b, c.products.ensures.entry k b) }
