@@ -3,8 +3,7 @@
 use mathlib.Core.Path.{◌≡◌, refl, sym, ap, ap₂, subst, ◌∙◌}
 use mathlib.Core.Logic.{⊎_elim}
 use mathlib.Core.Bool.{cond}
-use Rattle.std.proofs.Common.{Option, Some, None, MatchOption}
-use Rattle.std.specs.Bool.{⊤}
+use Rattle.std.proofs.Common.{Some, None}
 use Rattle.std.proofs.lemmas.Option.{none-some, same_Some}
 use mathlib.Core.List.{List, ◌∷◌}
 use Prim.Native.Nat.{ℕ, zero, suc, ◌+◌, ◌-◌, ◌<◌, ◌≤◌}
@@ -130,7 +129,7 @@ module _ (row at : List ℕ) (n : ℕ) (long : length row ≡ 255) (bytes : Byte
   restored_as : restore_of (among at n) row ≡ found s
   restored_as = restore_found (among at n) row s (among-few at n l.falling) l.fits
 
-  -- there is something to fill in
+  -- something is filled in
   filled : None ≡ filling_of (remainder 239 row) at n → ⊥
   filled q = found_none s (sym restored_as ∙ filling_none (remainder 239 row) at n rest_long rest_bytes room l.falling row long bytes refl q)
 
@@ -161,7 +160,8 @@ module _ (row at : List ℕ) (n : ℕ) (long : length row ≡ 255) (bytes : Byte
         ∙ ap (λ (x : ℕ). sum x (get_or e.values k 0)) (l.empty k h) ∙ zero_sum (get_or e.values k 0))
 
 -- what was filled in; where nothing was, any values do, since there is no such row
-pub filled_restores : (row at : List ℕ) (n : ℕ) (f : Option Errata) (v : List ℕ) → length row ≡ 255 → Bytes row → length at ≡ 16 → f ≡ filling_of (remainder 239 row) at n
-    → MatchOption f ⊤ (λ e. v ≡ e.values) → Restores row at n v
-filled_restores row at n None v long bytes room is t s l k h = absurd (filled row at n long bytes room s l is)
-filled_restores row at n (Some e) v long bytes room is t s l k h = ap (λ (x : List ℕ). get_or x k 0) t ∙ filled-lost row at n long bytes room s l e is k h
+pub filled_restores : (row at : List ℕ) (n : ℕ) (e : Errata) → length row ≡ 255 → Bytes row → length at ≡ 16 → Some e ≡ filling_of (remainder 239 row) at n → Restores row at n e.values
+filled_restores row at n e long bytes room is s l k h = filled-lost row at n long bytes room s l e is k h
+
+pub unfilled_restores : (row at : List ℕ) (n : ℕ) (v : List ℕ) → length row ≡ 255 → Bytes row → length at ≡ 16 → None ≡ filling_of (remainder 239 row) at n → Restores row at n v
+unfilled_restores row at n v long bytes room is s l k h = absurd (filled row at n long bytes room s l is)

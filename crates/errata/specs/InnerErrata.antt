@@ -1,7 +1,7 @@
 -- Vocabulary of the private functions that find the places of the wrong bytes and what to add there. A place is told by its exponent a: byte 254 - a of a row, whose locator is
 -- α^a. Nobody needs to believe it: no contract of a public call cites it.
 -- Assumes nothing.
-use Rattle.std.specs.Prelude.{◌≡◌, ◌≢◌, Bool, true, false, cond, Option, Some, None, List, ℕ, zero, suc, ◌+◌, ◌-◌, ◌≤◌, ◌<◌, eqb, length, get_or, set, replicate}
+use Rattle.std.specs.Prelude.{◌≡◌, ◌≢◌, cond, Option, Some, None, List, ℕ, zero, suc, ◌+◌, ◌-◌, ◌≤◌, ◌<◌, eqb, length, get_or, set, replicate}
 use Rattle.ground.specs.Bits.{sum}
 use Rattle.field.specs.Field.{product, expo, power}
 use Rattle.code.specs.Code.{Bytes}

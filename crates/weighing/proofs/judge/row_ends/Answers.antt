@@ -15,8 +15,8 @@ columns_within-k-requires c = (c.requires.1, c.requires.2, c.requires.3)
 pub returns-then-k-eq239 : goal.returns-then-k-eq239
 returns-then-k-eq239 c = beyond-none _ _ _ _ _ c.columns_within-k.ensures c.if-k-eq239.true
 
-pub restored-requires : goal.restored-requires
-restored-requires c = c.requires.0
+pub added_to-requires : goal.added_to-requires
+added_to-requires c = c.requires.0
 
 pub is_zero-requires : goal.is_zero-requires
 is_zero-requires c = omega (arith, c.columns_within-k.ensures.within)
@@ -24,5 +24,5 @@ is_zero-requires c = omega (arith, c.columns_within-k.ensures.within)
 pub returns : goal.returns
 returns c =
     let k : ℕ = c.columns_within-k.result in
-    c.is_zero.ensures ∙ ap (λ (l : List ℕ). all_zero (bytes_at l k (239 - k))) c.restored.ensures
+    c.is_zero.ensures ∙ ap (λ (l : List ℕ). all_zero (bytes_at l k (239 - k))) c.added_to.ensures
     ∙ beyond_from _ _ _ _ _ c.columns_within-k.ensures
