@@ -1,22 +1,20 @@
 -- What one row leaves when the generator divides it, out of what all rows of a payload leave; and its syndromes, as the laws about lists have them.
 -- Assumes nothing.
-use mathlib.Core.Path.{◌≡◌, sym, ap, ◌∙◌}
+use mathlib.Core.Path.{◌≡◌, ap, ◌∙◌}
 use mathlib.Core.List.{List}
-use Prim.Native.Nat.{ℕ, ◌-◌, ◌*◌, ◌/◌, ◌≤◌}
+use Prim.Native.Nat.{ℕ, ◌*◌, ◌/◌, ◌≤◌}
 use native.Mathlib.Nat.{min-eq_right}
 use native.Mathlib.Omega.{arith}
 use lib.ListN.{length, take, drop}
-use lib.Seq.{sets, take_all, length-take-le}
-use Rattle.ground.proofs.Writing.{sets-all}
+use lib.Seq.{take_all}
 use Rattle.code.specs.Search.{remainder}
-use Rattle.code.proofs.Lists.{zeros, length_zeros}
 use Rattle.field.specs.declared.Sixteen.{Sixteen}
 use Rattle.errata.specs.InnerErrata.{Syndromes as Listed}
 use Rattle.errata.specs.InnerValues.{list_of}
 use Rattle.errata.proofs.Entries.{list_at}
 use Rattle.terms.specs.Terms.{Syndromes}
 use Rattle.encoding.specs.Encode.{remainders_of}
-use Rattle.encoding.proofs.Feeding.{rest_there, rest_among, length_remainders}
+use Rattle.encoding.proofs.Feeding.{rest_there, rest_among}
 
 pub rest_one : (row rests rest : List ℕ) → length row ≡ 255 → rests ≡ remainders_of row → rest ≡ take 16 (drop (0 * 16) rests) → rest ≡ remainder 239 row
 rest_one row rests rest long e d =

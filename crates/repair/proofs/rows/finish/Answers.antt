@@ -1,7 +1,6 @@
 -- `rows::finish` corrects the row at the front, held by value, where no row behind is broken.
 -- Assumes nothing.
 use mathlib.Core.Path.{ap, sym, ◌∙◌}
-use native.Mathlib.Omega.{arith}
 use lib.ListN.{length}
 use lib.Seq.{length-take-le}
 use Rattle.errata.specs.InnerErrata.{entries}

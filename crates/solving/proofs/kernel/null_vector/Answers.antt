@@ -4,7 +4,7 @@
 use mathlib.Core.Path.{◌≡◌, refl, ◌∙◌}
 use Prim.Native.Nat.{ℕ, ◌-◌, ◌<◌}
 use native.Mathlib.Omega.{arith}
-use Rattle.solving.proofs.Turns.{keeping_start, keeping_skip, keeping_more, keeping_mixed, keeping_end, few}
+use Rattle.solving.proofs.Turns.{keeping_start, keeping_skip, keeping_more, keeping_mixed, keeping_end}
 use Rattle.errata.specs.InnerValues.{list_of}
 use Rattle.solving.proofs.kernel.null_vector.Goals.{then-i-eq0, else-i-eq0}
 use Rattle.solving.proofs.kernel.null_vector.Goals as goal

@@ -1,7 +1,6 @@
 -- `lanes::spread`: a byte times 0x01 at each byte of a word stands at each of them.
 -- Assumes nothing.
 use mathlib.Core.Path.{◌∙◌}
-use native.Mathlib.Omega.{arith}
 use Rattle.errata.proofs.Entries.{entry_each}
 use Rattle.solving.proofs.lanes.spread.Goals as goal
 

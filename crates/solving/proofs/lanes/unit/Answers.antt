@@ -1,6 +1,5 @@
 -- `lanes::unit` sets one bit of one of the words; which byte it stands in is computed.
 -- Assumes nothing.
-use native.Mathlib.Omega.{arith}
 use Rattle.errata.proofs.Entries.{entry_unit_low, entry_unit_high}
 use Rattle.solving.proofs.lanes.unit.Goals as goal
 

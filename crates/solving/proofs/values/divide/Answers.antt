@@ -1,6 +1,5 @@
 -- `values::divide` multiplies by the inverses of the gaps, or leaves all as it is.
 -- Assumes nothing.
-use mathlib.Core.Path.{refl}
 use native.Mathlib.Omega.{arith}
 use Rattle.solving.proofs.values.divide.Goals as goal
 

@@ -1,6 +1,5 @@
 -- `values::locators` has eight places in each word.
 -- Assumes nothing.
-use native.Mathlib.Omega.{arith}
 use Rattle.solving.proofs.Places.{both_located}
 use Rattle.solving.proofs.values.locators.Goals as goal
 
