@@ -3,17 +3,18 @@
 use mathlib.Core.Path.{◌≡◌, refl, sym, ap, ap₂, subst, ◌∙◌}
 use mathlib.Core.Logic.{◌≢◌, ⊎_elim}
 use mathlib.Core.List.{List}
-use Prim.Native.Nat.{ℕ, zero, suc, ◌+◌, ◌-◌, ◌≤◌, ◌<◌}
-use native.Mathlib.Nat.{le_refl, not-suc-le-zero}
+use Prim.Native.Nat.{ℕ, zero, suc, min, ◌+◌, ◌-◌, ◌≤◌, ◌<◌}
+use native.Mathlib.Nat.{min-eq_left, min-eq_right, le_refl, not-suc-le-zero}
 use native.Mathlib.Numerals.{add-one}
 use native.Mathlib.Omega.{arith}
 use lib.ListN.{length, get_or, set, length-set}
 use lib.Seq.{get_or-set_same, get_or-set_other, set-get_or}
 use Rattle.ground.specs.Bits.{sum}
 use Rattle.ground.proofs.Sums.{sum_zero}
-use Rattle.ground.proofs.Numbers.{same_or_not, below_suc}
+use Rattle.ground.proofs.Numbers.{same_or_not, below_suc, lt_or_ge}
 use Rattle.ground.proofs.Listed.{zeros_at}
 use Rattle.errata.specs.declared.Errata.{Errata}
+use Rattle.errata.proofs.Listing.{beyond}
 use Rattle.errata.specs.InnerErrata.{nothing_added, entries, mended_by, Ordered, added, Put, Listed, Kept}
 
 -- ---- the row
@@ -25,6 +26,24 @@ mended-nothing row a c k z =
     sym (ap (mended_by row a c) (add-one k)
     ∙ ap (set l (254 - a k)) (ap (sum (get_or l (254 - a k) 0)) z ∙ sum_zero (get_or l (254 - a k) 0))
     ∙ set-get_or l (254 - a k) 0)
+
+-- behind entry m there is nothing to add
+mended_further : (row : List ℕ) (a c : ℕ → ℕ) (m d : ℕ) → ((k : ℕ) → m ≤ k → c k ≡ 0) → mended_by row a c (m + d) ≡ mended_by row a c m
+mended_further row a c m zero idle = ap (mended_by row a c) (let e : m + 0 ≡ m = omega arith in e)
+mended_further row a c m (suc d) idle =
+    let e : m + suc d ≡ m + d + 1 = omega arith in
+    ap (mended_by row a c) e ∙ sym (mended-nothing row a c (m + d) (idle (m + d) (omega arith))) ∙ mended_further row a c m d idle
+
+-- of more than sixteen values the first sixteen count
+pub mended_sixteen : (row at values : List ℕ) (n k : ℕ) → length values ≡ 16 → k ≡ min n 16 → mended_by row (entries at) (entries values) k ≡ mended_by row (entries at) (entries values) n
+mended_sixteen row at values n k long e =
+    ⊎_elim
+    (λ (h : n < 16). ap (mended_by row (entries at) (entries values)) (e ∙ min-eq_left (omega arith)))
+    (λ (h : 16 ≤ n).
+    let d : 16 + (n - 16) ≡ n = omega arith in
+    ap (mended_by row (entries at) (entries values)) (e ∙ min-eq_right h) ∙ sym (mended_further row (entries at) (entries values) 16 (n - 16) (λ k b. beyond values k (omega arith)))
+    ∙ ap (mended_by row (entries at) (entries values)) d)
+    (lt_or_ge n 16)
 
 mended_ext : (row : List ℕ) (a b c d : ℕ → ℕ) (n : ℕ) → ((k : ℕ) → k < n → (a k ≡ b k) × (c k ≡ d k)) → mended_by row a c n ≡ mended_by row b d n
 unfolding mended_by

@@ -43,11 +43,11 @@ unfolding mended_by
 mended_start row a c = refl
 
 -- one value more
-pub mended-more : (row : List ℕ) (a c : ℕ → ℕ) (k b : ℕ) (out : List ℕ) → out ≡ mended_by row a c k → b ≡ a k
-    → set out (254 - b) (sum (get_or out (254 - b) 0) (c k)) ≡ mended_by row a c (k + 1)
+pub mended-more : (row : List ℕ) (a c : ℕ → ℕ) (k i : ℕ) (out : List ℕ) → out ≡ mended_by row a c k → i ≡ 254 - a k
+    → set out i (sum (get_or out i 0) (c k)) ≡ mended_by row a c (k + 1)
 unfolding mended_by
-mended-more row a c k b out e p =
-    ap₂ (λ (l : List ℕ) (n : ℕ). set l (254 - n) (sum (get_or l (254 - n) 0) (c k))) e p ∙ ap (mended_by row a c) (sym (add-one k))
+mended-more row a c k i out e p =
+    ap₂ (λ (l : List ℕ) (n : ℕ). set l n (sum (get_or l n 0) (c k))) e p ∙ ap (mended_by row a c) (sym (add-one k))
 
 module _ (row : List ℕ) (long : length row ≡ 255) (a c : ℕ → ℕ) where
   pub mended-length : (n : ℕ) → length (mended_by row a c n) ≡ 255

@@ -4,7 +4,7 @@
 #![tactic(auto)]
 
 ghost use Rattle.std.specs.Prelude.{◌≡◌};
-ghost use Rattle.errata.specs.InnerErrata.{Placed, entries, mended_by};
+ghost use Rattle.errata.specs.InnerErrata.{entries, mended_by};
 
 // The n places at which to add something, and what; zeros behind them. `solving::find` tells the places in increasing order, with values that are never 0; `solving::fill`
 // those that it was given, with values that may be. Places and values stand apart, since the field works on sixteen of either at once.
@@ -16,13 +16,12 @@ pub struct Errata {
 }
 
 impl Errata {
-    // The row with the values added at the places.
+    // The row with the values added at the places. A place above 254, which a row does not have, counts as 254, and of more than sixteen the first sixteen count.
     pub fn added_to(&self, mut row: [u8; 255]) -> [u8; 255]
-        requires { Placed self.now.n self.now.at }
         ensures { result ≡ mended_by row (entries self.now.at) (entries self.now.values) self.now.n }
     {
-        for k in 0..self.n {
-            let i = 254 - words::index(self.at[k]);
+        for k in 0..self.n.min(16) {
+            let i = 254usize.saturating_sub(words::index(self.at[k]));
             row[i] ^= self.values[k];
         }
         row

@@ -2,13 +2,23 @@
 ghost use Rattle.std.specs.Prelude.{◌≡◌, ◌*◌, ◌/◌, ◌≤◌, ◌<◌, length, take, drop};
 ghost use Rattle.code.specs.Mend.{mend_rows};
 ghost use Rattle.repair.specs.InnerRows.{Resting, Finished, Ends};
-ghost use Rattle.errata.specs.InnerErrata.{Ordered, mended_by, entries};
+ghost use Rattle.errata.specs.InnerErrata.{mended_by, entries};
 
 use errata::Errata;
 
+// What row i leaves.
+fn rest_in(rests: &[u8; 240], i: usize) -> [u8; 16]
+    requires { i < 15 }
+    ensures { result ≡ take 16 (drop (i * 16) rests.now) }
+{
+    let mut rest = [0u8; 16];
+    rest.copy_from_slice(&rests[i * 16..i * 16 + 16]);
+    rest
+}
+
 // The row at the front, held by value, with the values added at the places.
 fn corrected(rows: &[u8], e: &Errata) -> [u8; 255]
-    requires { Ordered e.now.n e.now.at × (255 ≤ length rows.now) }
+    requires { 255 ≤ length rows.now }
     ensures { result ≡ mended_by (take 255 rows.now) (entries e.now.at) (entries e.now.values) e.now.n }
 {
     let mut row = [0u8; 255];
@@ -18,7 +28,7 @@ fn corrected(rows: &[u8], e: &Errata) -> [u8; 255]
 
 // Where the rows behind were mended, none of them broken, corrects the row at the front, and counts its bytes to theirs. A row with nothing to add is right as it stands.
 fn finish(ended: usize, rows: &mut [u8], e: &Errata) -> usize
-    requires { Ordered e.now.n e.now.at × (255 ≤ length rows.old) × (ended ≤ 127) }
+    requires { (e.now.n ≤ 8) × (255 ≤ length rows.old) × (ended ≤ 127) }
     ensures { Finished ended rows.old e.now.at e.now.values e.now.n result rows.new }
 {
     if ended < 15 {
@@ -41,7 +51,7 @@ pub(crate) fn mend_from(rows: &mut [u8], i: usize, rests: &[u8; 240]) -> usize
     if rows.len() == 0 {
         return 15;
     }
-    let Some(e) = solving::find(solving::rest_in(rests, i)) else {
+    let Some(e) = solving::find(rest_in(rests, i)) else {
         return i;
     };
     let ended = mend_from(&mut rows[255..], i + 1, rests);

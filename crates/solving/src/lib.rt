@@ -2,7 +2,7 @@
 // and demand 2), or one that has all bytes but those at given places. A place is told by its exponent a: byte 254 - a of a row has the locator α^a.
 #![tactic(auto)]
 
-ghost use Rattle.std.specs.Prelude.{◌≡◌, ◌*◌, ◌<◌, take, drop};
+ghost use Rattle.std.specs.Prelude.{◌≡◌, ◌<◌};
 ghost use Rattle.errata.specs.Errata.{errata_of};
 ghost use Rattle.errata.specs.InnerErrata.{nothing_added, Ordered, Put, Kept};
 
@@ -27,16 +27,6 @@ pub fn find(rest: [u8; 16]) -> Option<Errata>
     let at = places.at;
     let values = values::solve(s, at, places.n)?;
     Some(keep(at, values, places.n))
-}
-
-// What row i leaves, of up to fifteen that were divided together.
-pub fn rest_in(rests: &[u8; 240], i: usize) -> [u8; 16]
-    requires { i < 15 }
-    ensures { result ≡ take 16 (drop (i * 16) rests.now) }
-{
-    let mut rest = [0u8; 16];
-    rest.copy_from_slice(&rests[i * 16..i * 16 + 16]);
-    rest
 }
 
 // Nothing to add.

@@ -19,8 +19,9 @@ pub fn fill(row: [u8; 255], at: [u8; 16], n: usize) -> Option<Errata>
 fn rest_of(row: [u8; 255]) -> [u8; 16]
     ensures { result ≡ remainder 239 row }
 {
-    let rests = encoding::remainders(&row);
-    crate::rest_in(&rests, 0)
+    let mut rest = [0u8; 16];
+    rest.copy_from_slice(&encoding::remainders(&row)[..16]);
+    rest
 }
 
 // The same as `fill` for every row that leaves `rest`.

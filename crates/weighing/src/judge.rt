@@ -1,7 +1,7 @@
 // The rows of a place in column order, judged one by one: document 02, R-8, refusals 31, 32 and 24. A row is restored where something of it is lost, and nothing is kept
 // of it. Private to the crate.
 ghost use Rattle.std.specs.Prelude.{◌≡◌, ◌-◌, ◌*◌, ◌≤◌, ◌<◌, ◌^◌};
-ghost use Rattle.errata.specs.InnerErrata.{entries, mended_by, Placed};
+ghost use Rattle.errata.specs.InnerErrata.{entries, mended_by};
 ghost use Rattle.layout.specs.Spread.{row_start};
 ghost use Rattle.contents.specs.Contents.{bytes_at, contents};
 ghost use Rattle.columns.specs.Handing.{all_zero};
@@ -53,7 +53,7 @@ fn is_zero(row: [u8; 255], from: usize) -> bool
 
 // Whether row `q`, once it is restored, holds 0 wherever it reaches beyond a file of `n` bytes. Few rows do.
 fn row_ends(row: [u8; 255], e: &Errata, m: usize, q: usize, n: usize) -> bool
-    requires { Placed e.now.n e.now.at × (0 < m) × (m ≤ 255) × (q * 255 < 2 ^ 63) }
+    requires { (0 < m) × (m ≤ 255) × (q * 255 < 2 ^ 63) }
     ensures { result ≡ all_zero (beyond_in m n q (mended_by row (entries e.now.at) (entries e.now.values) e.now.n)) }
 {
     let k = columns_within(m, q, n);

@@ -50,7 +50,7 @@ finish-requires t c =
     let p = (goal.at.finish-requires t c).After-rest_in in
     let b : List ℕ = c.args.rows.now in
     let called = c.mend_from-ended in (
-      row-ordered b (some t p) (bytes t p) _ (left t p) _ c.in-Some.ensures,
+      (row-ordered b (some t p) (bytes t p) _ (left t p) _ c.in-Some.ensures).few,
       omega (arith, back_length b called.new.rows (some t p)),
       ended-few b _ _ c.requires (some t p) _ (behind-part b) called.result called.new.rows called.ensures,
     )

@@ -9,4 +9,4 @@ use Rattle.solving.proofs.losses.rest_of.Goals as goal
 pub returns : goal.returns
 returns c =
     let long : length c.args.row ≡ 255 = search rules in
-    rest_one _ _ _ long c.remainders-rests.ensures c.rest_in.ensures
+    rest_one _ _ _ long c.remainders.ensures c.copy_from_slice.ensures.after

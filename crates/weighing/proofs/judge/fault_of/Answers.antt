@@ -7,7 +7,7 @@ use borrow.Author.Rules.{rules}
 use lib.ListN.{get_or}
 use Rattle.code.specs.Code.{Bytes}
 use Rattle.code.proofs.Lists.{bytes_of}
-use Rattle.columns.proofs.RowLaws.{row-lacks, row-full, row-placed, row-found, row-none, fault_lacks, fault_uncoded, fault_spoilt, fault_none}
+use Rattle.columns.proofs.RowLaws.{row-lacks, row-full, row-found, row-none, fault_lacks, fault_uncoded, fault_spoilt, fault_none}
 use Rattle.weighing.proofs.judge.fault_of.Goals.{After-fill}
 use Rattle.weighing.proofs.judge.fault_of.Goals as goal
 
@@ -29,13 +29,7 @@ returns-in_default c =
     (row-none _ _ c.requires.fits _ _ c.gather-came.ensures (few p) (bytes p) c.in_default.ensures)
 
 pub row_ends-requires : goal.row_ends-requires
-row_ends-requires c =
-    let p = (goal.at.row_ends-requires c).After-fill in (
-      row-placed _ _ c.requires.fits _ _ c.gather-came.ensures (few p) (bytes p) _ c.in-Some.ensures,
-      c.requires.rows,
-      omega arith,
-      omega arith,
-    )
+row_ends-requires c = (c.requires.rows, omega arith, omega arith)
 
 pub returns-then-not-row_ends : goal.returns-then-not-row_ends
 returns-then-not-row_ends c =

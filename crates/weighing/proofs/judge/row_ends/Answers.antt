@@ -9,14 +9,8 @@ use Rattle.columns.specs.Handing.{all_zero}
 use Rattle.columns.proofs.ZeroLaws.{beyond-none, beyond_from}
 use Rattle.weighing.proofs.judge.row_ends.Goals as goal
 
-pub columns_within-k-requires : goal.columns_within-k-requires
-columns_within-k-requires c = (c.requires.1, c.requires.2, c.requires.3)
-
 pub returns-then-k-eq239 : goal.returns-then-k-eq239
 returns-then-k-eq239 c = beyond-none _ _ _ _ _ c.columns_within-k.ensures c.if-k-eq239.true
-
-pub added_to-requires : goal.added_to-requires
-added_to-requires c = c.requires.0
 
 pub is_zero-requires : goal.is_zero-requires
 is_zero-requires c = omega (arith, c.columns_within-k.ensures.within)
