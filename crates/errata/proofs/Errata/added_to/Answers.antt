@@ -1,7 +1,7 @@
 -- The bytes before place k are those that the definition adds to; behind sixteen it adds nothing.
 -- Assumes nothing.
 use mathlib.Core.Path.{◌≡◌, ap, ◌∙◌}
-use Prim.Native.Nat.{◌-◌, min}
+use Prim.Native.Nat.{◌-◌}
 use native.Mathlib.Omega.{arith}
 use Rattle.ground.specs.Bits.{sum}
 use Rattle.errata.proofs.Mending.{mended_start, mended-more}
