@@ -97,14 +97,11 @@ pub(crate) fn null_vector(s: Sixteen) -> [u8; 9]
         } else if p == 0 {
             kept[i] = v;
             pivots[i] = d;
-            let next = shift(v);
-            v = next;
-            i = if i == 0 { 0 } else { i - 1 };
+            v = shift(v);
+            i = i.saturating_sub(1);
             l += 1;
         } else {
-            let q = kept[i];
-            let next = mix(v, q, p, d);
-            v = next;
+            v = mix(v, kept[i], p, d);
             i += 1;
         }
     }
