@@ -2,7 +2,9 @@
 -- places, since nothing stands there. Assumes nothing.
 use mathlib.Core.Path.{◌≡◌, refl, sym, ap, ap₂, subst, ◌∙◌}
 use mathlib.Core.Logic.{⊎_elim}
-use mathlib.Core.Bool.{Bool, true, false, cond}
+use mathlib.Core.Bool.{cond}
+use Rattle.std.proofs.Common.{Some, None}
+use Rattle.std.proofs.lemmas.Option.{none-some, same_Some}
 use mathlib.Core.List.{List, ◌∷◌}
 use Prim.Native.Nat.{ℕ, zero, suc, ◌+◌, ◌-◌, ◌<◌, ◌≤◌}
 use native.Mathlib.Omega.{arith}
@@ -12,7 +14,6 @@ use Rattle.ground.specs.Bits.{sum}
 use Rattle.ground.proofs.Sums.{zero_sum, sum_cancel}
 use Rattle.ground.proofs.Listed.{get_or-listed_0}
 use Rattle.ground.proofs.Numbers.{same_or_not}
-use Rattle.ground.proofs.Truth.{differ}
 use Rattle.field.specs.Field.{product, expo}
 use Rattle.field.proofs.Laws.{power_zero, product_one}
 use Rattle.code.specs.Code.{Bytes}
@@ -100,10 +101,11 @@ one_restores row at x v n long e d s l k h =
 -- ---- what is added
 
 -- the places are those that were given
-filled-places : (r at : List ℕ) (n : ℕ) (a : Repaired) → n ≤ 16 → (filling_for r at n a).fits ≡ true → (k : ℕ) → k < n → get_or (filling_for r at n a).at k 0 ≡ get_or at k 0
+filled-places : (r at : List ℕ) (n : ℕ) (a : Repaired) (e : Errata) → n ≤ 16 → Some e ≡ filling_for r at n a → (k : ℕ) → k < n → get_or e.at k 0 ≡ get_or at k 0
 unfolding filling_for
-filled-places r at n (found s) few t k h = get_or-listed_0 (λ k. get_or (take n at) k 0) 16 k 0 (omega arith) ∙ get_or-take n at k 0 h
-filled-places r at n none few t k h = differ (sym t)
+filled-places r at n (found s) e few q k h =
+    ap (λ (x : Errata). get_or x.at k 0) (same_Some _ _ q) ∙ get_or-listed_0 (λ k. get_or (take n at) k 0) 16 k 0 (omega arith) ∙ get_or-take n at k 0 h
+filled-places r at n none e few q k h = absurd (none-some e (sym q))
 
 found-same : (s t : List ℕ) → found s ≡ found t → s ≡ t
 found-same s t e = cc
@@ -111,7 +113,7 @@ found-same s t e = cc
 found_none : (s : List ℕ) → found s ≡ none → ⊥
 found_none s e = let z : ◌≡◌ {A = ℕ} 0 1 = cc in omega arith
 
-module _ (row at : List ℕ) (n : ℕ) (long : length row ≡ 255) (bytes : Bytes row) (room : length at ≡ 16) (s : List ℕ) (l : Lacking row at n s) (e : Errata) (is : e ≡ filling_of (remainder 239 row) at n) where
+module _ (row at : List ℕ) (n : ℕ) (long : length row ≡ 255) (bytes : Bytes row) (room : length at ≡ 16) (s : List ℕ) (l : Lacking row at n s) where
   abbrev rest : List ℕ
   rest = remainder 239 row
 
@@ -127,41 +129,39 @@ module _ (row at : List ℕ) (n : ℕ) (long : length row ≡ 255) (bytes : Byte
   restored_as : restore_of (among at n) row ≡ found s
   restored_as = restore_found (among at n) row s (among-few at n l.falling) l.fits
 
-  fits : e.fits ≡ true
-  fits = by e.fits refl
-    where
-      by : (b : Bool) → e.fits ≡ b → b ≡ true
-      by true q = refl
-      by false q =
-          absurd (found_none s (sym restored_as ∙ filling_none (remainder 239 row) at n rest_long rest_bytes room l.falling row long bytes refl e is q))
+  -- something is filled in
+  filled : None ≡ filling_of (remainder 239 row) at n → ⊥
+  filled q = found_none s (sym restored_as ∙ filling_none (remainder 239 row) at n rest_long rest_bytes room l.falling row long bytes refl q)
 
-  many : e.n ≡ n
-  many = filling_many (remainder 239 row) at n rest_long rest_bytes room l.falling e is fits
+  module _ (e : Errata) (is : Some e ≡ filling_of (remainder 239 row) at n) where
+    many : e.n ≡ n
+    many = filling_many (remainder 239 row) at n rest_long rest_bytes room l.falling e is
 
-  placed : Placed e.n e.at
-  placed = filling_placed (remainder 239 row) at n rest_long rest_bytes room l.falling e is
+    placed : Placed e.n e.at
+    placed = filling_placed (remainder 239 row) at n rest_long rest_bytes room l.falling e is
 
-  row_is : s ≡ mended_by row (entries e.at) (entries e.values) e.n
-  row_is =
-      found-same s (mended_by row (entries e.at) (entries e.values) e.n)
-      (sym restored_as ∙ filling_found (remainder 239 row) at n rest_long rest_bytes room l.falling row long bytes refl e is fits)
+    row_is : s ≡ mended_by row (entries e.at) (entries e.values) e.n
+    row_is =
+        found-same s (mended_by row (entries e.at) (entries e.values) e.n)
+        (sym restored_as ∙ filling_found (remainder 239 row) at n rest_long rest_bytes room l.falling row long bytes refl e is)
 
-  places_are : (k : ℕ) → k < n → get_or e.at k 0 ≡ get_or at k 0
-  unfolding filling_of
-  places_are k h =
-      let a : Repaired = cond (falling_to at n) (restore_of (among at n) (leaving (remainder 239 row))) none in
-      let q : filling_for (leaving (remainder 239 row)) at n a ≡ e = sym is in
-      subst (λ (x : Errata). x.fits ≡ true → get_or x.at k 0 ≡ get_or at k 0) q (λ t. filled-places (leaving (remainder 239 row)) at n a few t k h) fits
+    places_are : (k : ℕ) → k < n → get_or e.at k 0 ≡ get_or at k 0
+    unfolding filling_of
+    places_are = filled-places (leaving (remainder 239 row)) at n (cond (falling_to at n) (restore_of (among at n) (leaving (remainder 239 row))) none) e few is
 
-  pub filled-lost : (k : ℕ) → k < n → get_or e.values k 0 ≡ get_or s (254 - get_or at k 0) 0
-  filled-lost k h =
-      let b : k < e.n = omega (arith, many) in
-      let q : get_or e.at k 0 ≡ get_or at k 0 = places_are k h in
-      sym
-      (ap₂ (λ (x : List ℕ) (y : ℕ). get_or x (254 - y) 0) row_is (sym q)
-      ∙ mended-on row long (entries e.at) (entries e.values) e.n placed.below placed.apart k b
-      ∙ ap (λ (y : ℕ). sum (get_or row (254 - y) 0) (get_or e.values k 0)) q
-      ∙ ap (λ (x : ℕ). sum x (get_or e.values k 0)) (l.empty k h) ∙ zero_sum (get_or e.values k 0))
+    filled-lost : (k : ℕ) → k < n → get_or e.values k 0 ≡ get_or s (254 - get_or at k 0) 0
+    filled-lost k h =
+        let b : k < e.n = omega (arith, many) in
+        let q : get_or e.at k 0 ≡ get_or at k 0 = places_are k h in
+        sym
+        (ap₂ (λ (x : List ℕ) (y : ℕ). get_or x (254 - y) 0) row_is (sym q)
+        ∙ mended-on row long (entries e.at) (entries e.values) e.n placed.below placed.apart k b
+        ∙ ap (λ (y : ℕ). sum (get_or row (254 - y) 0) (get_or e.values k 0)) q
+        ∙ ap (λ (x : ℕ). sum x (get_or e.values k 0)) (l.empty k h) ∙ zero_sum (get_or e.values k 0))
 
-pub filled_restores : (row at : List ℕ) (n : ℕ) (e : Errata) → length row ≡ 255 → Bytes row → length at ≡ 16 → e ≡ filling_of (remainder 239 row) at n → Restores row at n e.values
+-- what was filled in; where nothing was, any values do, since there is no such row
+pub filled_restores : (row at : List ℕ) (n : ℕ) (e : Errata) → length row ≡ 255 → Bytes row → length at ≡ 16 → Some e ≡ filling_of (remainder 239 row) at n → Restores row at n e.values
 filled_restores row at n e long bytes room is s l k h = filled-lost row at n long bytes room s l e is k h
+
+pub unfilled_restores : (row at : List ℕ) (n : ℕ) (v : List ℕ) → length row ≡ 255 → Bytes row → length at ≡ 16 → None ≡ filling_of (remainder 239 row) at n → Restores row at n v
+unfilled_restores row at n v long bytes room is s l k h = absurd (filled row at n long bytes room s l is)

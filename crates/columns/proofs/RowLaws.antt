@@ -2,6 +2,7 @@
 -- Assumes nothing.
 use mathlib.Core.Path.{◌≡◌, refl, sym, ap, ap₂, subst, ◌∙◌}
 use mathlib.Core.Bool.{Bool, true, false}
+use Rattle.std.proofs.Common.{Some, None}
 use mathlib.Core.List.{List}
 use Prim.Native.Nat.{ℕ, ◌≤◌, ◌<◌}
 use borrow.Author.Tests.{lt-ltb, le-ltb}
@@ -15,8 +16,8 @@ use Rattle.code.proofs.Division.{length-remainder, remainder-bytes}
 use Rattle.code.proofs.Restored.{restore_same}
 use Rattle.errata.specs.declared.Errata.{Errata}
 use Rattle.errata.specs.Restoring.{falling_to, among, filling_of}
-use Rattle.errata.specs.InnerErrata.{entries, mended_by, Placed}
-use Rattle.errata.proofs.Filled.{filling_placed, filling_found, filling_none}
+use Rattle.errata.specs.InnerErrata.{entries, mended_by}
+use Rattle.errata.proofs.Filled.{filling_found, filling_none}
 use Rattle.places.specs.declared.Place.{Place}
 use Rattle.contents.specs.Contents.{Slot as Content, contents}
 use Rattle.losses.specs.declared.Came.{Came}
@@ -72,23 +73,21 @@ module _ (p : Place) (s : List ℕ) (fits : tabled p (length s) ≡ true) (q : �
         (λ k h. ap₂ (λ (l : List ℕ) (n : ℕ). among l n k) at_is lost_is ∙ among-lost gone few-gone k h) (λ k h e. refl)
         ∙ ap (restore_of gone) row_is
 
-    module _ (bytes : Bytes c.row) (e : Errata) (filled : e ≡ filling_of (remainder 239 c.row) c.at c.lost) where
+    module _ (bytes : Bytes c.row) where
       rest_long : length (remainder 239 c.row) ≡ 16
       rest_long = length-remainder 239 c.row row-long
 
       rest_bytes : Bytes (remainder 239 c.row)
       rest_bytes = remainder-bytes 239 c.row bytes
 
-      pub row-placed : Placed e.n e.at
-      row-placed = filling_placed (remainder 239 c.row) c.at c.lost rest_long rest_bytes room falling e filled
+      module _ (e : Errata) (filled : Some e ≡ filling_of (remainder 239 c.row) c.at c.lost) where
+        pub row-found : row_restored p.rows p.slot (contents p s) q ≡ found (mended_by c.row (entries e.at) (entries e.values) e.n)
+        row-found =
+            sym restored_by ∙ filling_found (remainder 239 c.row) c.at c.lost rest_long rest_bytes room falling c.row row-long bytes refl e filled
 
-      pub row-found : e.fits ≡ true → row_restored p.rows p.slot (contents p s) q ≡ found (mended_by c.row (entries e.at) (entries e.values) e.n)
-      row-found t =
-          sym restored_by ∙ filling_found (remainder 239 c.row) c.at c.lost rest_long rest_bytes room falling c.row row-long bytes refl e filled t
-
-      pub row-none : e.fits ≡ false → row_restored p.rows p.slot (contents p s) q ≡ none
-      row-none t =
-          sym restored_by ∙ filling_none (remainder 239 c.row) c.at c.lost rest_long rest_bytes room falling c.row row-long bytes refl e filled t
+      pub row-none : None ≡ filling_of (remainder 239 c.row) c.at c.lost → row_restored p.rows p.slot (contents p s) q ≡ none
+      row-none unfilled =
+          sym restored_by ∙ filling_none (remainder 239 c.row) c.at c.lost rest_long rest_bytes room falling c.row row-long bytes refl unfilled
 
 -- ---- what is wrong with it
 

@@ -3,17 +3,17 @@
 -- Assumes nothing.
 use mathlib.Core.Path.{◌≡◌, refl, sym, ap, subst, ◌∙◌}
 use mathlib.Core.Logic.{⊎_elim}
-use mathlib.Core.Bool.{Bool, true, false}
+use mathlib.Core.Bool.{Bool, true}
 use mathlib.Core.List.{List, map}
+use Rattle.std.proofs.Common.{Option, Some, None, IsSome}
+use Rattle.std.proofs.lemmas.Option.{none-some, same_Some}
 use Prim.Native.Nat.{ℕ, ◌-◌, ◌≤◌, ◌<◌}
-use native.Mathlib.Nat.{not-suc-le-zero}
 use native.Mathlib.Omega.{arith}
 use lib.ListN.{length, get_or, take}
 use lib.Seq.{length-take-le, get_or-take}
 use Rattle.ground.specs.Bits.{sum}
 use Rattle.ground.specs.Lists.{listed}
 use Rattle.ground.proofs.Listed.{length-listed, get_or-listed_0}
-use Rattle.ground.proofs.Truth.{differ}
 use Rattle.ground.proofs.Numbers.{lt_or_ge}
 use Rattle.field.specs.Field.{power}
 use Rattle.code.specs.Code.{Bytes, add}
@@ -90,27 +90,26 @@ module _ (r at : List ℕ) (n : ℕ) (room : length at ≡ 16) (falling : fallin
 -- ---- any row that leaves `rest`
 
 module _ (rest at : List ℕ) (n : ℕ) (long : length rest ≡ 16) (bytes : Bytes rest) (room : length at ≡ 16) (falling : falling_to at n ≡ true) where
-  by_cases : (P : Errata → Type 0) → ((a : Repaired) → restore_of (among at n) (leaving rest) ≡ a → P (filling_for (leaving rest) at n a)) → (e : Errata)
-      → e ≡ filling_of rest at n → P e
-  by_cases P all e q =
-      subst P (filling_is rest at n falling (restore_of (among at n) (leaving rest)) refl ∙ sym q) (all (restore_of (among at n) (leaving rest)) refl)
+  -- what holds of all that makes the row one that fits holds of what was told
+  by_found : (P : Errata → Type 0) → ((s : List ℕ) → Fits (among at n) (leaving rest) s → (e : Errata) → Some e ≡ filling_for (leaving rest) at n (found s) → P e)
+      → (e : Errata) → Some e ≡ filling_of rest at n → P e
+  unfolding filling_for
+  by_found P all e q = by (restore_of (among at n) (leaving rest)) refl
+    where
+      by : (a : Repaired) → restore_of (among at n) (leaving rest) ≡ a → P e
+      by (found s) f = all s (restore_fits (among at n) (leaving rest) s f) e (q ∙ sym (filling_is rest at n falling (found s) f))
+      by none f = absurd (none-some e (sym (q ∙ sym (filling_is rest at n falling none f))))
 
   -- where something fits, all the places are told
-  pub filling_many : (e : Errata) → e ≡ filling_of rest at n → e.fits ≡ true → e.n ≡ n
+  pub filling_many : (e : Errata) → Some e ≡ filling_of rest at n → e.n ≡ n
   unfolding filling_for
-  filling_many = by_cases (λ (e : Errata). e.fits ≡ true → e.n ≡ n) each
-    where
-      each : (a : Repaired) → restore_of (among at n) (leaving rest) ≡ a → (filling_for (leaving rest) at n a).fits ≡ true → (filling_for (leaving rest) at n a).n ≡ n
-      each (found s) f t = refl
-      each none f t = differ (sym t)
+  filling_many = by_found (λ (e : Errata). e.n ≡ n) (λ s fit e q. ap (λ (x : Errata). x.n) (same_Some _ _ q))
 
-  pub filling_placed : (e : Errata) → e ≡ filling_of rest at n → Placed e.n e.at
+  pub filling_placed : (e : Errata) → Some e ≡ filling_of rest at n → Placed e.n e.at
   unfolding filling_for
-  filling_placed = by_cases (λ (e : Errata). Placed e.n e.at) each
-    where
-      each : (a : Repaired) → restore_of (among at n) (leaving rest) ≡ a → Placed (filling_for (leaving rest) at n a).n (filling_for (leaving rest) at n a).at
-      each (found s) f = placed (leaving rest) at n room falling
-      each none f = record { few = omega arith; below = λ k h. absurd (not-suc-le-zero h); apart = λ k l h b. absurd (not-suc-le-zero b) }
+  filling_placed =
+      by_found (λ (e : Errata). Placed e.n e.at)
+      (λ s fit e q. subst (λ (x : Errata). Placed x.n x.at) (sym (same_Some _ _ q)) (placed (leaving rest) at n room falling))
 
   module _ (row : List ℕ) (lrow : length row ≡ 255) (brow : Bytes row) (left : rest ≡ remainder 239 row) where
     same : remainder 239 (leaving rest) ≡ remainder 239 row
@@ -121,27 +120,24 @@ module _ (rest at : List ℕ) (n : ℕ) (long : length rest ≡ 16) (bytes : Byt
     Restores e = restore_of (among at n) row ≡ found (mended_by row (entries e.at) (entries e.values) e.n)
 
     -- the row that is restored
-    pub filling_found : (e : Errata) → e ≡ filling_of rest at n → e.fits ≡ true
-        → restore_of (among at n) row ≡ found (mended_by row (entries e.at) (entries e.values) e.n)
+    pub filling_found : (e : Errata) → Some e ≡ filling_of rest at n → restore_of (among at n) row ≡ found (mended_by row (entries e.at) (entries e.values) e.n)
     unfolding filling_for
-    filling_found = by_cases (λ (e : Errata). e.fits ≡ true → Restores e) each
-      where
-        each : (a : Repaired) → restore_of (among at n) (leaving rest) ≡ a → (filling_for (leaving rest) at n a).fits ≡ true → Restores (filling_for (leaving rest) at n a)
-        each (found s) f t =
-            let r : List ℕ = leaving rest in
-            let lr : length r ≡ 255 = leaving-length rest long in
-            let fit : Fits (among at n) r s = restore_fits (among at n) r s f in
-            restore_found (among at n) row (add s (add r row)) (among-few at n falling) (fits_moved (among at n) r row s lr lrow (leaving-bytes rest long bytes) brow same fit)
-            ∙ ap found (sym (mended_moved (turning r at n room falling s fit) row lr fit.coded.sized lrow))
-        each none f t = differ (sym t)
+    filling_found =
+        by_found Restores
+        (λ s fit e q.
+        let r : List ℕ = leaving rest in
+        let lr : length r ≡ 255 = leaving-length rest long in
+        subst Restores (sym (same_Some _ _ q))
+        (restore_found (among at n) row (add s (add r row)) (among-few at n falling) (fits_moved (among at n) r row s lr lrow (leaving-bytes rest long bytes) brow same fit)
+        ∙ ap found (sym (mended_moved (turning r at n room falling s fit) row lr fit.coded.sized lrow))))
 
-    pub filling_none : (e : Errata) → e ≡ filling_of rest at n → e.fits ≡ false → restore_of (among at n) row ≡ none
+    pub filling_none : None ≡ filling_of rest at n → restore_of (among at n) row ≡ none
     unfolding filling_for
-    filling_none = by_cases (λ (e : Errata). e.fits ≡ false → restore_of (among at n) row ≡ none) each
+    filling_none q = by (restore_of (among at n) (leaving rest)) refl
       where
-        each : (a : Repaired) → restore_of (among at n) (leaving rest) ≡ a → (filling_for (leaving rest) at n a).fits ≡ false → restore_of (among at n) row ≡ none
-        each (found s) f t = differ t
-        each none f t =
+        by : (a : Repaired) → restore_of (among at n) (leaving rest) ≡ a → restore_of (among at n) row ≡ none
+        by (found s) f = absurd (none-some _ (q ∙ sym (filling_is rest at n falling (found s) f)))
+        by none f =
             restore_none (among at n) row
             (λ u fit. none-fits (among at n) (leaving rest) f (add u (add row (leaving rest)))
             (fits_moved (among at n) row (leaving rest) u lrow (leaving-length rest long) brow (leaving-bytes rest long bytes) (sym same) fit))
@@ -171,10 +167,11 @@ module _ (rest at : List ℕ) (long : length rest ≡ 16) (bytes : Bytes rest) (
       }
 
   -- they are as many as there are syndromes: something always fits
-  pub sixteen_fit : (e : Errata) → e ≡ filling_of rest at 16 → e.fits ≡ true
+  pub sixteen_fit : (e : Option Errata) → e ≡ filling_of rest at 16 → IsSome e
   unfolding filling_for
-  sixteen_fit = by_cases rest at 16 long bytes room falling (λ (e : Errata). e.fits ≡ true) each
+  sixteen_fit (Some e) q = refl
+  sixteen_fit None q = absurd (by (restore_of (among at 16) (leaving rest)) refl)
     where
-      each : (a : Repaired) → restore_of (among at 16) (leaving rest) ≡ a → (filling_for (leaving rest) at 16 a).fits ≡ true
-      each (found s) f = refl
-      each none f = absurd (none-fits (among at 16) (leaving rest) f _ (weighed_fits rest at 16 falling long bytes room weighed weighed.solved.solves))
+      by : (a : Repaired) → restore_of (among at 16) (leaving rest) ≡ a → ⊥
+      by (found s) f = none-some _ (q ∙ sym (filling_is rest at 16 falling (found s) f))
+      by none f = none-fits (among at 16) (leaving rest) f _ (weighed_fits rest at 16 falling long bytes room weighed weighed.solved.solves)

@@ -4,6 +4,7 @@
 use mathlib.Core.Path.{◌≡◌, refl, sym, ap, subst, ◌∙◌}
 use mathlib.Core.Bool.{Bool, true, false, cond}
 use mathlib.Core.List.{List, map}
+use Rattle.std.proofs.Common.{Some, None}
 use Prim.Native.Nat.{ℕ, zero, suc, ◌-◌, ◌≤◌, ◌<◌}
 use native.Mathlib.Nat.{le_refl, le_trans, le-suc}
 use native.Mathlib.Omega.{arith}
@@ -11,19 +12,20 @@ use lib.ListN.{length, get_or, set, take, length-map}
 use lib.Seq.{set-get_or, length-take-le, get_or-take}
 use Rattle.ground.specs.Bits.{sum}
 use Rattle.ground.proofs.Sums.{sum_zero}
+use Rattle.ground.proofs.Listed.{zeros_at}
 use Rattle.code.specs.Code.{Bytes}
 use Rattle.code.specs.Search.{Repaired}
 use Rattle.code.specs.Search.Repaired.{found, none}
 use Rattle.code.specs.Restore.{Fits, restore_of}
-use Rattle.code.proofs.Lists.{sum-again}
+use Rattle.code.proofs.Lists.{zeros, sum-again}
 use Rattle.code.proofs.Division.{remainder-coded}
 use Rattle.code.proofs.Restored.{restore_found, restore_none}
 use Rattle.errata.specs.declared.Errata.{Errata}
 use Rattle.errata.specs.Errata.{at_place, padded, leaving}
 use Rattle.errata.specs.Restoring.{falling_to, among, filling_for, filling_of}
-use Rattle.errata.specs.InnerErrata.{nothing_to, entries, share_of, mended_by, Agreeing}
+use Rattle.errata.specs.InnerErrata.{entries, mended_by, Gives}
 use Rattle.errata.specs.InnerRestoring.{Filled}
-use Rattle.errata.proofs.Mending.{mended_off, Weighed, mended-coded, agreed, all_zeros}
+use Rattle.errata.proofs.Mending.{mended_off, Weighed, mended-coded, agreed}
 use Rattle.errata.proofs.Listing.{mended-on, get_d_map, all-padded}
 use Rattle.errata.proofs.Leaving.{leaving-length, leaving-bytes, leaving_rest}
 use Rattle.errata.proofs.Places.{falling-few, falling-below, falling-placed, among_none, not_among, among-few}
@@ -40,8 +42,8 @@ mended_idle row a c (suc n) idle =
     ∙ mended_idle row a c n (λ k h. idle k (le_trans h (le-suc n)))
 
 module _ (rest at : List ℕ) (n : ℕ) where
-  pub not_falling : falling_to at n ≡ false → nothing_to false ≡ filling_of rest at n
-  unfolding filling_of filling_for nothing_to
+  pub not_falling : falling_to at n ≡ false → None ≡ filling_of rest at n
+  unfolding filling_of filling_for
   not_falling f = ap (λ (b : Bool). filling_for (leaving rest) at n (cond b (restore_of (among at n) (leaving rest)) none)) (sym f)
 
   module _ (falling : falling_to at n ≡ true) where
@@ -50,8 +52,8 @@ module _ (rest at : List ℕ) (n : ℕ) where
     filling_is a e =
         sym (ap (λ (b : Bool). filling_for (leaving rest) at n (cond b (restore_of (among at n) (leaving rest)) none)) falling ∙ ap (filling_for (leaving rest) at n) e)
 
-    pub unfilled_told : ((t : List ℕ) → Fits (among at n) (leaving rest) t → ⊥) → nothing_to false ≡ filling_of rest at n
-    unfolding filling_for nothing_to
+    pub unfilled_told : ((t : List ℕ) → Fits (among at n) (leaving rest) t → ⊥) → None ≡ filling_of rest at n
+    unfolding filling_for
     unfilled_told nobody = filling_is none (restore_none (among at n) (leaving rest) nobody)
 
     module _ (long : length rest ≡ 16) (bytes : Bytes rest) (room : length at ≡ 16) where
@@ -75,7 +77,7 @@ module _ (rest at : List ℕ) (n : ℕ) where
             ∙ ap by (sym (get_or-take n at k 0 h))
             ∙ sym (get_d_map by (take n at) k (subst (λ (m : ℕ). k < m) (sym (length-take-le n at few)) h))
 
-        pub filled-told : (e : Errata) → Filled at c n e → e ≡ filling_of rest at n
+        pub filled-told : (e : Errata) → Filled at c n e → Some e ≡ filling_of rest at n
         unfolding filling_for
         filled-told e f =
             let s : List ℕ = mended_by (leaving rest) (entries at) (entries c) n in
@@ -83,21 +85,21 @@ module _ (rest at : List ℕ) (n : ℕ) where
             let v : e.values ≡ padded (map by (take n at)) =
             all-padded n e.values (map by (take n at)) f.amounts.sized (length-map (take n at) by ∙ length-take-le n at few)
             (λ k h. f.amounts.kept k h ∙ by_entry k h) f.amounts.behind in
-            let q : e ≡ filling_for (leaving rest) at n (found s) = λ i. record { fits = f.fits i; n = f.many i; at = p i; values = v i } in
+            let q : Some e ≡ filling_for (leaving rest) at n (found s) = λ i. Some (record { n = f.many i; at = p i; values = v i }) in
             q ∙ filling_is (found s) (restore_found (among at n) (leaving rest) s (among-few at n falling) fit)
 
       -- a row that leaves nothing is coded as it is
-      pub nothing-fits : ((j : ℕ) → j < 16 → get_or rest j 0 ≡ 0) → Fits (among at n) (leaving rest) (mended_by (leaving rest) (entries at) (entries rest) n)
+      pub nothing-fits : rest ≡ zeros 16 → Fits (among at n) (leaving rest) (mended_by (leaving rest) (entries at) (entries rest) n)
       nothing-fits nought =
           subst (Fits (among at n) (leaving rest))
-          (sym (mended_idle (leaving rest) (entries at) (entries rest) n (λ k h. nought k (omega (arith, falling-few at n falling)))))
+          (sym (mended_idle (leaving rest) (entries at) (entries rest) n (λ k h. ap (λ (l : List ℕ). get_or l k 0) nought ∙ zeros_at 16 k)))
           (record {
-            coded = remainder-coded (leaving rest) (leaving-length rest long) (leaving-bytes rest long bytes) (sym (leaving_rest rest long) ∙ all_zeros 16 rest long nought);
+            coded = remainder-coded (leaving rest) (leaving-length rest long) (leaving-bytes rest long bytes) (sym (leaving_rest rest long) ∙ nought);
             known = λ i h k. refl;
           })
 
       module _ {s c : List ℕ} (weighed : Weighed rest s n at c) where
-        pub weighed_fits : ((j : ℕ) → j < 16 → share_of (entries at) (entries c) n j ≡ get_or s j 0) → Fits (among at n) (leaving rest) (mended_by (leaving rest) (entries at) (entries c) n)
+        pub weighed_fits : Gives s at c n → Fits (among at n) (leaving rest) (mended_by (leaving rest) (entries at) (entries c) n)
         weighed_fits agree =
             record {
               coded = mended-coded weighed (leaving rest) (leaving-length rest long) (leaving-bytes rest long bytes) (leaving_rest rest long) agree;
@@ -106,10 +108,10 @@ module _ (rest at : List ℕ) (n : ℕ) where
                   (λ k b z. among_none at n i off k b (omega (arith, falling-below at n falling k b)));
             }
 
-        fits_weighed : (t : List ℕ) → Fits (among at n) (leaving rest) t → (j : ℕ) → j < 16 → share_of (entries at) (entries c) n j ≡ get_or s j 0
+        fits_weighed : (t : List ℕ) → Fits (among at n) (leaving rest) t → Gives s at c n
         fits_weighed t fit =
             agreed weighed (leaving rest) (leaving-length rest long) (leaving-bytes rest long bytes) (leaving_rest rest long) t fit.coded
             (λ i h off. sym (fit.known i h (not_among at n i (λ k b z. off k b (omega arith)))))
 
-        pub agreeing_none : Agreeing s at c n false → nothing_to false ≡ filling_of rest at n
-        agreeing_none agrees = unfilled_told (λ t fit. agrees.no refl (fits_weighed t fit))
+        pub given_none : (Gives s at c n → ⊥) → None ≡ filling_of rest at n
+        given_none nobody = unfilled_told (λ t fit. nobody (fits_weighed t fit))

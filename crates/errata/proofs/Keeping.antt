@@ -2,20 +2,20 @@
 -- Assumes nothing.
 use mathlib.Core.Path.{◌≡◌, refl, sym, ap, ap₂, subst, ◌∙◌}
 use mathlib.Core.Logic.{◌≢◌, ⊎_elim}
-use mathlib.Core.Bool.{true}
 use mathlib.Core.List.{List}
-use Prim.Native.Nat.{ℕ, zero, suc, ◌+◌, ◌-◌, ◌≤◌, ◌<◌}
-use native.Mathlib.Nat.{le_refl, not-suc-le-zero}
+use Prim.Native.Nat.{ℕ, zero, suc, min, ◌+◌, ◌-◌, ◌≤◌, ◌<◌}
+use native.Mathlib.Nat.{min-eq_left, min-eq_right, le_refl, not-suc-le-zero}
 use native.Mathlib.Numerals.{add-one}
 use native.Mathlib.Omega.{arith}
 use lib.ListN.{length, get_or, set, length-set}
 use lib.Seq.{get_or-set_same, get_or-set_other, set-get_or}
 use Rattle.ground.specs.Bits.{sum}
 use Rattle.ground.proofs.Sums.{sum_zero}
-use Rattle.ground.proofs.Numbers.{same_or_not, below_suc}
+use Rattle.ground.proofs.Numbers.{same_or_not, below_suc, lt_or_ge}
 use Rattle.ground.proofs.Listed.{zeros_at}
 use Rattle.errata.specs.declared.Errata.{Errata}
-use Rattle.errata.specs.InnerErrata.{nothing_to, entries, mended_by, Ordered, added, Put, Listed, Kept}
+use Rattle.errata.proofs.Listing.{beyond}
+use Rattle.errata.specs.InnerErrata.{nothing_added, entries, mended_by, Ordered, added, Put, Listed, Kept}
 
 -- ---- the row
 
@@ -26,6 +26,24 @@ mended-nothing row a c k z =
     sym (ap (mended_by row a c) (add-one k)
     ∙ ap (set l (254 - a k)) (ap (sum (get_or l (254 - a k) 0)) z ∙ sum_zero (get_or l (254 - a k) 0))
     ∙ set-get_or l (254 - a k) 0)
+
+-- behind entry m there is nothing to add
+mended_further : (row : List ℕ) (a c : ℕ → ℕ) (m d : ℕ) → ((k : ℕ) → m ≤ k → c k ≡ 0) → mended_by row a c (m + d) ≡ mended_by row a c m
+mended_further row a c m zero idle = ap (mended_by row a c) (let e : m + 0 ≡ m = omega arith in e)
+mended_further row a c m (suc d) idle =
+    let e : m + suc d ≡ m + d + 1 = omega arith in
+    ap (mended_by row a c) e ∙ sym (mended-nothing row a c (m + d) (idle (m + d) (omega arith))) ∙ mended_further row a c m d idle
+
+-- of more than sixteen values the first sixteen count
+pub mended_sixteen : (row at values : List ℕ) (n k : ℕ) → length values ≡ 16 → k ≡ min n 16 → mended_by row (entries at) (entries values) k ≡ mended_by row (entries at) (entries values) n
+mended_sixteen row at values n k long e =
+    ⊎_elim
+    (λ (h : n < 16). ap (mended_by row (entries at) (entries values)) (e ∙ min-eq_left (omega arith)))
+    (λ (h : 16 ≤ n).
+    let d : 16 + (n - 16) ≡ n = omega arith in
+    ap (mended_by row (entries at) (entries values)) (e ∙ min-eq_right h) ∙ sym (mended_further row (entries at) (entries values) 16 (n - 16) (λ k b. beyond values k (omega arith)))
+    ∙ ap (mended_by row (entries at) (entries values)) d)
+    (lt_or_ge n 16)
 
 mended_ext : (row : List ℕ) (a b c d : ℕ → ℕ) (n : ℕ) → ((k : ℕ) → k < n → (a k ≡ b k) × (c k ≡ d k)) → mended_by row a c n ≡ mended_by row b d n
 unfolding mended_by
@@ -40,18 +58,16 @@ mended_ext row a b c d (suc k) e =
 
 pub record Keeping (at c : List ℕ) (n k : ℕ) (e : Errata) : Type 0 where
   pub within : k ≤ n
-  pub fits : e.fits ≡ true
   pub listed : Listed e
   pub few : e.n ≤ k
   pub before : (j l : ℕ) → j < e.n → k ≤ l → l < n → get_or e.at j 0 < get_or at l 0
   pub same : (row : List ℕ) → mended_by row (entries e.at) (entries e.values) e.n ≡ mended_by row (entries at) (entries c) k
 
-pub keeping_start : (at c : List ℕ) (n : ℕ) → Keeping at c n 0 (nothing_to true)
-unfolding mended_by nothing_to
+pub keeping_start : (at c : List ℕ) (n : ℕ) → Keeping at c n 0 (nothing_added)
+unfolding mended_by nothing_added
 keeping_start at c n =
     record {
       within = omega arith;
-      fits = refl;
       listed =
           record {
             ordered = record { few = omega arith; below = λ k h. absurd (not-suc-le-zero h); rising = λ j k b h. absurd (not-suc-le-zero h) };
@@ -112,7 +128,6 @@ module _ {at c : List ℕ} {n k : ℕ} {e : Errata} (was : Keeping at c n k e) (
   keeping_less z =
       record {
         within = omega arith;
-        fits = was.fits;
         listed = was.listed;
         few = omega (arith, was.few);
         before = λ j l b i. was.before j l b (omega arith);
@@ -144,7 +159,6 @@ module _ {at c : List ℕ} {n k : ℕ} {e : Errata} (was : Keeping at c n k e) (
   keeping_added nz =
       record {
         within = omega arith;
-        fits = was.fits;
         listed = longer nz;
         few = omega (arith, was.few);
         before =
@@ -172,4 +186,4 @@ module _ {at c : List ℕ} {n k : ℕ} {e : Errata} (was : Keeping at c n k e) (
 pub keeping_end : {at c : List ℕ} {n k : ℕ} {e : Errata} → Keeping at c n k e → n ≤ k → Kept at c n e
 keeping_end {at} {c} {n} {k} {e} was h =
     let q : k ≡ n = omega (arith, was.within) in
-    record { fits = was.fits; listed = was.listed; same = λ row. was.same row ∙ ap (mended_by row (entries at) (entries c)) q }
+    record { listed = was.listed; same = λ row. was.same row ∙ ap (mended_by row (entries at) (entries c)) q }

@@ -2,7 +2,7 @@
 -- within eight bytes.
 -- Assumes nothing.
 use mathlib.Core.Path.{◌≡◌, refl, sym, ap, ◌∙◌}
-use mathlib.Core.Bool.{true, false}
+use Rattle.std.proofs.Common.{Some, None}
 use mathlib.Core.List.{List}
 use Prim.Native.Nat.{ℕ}
 use native.Mathlib.Omega.{arith}
@@ -15,7 +15,7 @@ use Rattle.code.proofs.Division.{remainder_zeros}
 use Rattle.code.proofs.Exact.{repair-found, repair-none}
 use Rattle.errata.specs.declared.Errata.{Errata}
 use Rattle.errata.specs.Errata.{errata_for, leaving, errata_of}
-use Rattle.errata.specs.InnerErrata.{nothing_to, entries, mended_by, Searched, Kept}
+use Rattle.errata.specs.InnerErrata.{entries, mended_by, Nearing, Far, Kept}
 use Rattle.errata.proofs.Listing.{listed-told}
 
 not_divided : (w : List ℕ) → remainder 0 w ≡ w
@@ -36,17 +36,16 @@ module _ (rest : List ℕ) (long : length rest ≡ 16) where
     unfolding leaving
     leaving-bytes = append-bytes (zeros 239) rest (zeros_bytes 239) bytes
 
-    module _ {n : ℕ} {at c : List ℕ} where
-      pub found-told : Searched rest n at c true → (e : Errata) → Kept at c n e → e ≡ errata_of rest
-      unfolding errata_of
-      found-told searched e kept =
-          let r : List ℕ = leaving rest in
-          let s : List ℕ = mended_by r (entries at) (entries c) n in
-          let near : Near r s = searched.sound refl r leaving-length leaving-bytes leaving_rest in
-          listed-told r s leaving-length e kept.listed (sym (kept.same r)) kept.fits ∙ ap (errata_for r) (sym (repair-found r s leaving-length leaving-bytes near))
+    pub found-told : {n : ℕ} {at c : List ℕ} → Nearing rest n at c → (e : Errata) → Kept at c n e → Some e ≡ errata_of rest
+    unfolding errata_of
+    found-told {n} {at} {c} nearing e kept =
+        let r : List ℕ = leaving rest in
+        let s : List ℕ = mended_by r (entries at) (entries c) n in
+        let near : Near r s = nearing r leaving-length leaving-bytes leaving_rest in
+        listed-told r s leaving-length e kept.listed (sym (kept.same r)) ∙ ap (errata_for r) (sym (repair-found r s leaving-length leaving-bytes near))
 
-      pub none_told : Searched rest n at c false → nothing_to false ≡ errata_of rest
-      unfolding errata_of errata_for nothing_to
-      none_told searched =
-          let r : List ℕ = leaving rest in
-          ap (errata_for r) (sym (repair-none r leaving-length leaving-bytes (searched.complete refl r leaving-length leaving-bytes leaving_rest)))
+    pub none_told : Far rest → None ≡ errata_of rest
+    unfolding errata_of errata_for
+    none_told far =
+        let r : List ℕ = leaving rest in
+        ap (errata_for r) (sym (repair-none r leaving-length leaving-bytes (far r leaving-length leaving-bytes leaving_rest)))

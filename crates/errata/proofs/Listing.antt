@@ -4,6 +4,7 @@ use mathlib.Core.Path.{◌≡◌, refl, sym, ap, subst, ◌∙◌}
 use mathlib.Core.Logic.{◌≢◌, ◌⊎◌, inl, inr, ⊎_elim}
 use mathlib.Core.Bool.{Bool, true, false, not}
 use mathlib.Core.List.{List, [], ◌∷◌, map}
+use Rattle.std.proofs.Common.{Some}
 use Prim.Native.Nat.{ℕ, zero, suc, ◌-◌, ◌≤◌, ◌<◌}
 use native.Mathlib.Nat.{le_refl, not-suc-le-zero, le_of_suc-le-suc}
 use native.Mathlib.Omega.{arith}
@@ -123,9 +124,9 @@ module _ (r s : List ℕ) (long : length r ≡ 255) (e : Errata) (w : Listed e) 
   unfolding differences
   many-amounts = length-map (differing r s) (λ (a : ℕ). sum (at_place r a) (at_place s a)) ∙ sym many
 
-  pub listed-told : e.fits ≡ true → e ≡ errata_for r (found s)
+  pub listed-told : Some e ≡ errata_for r (found s)
   unfolding errata_for
-  listed-told f =
+  listed-told =
       let p : e.at ≡ padded (differing r s) = all-padded e.n e.at (differing r s) w.sized.0 (sym many) place (λ k h. (w.behind k h).0) in
       let v : e.values ≡ padded (differences r s) = all-padded e.n e.values (differences r s) w.sized.1 many-amounts amount (λ k h. (w.behind k h).1) in
-      λ i. record { fits = f i; n = many i; at = p i; values = v i }
+      λ i. Some (record { n = many i; at = p i; values = v i })

@@ -4,10 +4,9 @@
 -- Assumes nothing.
 use mathlib.Core.Path.{◌≡◌, refl, sym, ap, ap₂, subst, ◌∙◌}
 use mathlib.Core.Logic.{◌≢◌, ⊎_elim}
-use mathlib.Core.Bool.{Bool, true, false}
 use mathlib.Core.List.{List, [], ◌∷◌}
 use Prim.Native.Nat.{ℕ, zero, suc, ◌+◌, ◌-◌, ◌≤◌, ◌<◌}
-use native.Mathlib.Nat.{le_refl, not-suc-le-zero, mul_comm}
+use native.Mathlib.Nat.{le_refl, mul_comm}
 use native.Mathlib.Numerals.{add-one}
 use native.Mathlib.Omega.{arith}
 use lib.ListN.{length, get_or, set, length-set}
@@ -29,7 +28,7 @@ use Rattle.code.proofs.Locate.{located}
 use Rattle.code.specs.Total.{total}
 use Rattle.errata.specs.InnerSums.{run_of}
 use Rattle.errata.specs.InnerNull.{Annihilated}
-use Rattle.errata.specs.InnerErrata.{entries, share_of, Syndromes, Placed, Rooted, Solved, mended_by, Searched, Agreeing}
+use Rattle.errata.specs.InnerErrata.{entries, share_of, Syndromes, Placed, Rooted, Solved, mended_by, Gives, Nearing, Far}
 use Rattle.ground.proofs.Numbers.{same_or_not, below_suc}
 use Rattle.code.proofs.Totals.{total_ext, total_first}
 
@@ -44,11 +43,11 @@ unfolding mended_by
 mended_start row a c = refl
 
 -- one value more
-pub mended-more : (row : List ℕ) (a c : ℕ → ℕ) (k b : ℕ) (out : List ℕ) → out ≡ mended_by row a c k → b ≡ a k
-    → set out (254 - b) (sum (get_or out (254 - b) 0) (c k)) ≡ mended_by row a c (k + 1)
+pub mended-more : (row : List ℕ) (a c : ℕ → ℕ) (k i : ℕ) (out : List ℕ) → out ≡ mended_by row a c k → i ≡ 254 - a k
+    → set out i (sum (get_or out i 0) (c k)) ≡ mended_by row a c (k + 1)
 unfolding mended_by
-mended-more row a c k b out e p =
-    ap₂ (λ (l : List ℕ) (n : ℕ). set l (254 - n) (sum (get_or l (254 - n) 0) (c k))) e p ∙ ap (mended_by row a c) (sym (add-one k))
+mended-more row a c k i out e p =
+    ap₂ (λ (l : List ℕ) (n : ℕ). set l n (sum (get_or l n 0) (c k))) e p ∙ ap (mended_by row a c) (sym (add-one k))
 
 module _ (row : List ℕ) (long : length row ≡ 255) (a c : ℕ → ℕ) where
   pub mended-length : (n : ℕ) → length (mended_by row a c n) ≡ 255
@@ -202,7 +201,7 @@ module _ {rest s : List ℕ} {n : ℕ} {at c : List ℕ} (weighed : Weighed rest
   cleared : (j : ℕ) → j < 16 → share_of (entries at) (entries c) n j ≡ get_or s j 0 → value mended (power j) ≡ 0
   cleared j h e = mended_share j ∙ ap (sum (value row (power j))) (e ∙ syndrome j h) ∙ sum_self (value row (power j))
 
-  pub mended-coded : ((j : ℕ) → j < 16 → share_of (entries at) (entries c) n j ≡ get_or s j 0) → Coded (mended_by row (entries at) (entries c) n)
+  pub mended-coded : Gives s at c n → Coded (mended_by row (entries at) (entries c) n)
   unfolding mended
   mended-coded agree = values-coded mended size mended-bytes (λ j h. cleared j h (agree j h))
 
@@ -220,7 +219,7 @@ module _ {rest s : List ℕ} {n : ℕ} {at c : List ℕ} (weighed : Weighed rest
         let b : j < 16 = omega (arith, weighed.placed.few) in
         cleared j b (weighed.solved.solves j h) ∙ sym (coded-values t coded j b))
 
-    pub agreed : (j : ℕ) → j < 16 → share_of (entries at) (entries c) n j ≡ get_or s j 0
+    pub agreed : Gives s at c n
     agreed j h =
         sym (sum_cancel (value row (power j)) (share_of (entries at) (entries c) n j)
         (sym (mended_share j) ∙ ap (λ (l : List ℕ). value l (power j)) complete ∙ coded-values t coded j h))
@@ -259,35 +258,18 @@ module _ {rest s v : List ℕ} {n : ℕ} {at c : List ℕ} (tried : Tried rest s
         (omega arith)
         (λ z. let k = tried.rooted.all (254 - i) (omega arith) z in off k.0 k.1 (omega (arith, k.2)))
 
-    pub agreed_near : (j : ℕ) → j < 16 → share_of (entries at) (entries c) n j ≡ get_or s j 0
+    pub agreed_near : Gives s at c n
     agreed_near = agreed weighed row long bytes left t near.coded agree-near
 
-pub searched : {rest s v : List ℕ} {n : ℕ} {at c : List ℕ} → Tried rest s v n at c → (fits : Bool) → Agreeing s at c n fits → Searched rest n at c fits
-searched tried fits agrees =
-    record {
-      ordered = tried.rooted.ordered;
-      sound = λ e row long bytes left. sound tried row long bytes left (agrees.yes e);
-      complete = λ e row long bytes left t near. agrees.no e (agreed_near tried row long bytes left t near);
-    }
+module _ {rest s v : List ℕ} {n : ℕ} {at c : List ℕ} (tried : Tried rest s v n at c) where
+  pub nearing : Gives s at c n → Nearing rest n at c
+  nearing gives row long bytes left = sound tried row long bytes left gives
 
-pub all_zeros : (n : ℕ) (l : List ℕ) → length l ≡ n → ((j : ℕ) → j < n → get_or l j 0 ≡ 0) → l ≡ zeros n
-all_zeros zero [] e z = refl
-all_zeros zero (x ∷ l) e z = absurd (omega arith)
-all_zeros (suc n) [] e z = absurd (omega arith)
-all_zeros (suc n) (x ∷ l) e z = ap₂ ◌∷◌ (z 0 (omega arith)) (all_zeros n l (omega arith) (λ j h. z (suc j) (omega arith)))
+  pub far : (Gives s at c n → ⊥) → Far rest
+  far nobody row long bytes left t near = nobody (agreed_near tried row long bytes left t near)
 
 -- a row that leaves nothing is coded: nothing is to be added
-pub nothing_left : (rest at c : List ℕ) → length rest ≡ 16 → ((j : ℕ) → j < 16 → get_or rest j 0 ≡ 0) → Searched rest 0 at c true
+pub nothing_left : (rest at c : List ℕ) → rest ≡ zeros 16 → Nearing rest 0 at c
 unfolding mended_by
-nothing_left rest at c n none =
-    record {
-      ordered = record { few = omega arith; below = λ k h. absurd (not-suc-le-zero h); rising = λ j k h b. absurd (not-suc-le-zero b) };
-      sound = λ e row long bytes left. record {
-        coded = remainder-coded row long bytes (sym left ∙ all_zeros 16 rest n none);
-        close = omega (arith, distance_self row);
-      };
-      complete = λ e. absurd (true_not_false e);
-    }
-  where
-    true_not_false : true ≡ false → ⊥
-    true_not_false e = let z : ◌≡◌ {A = ℕ} 0 1 = cc in omega arith
+nothing_left rest at c none row long bytes left =
+    record { coded = remainder-coded row long bytes (sym left ∙ none); close = omega (arith, distance_self row) }

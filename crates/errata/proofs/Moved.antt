@@ -4,8 +4,9 @@ use mathlib.Core.Path.{◌≡◌, refl, sym, ap, subst, ◌∙◌}
 use mathlib.Core.Logic.{◌≢◌}
 use mathlib.Core.Bool.{Bool, true, false, not}
 use mathlib.Core.List.{List}
+use Rattle.std.proofs.Common.{Some, None}
+use Rattle.std.proofs.lemmas.Option.{none-some, same_Some}
 use Prim.Native.Nat.{ℕ, ◌≤◌, ◌<◌}
-use native.Mathlib.Nat.{not-suc-le-zero}
 use native.Mathlib.Omega.{arith}
 use borrow.Author.Tests.{eqb-true}
 use lib.Dec.{eqb}
@@ -99,48 +100,46 @@ pub record Found (row fixed : List ℕ) (n : ℕ) : Type 0 where
   pub counted : n ≡ distance row fixed
 
 module _ (rest : List ℕ) (long : length rest ≡ 16) (bytes : Bytes rest) where
-  pub errata_ordered : (e : Errata) → e ≡ errata_of rest → Ordered e.n e.at
+  pub errata_ordered : (e : Errata) → Some e ≡ errata_of rest → Ordered e.n e.at
   unfolding errata_of errata_for
-  errata_ordered e q = subst (λ (e : Errata). Ordered e.n e.at) (sym q) (by (repair_of (leaving rest)) refl)
+  errata_ordered e = by (repair_of (leaving rest)) refl
     where
-      by : (a : Repaired) → repair_of (leaving rest) ≡ a → Ordered (errata_for (leaving rest) a).n (errata_for (leaving rest) a).at
-      by (found s) f =
+      by : (a : Repaired) → repair_of (leaving rest) ≡ a → Some e ≡ errata_for (leaving rest) a → Ordered e.n e.at
+      by (found s) f q =
           let near : Near (leaving rest) s = repair-near (leaving rest) s f in
-          ordered (leaving rest) s (leaving-length rest long) near.coded.sized near.close
-      by none f = record { few = omega arith; below = λ k h. absurd (not-suc-le-zero h); rising = λ j k b h. absurd (not-suc-le-zero h) }
+          subst (λ (e : Errata). Ordered e.n e.at) (sym (same_Some _ _ q)) (ordered (leaving rest) s (leaving-length rest long) near.coded.sized near.close)
+      by none f q = absurd (none-some e (sym q))
 
   module _ (row : List ℕ) (lrow : length row ≡ 255) (brow : Bytes row) (left : rest ≡ remainder 239 row) where
     same : remainder 239 (leaving rest) ≡ remainder 239 row
     same = sym (leaving_rest rest long) ∙ left
 
     -- the row that is found, and as many places as it and the row differ in
-    pub errata_found : (e : Errata) → e ≡ errata_of rest → e.fits ≡ true
-        → Found row (mended_by row (entries e.at) (entries e.values) e.n) e.n
+    pub errata_found : (e : Errata) → Some e ≡ errata_of rest → Found row (mended_by row (entries e.at) (entries e.values) e.n) e.n
     unfolding errata_of errata_for
-    errata_found e q =
-        subst (λ (e : Errata). e.fits ≡ true → Found row (mended_by row (entries e.at) (entries e.values) e.n) e.n) (sym q) (by (repair_of (leaving rest)) refl)
+    errata_found e = by (repair_of (leaving rest)) refl
       where
-        by : (a : Repaired) → repair_of (leaving rest) ≡ a → (errata_for (leaving rest) a).fits ≡ true
-            → Found row (mended_by row (entries (errata_for (leaving rest) a).at) (entries (errata_for (leaving rest) a).values) (errata_for (leaving rest) a).n) (errata_for (leaving rest) a).n
-        by (found s) f t =
+        by : (a : Repaired) → repair_of (leaving rest) ≡ a → Some e ≡ errata_for (leaving rest) a → Found row (mended_by row (entries e.at) (entries e.values) e.n) e.n
+        by (found s) f q =
             let r : List ℕ = leaving rest in
             let lr : length r ≡ 255 = leaving-length rest long in
             let br : Bytes r = leaving-bytes rest long bytes in
             let near : Near r s = repair-near r s f in
             let moved = mended_moved (turning r s lr near.coded.sized near.close) row lr near.coded.sized lrow in
-            record {
+            subst (λ (e : Errata). Found row (mended_by row (entries e.at) (entries e.values) e.n) e.n) (sym (same_Some _ _ q))
+            (record {
               answered = repair-found row (add s (add r row)) lrow brow (near_moved r row s lr lrow br brow same near) ∙ ap found (sym moved);
               counted = differing-distance r s lr near.coded.sized ∙ sym (moved_distance r row s lr lrow br brow same near) ∙ ap (distance row) (sym moved);
-            }
-        by none f t = let z : ◌≡◌ {A = ℕ} 0 1 = cc in absurd (omega arith)
+            })
+        by none f q = absurd (none-some e (sym q))
 
-    pub errata_none : (e : Errata) → e ≡ errata_of rest → e.fits ≡ false → repair_of row ≡ none
+    pub errata_none : None ≡ errata_of rest → repair_of row ≡ none
     unfolding errata_of errata_for
-    errata_none e q = subst (λ (e : Errata). e.fits ≡ false → repair_of row ≡ none) (sym q) (by (repair_of (leaving rest)) refl)
+    errata_none = by (repair_of (leaving rest)) refl
       where
-        by : (a : Repaired) → repair_of (leaving rest) ≡ a → (errata_for (leaving rest) a).fits ≡ false → repair_of row ≡ none
-        by (found s) f t = let z : ◌≡◌ {A = ℕ} 0 1 = cc in absurd (omega arith)
-        by none f t =
+        by : (a : Repaired) → repair_of (leaving rest) ≡ a → None ≡ errata_for (leaving rest) a → repair_of row ≡ none
+        by (found s) f q = absurd (none-some _ q)
+        by none f q =
             repair-none row lrow brow
             (λ t near. none-near (leaving rest) (leaving-length rest long) (leaving-bytes rest long bytes) f (add t (add row (leaving rest)))
             (near_moved row (leaving rest) t lrow (leaving-length rest long) brow (leaving-bytes rest long bytes) (sym same) near))

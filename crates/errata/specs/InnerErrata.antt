@@ -1,7 +1,7 @@
 -- Vocabulary of the private functions that find the places of the wrong bytes and what to add there. A place is told by its exponent a: byte 254 - a of a row, whose locator is
 -- α^a. Nobody needs to believe it: no contract of a public call cites it.
 -- Assumes nothing.
-use Rattle.std.specs.Prelude.{◌≡◌, ◌≢◌, Bool, true, false, cond, List, ℕ, zero, suc, ◌+◌, ◌-◌, ◌≤◌, ◌<◌, eqb, length, get_or, set, replicate}
+use Rattle.std.specs.Prelude.{◌≡◌, ◌≢◌, cond, Option, Some, None, List, ℕ, zero, suc, ◌+◌, ◌-◌, ◌≤◌, ◌<◌, eqb, length, get_or, set, replicate}
 use Rattle.ground.specs.Bits.{sum}
 use Rattle.field.specs.Field.{product, expo, power}
 use Rattle.code.specs.Code.{Bytes}
@@ -64,15 +64,14 @@ pub record Solved (at : List ℕ) (n : ℕ) (s c : List ℕ) : Type 0 where
   pub sized : length c ≡ 16
   pub solves : (j : ℕ) → j < n → share_of (entries at) (entries c) n j ≡ get_or s j 0
 
--- r says whether c at the first n places gives all sixteen syndromes s
-pub record Agreeing (s at c : List ℕ) (n : ℕ) (r : Bool) : Type 0 where
-  pub yes : r ≡ true → (j : ℕ) → j < 16 → share_of (entries at) (entries c) n j ≡ get_or s j 0
-  pub no : r ≡ false → ((j : ℕ) → j < 16 → share_of (entries at) (entries c) n j ≡ get_or s j 0) → ⊥
+-- c at the first n places gives all sixteen syndromes s
+abbrev pub Gives : List ℕ → List ℕ → List ℕ → ℕ → Type 0
+Gives s at c n = (j : ℕ) → j < 16 → share_of (entries at) (entries c) n j ≡ get_or s j 0
 
--- r says whether all sixteen are 0
-pub record Nought (s : List ℕ) (r : Bool) : Type 0 where
-  pub yes : r ≡ true → (j : ℕ) → j < 16 → get_or s j 0 ≡ 0
-  pub no : r ≡ false → ((j : ℕ) → j < 16 → get_or s j 0 ≡ 0) → ⊥
+-- values at the first n places that give all sixteen syndromes s; None where no values do
+abbrev pub Solving : List ℕ → List ℕ → ℕ → Option (List ℕ) → Type 0
+Solving s at n (Some c) = Solved at n s c × Gives s at c n
+Solving s at n None = (c : List ℕ) → Gives s at c n → ⊥
 
 -- ---- the row
 
@@ -82,21 +81,23 @@ mended_by row a c zero = row
 mended_by row a c (suc k) =
     set (mended_by row a c k) (254 - a k) (sum (get_or (mended_by row a c k) (254 - a k) 0) (c k))
 
--- the n values c at the places, of a row that leaves this remainder: where they fit, the mended row is a coded row within eight bytes; where they do not, there is none
-pub record Searched (rest : List ℕ) (n : ℕ) (at c : List ℕ) (fits : Bool) : Type 0 where
-  pub ordered : Ordered n at
-  pub sound : fits ≡ true → (row : List ℕ) → length row ≡ 255 → Bytes row → rest ≡ remainder 239 row → Near row (mended_by row (entries at) (entries c) n)
-  pub complete : fits ≡ false → (row : List ℕ) → length row ≡ 255 → Bytes row → rest ≡ remainder 239 row → (s : List ℕ) → Near row s → ⊥
+-- the n values c at the places make each row that leaves this remainder a coded row within eight bytes
+abbrev pub Nearing : List ℕ → ℕ → List ℕ → List ℕ → Type 0
+Nearing rest n at c = (row : List ℕ) → length row ≡ 255 → Bytes row → rest ≡ remainder 239 row → Near row (mended_by row (entries at) (entries c) n)
+
+-- no row that leaves it has one
+abbrev pub Far : List ℕ → Type 0
+Far rest = (row : List ℕ) → length row ≡ 255 → Bytes row → rest ≡ remainder 239 row → (s : List ℕ) → Near row s → ⊥
 
 -- ---- what is kept
 
 -- nothing to add; no abbreviation, since a check would write out its 32 zeros at each step
-unfoldable pub nothing_to : Bool → Errata
-nothing_to b = record { fits = b; n = 0; at = replicate 16 0; values = replicate 16 0 }
+unfoldable pub nothing_added : Errata
+nothing_added = record { n = 0; at = replicate 16 0; values = replicate 16 0 }
 
 -- e, and behind it the value c at the place a
 abbrev pub added : Errata → ℕ → ℕ → Errata
-added e a c = record { fits = e.fits; n = e.n + 1; at = set e.at e.n a; values = set e.values e.n c }
+added e a c = record { n = e.n + 1; at = set e.at e.n a; values = set e.values e.n c }
 
 -- r is that, unless c is 0
 pub record Put (e : Errata) (a c : ℕ) (r : Errata) : Type 0 where
@@ -112,6 +113,5 @@ pub record Listed (e : Errata) : Type 0 where
 
 -- e has those of the first n places whose values are not 0: any row becomes the same
 pub record Kept (at c : List ℕ) (n : ℕ) (e : Errata) : Type 0 where
-  pub fits : e.fits ≡ true
   pub listed : Listed e
   pub same : (row : List ℕ) → mended_by row (entries e.at) (entries e.values) e.n ≡ mended_by row (entries at) (entries c) n

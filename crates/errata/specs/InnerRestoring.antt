@@ -1,6 +1,6 @@
 -- Vocabulary of the private functions that fill given places. Nobody needs to believe it: no contract of a public call cites it.
 -- Assumes nothing.
-use Rattle.std.specs.Prelude.{◌≡◌, true, List, ℕ, ◌≤◌, ◌<◌, length, get_or}
+use Rattle.std.specs.Prelude.{◌≡◌, List, ℕ, ◌≤◌, ◌<◌, length, get_or}
 use Rattle.errata.specs.declared.Errata.{Errata}
 
 -- r has the first n entries of l, and zeros behind them
@@ -11,7 +11,6 @@ pub record Front (n : ℕ) (l r : List ℕ) : Type 0 where
 
 -- e has the values c at the first n places
 pub record Filled (at c : List ℕ) (n : ℕ) (e : Errata) : Type 0 where
-  pub fits : e.fits ≡ true
   pub many : e.n ≡ n
   pub places : Front n at e.at
   pub amounts : Front n c e.values

@@ -1,6 +1,6 @@
 -- Vocabulary of the private functions that work on sixteen bytes in two words. Nobody needs to believe it: no contract of a public call cites it.
 -- Assumes nothing.
-use Rattle.std.specs.Prelude.{◌≡◌, Bool, true, false, List, ℕ, ◌+◌, ◌≤◌, ◌<◌, get_or}
+use Rattle.std.specs.Prelude.{◌≡◌, List, ℕ, ◌+◌, ◌≤◌, ◌<◌, get_or}
 use Rattle.field.specs.Field.{product, power, Inverse}
 use Rattle.ground.specs.Lists.{listed}
 use Rattle.field.specs.declared.Sixteen.{Sixteen}
@@ -10,10 +10,9 @@ use Rattle.field.specs.Words.{entry}
 unfoldable pub list_of : Sixteen → List ℕ
 list_of x = listed (entry x) 16 0
 
--- r says whether all entries of sixteen are 0 that have n behind them
-pub record Emptied (left : Sixteen) (n : ℕ) (r : Bool) : Type 0 where
-  pub yes : r ≡ true → (j : ℕ) → n + j < 16 → entry left j ≡ 0
-  pub no : r ≡ false → ((j : ℕ) → n + j < 16 → entry left j ≡ 0) → ⊥
+-- all entries of sixteen are 0 that have n behind them
+abbrev pub Empty : Sixteen → ℕ → Type 0
+Empty left n = (j : ℕ) → n + j < 16 → entry left j ≡ 0
 
 -- x has the locators of sixteen places
 abbrev pub Located : List ℕ → Sixteen → Type 0

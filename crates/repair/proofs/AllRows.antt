@@ -1,17 +1,16 @@
 -- Rows mended all or none: the row at the front, and those behind it, come to what all come to (`mend_rows` of crate code).
 -- Assumes nothing.
 use mathlib.Core.Path.{◌≡◌, refl, sym, ap, ap₂, subst, ◌∙◌}
-use mathlib.Core.Bool.{true, false}
+use Rattle.std.proofs.Common.{Some, None}
 use mathlib.Core.List.{List, [], ◌∷◌, ◌++◌, append-nil}
 use Prim.Native.Nat.{ℕ, zero, suc, ◌+◌, ◌-◌, ◌*◌, ◌/◌, ◌%◌, ◌≤◌, ◌<◌}
 use native.Mathlib.Nat.{min-eq_right, lt_of_lt_of_le, le_of_eq}
 use native.Mathlib.Omega.{arith}
 use borrow.Author.Tests.{eq-eqb, ne_eqb, le-leb, lt-leb, lt-ltb, le-ltb}
 use lib.ListN.{length, get_or, take, drop, set, length-append, length-drop, take-append-drop, get_or-append}
-use lib.Seq.{sets, set-append_left, length-take-le, take_all, drop-drop}
+use lib.Seq.{set-append_left, length-take-le, take_all, drop-drop}
 use borrow.Rule.Slice.PartMut.{put_mid}
 use Rattle.ground.specs.Bits.{sum}
-use Rattle.ground.proofs.Writing.{sets-front, sets-all}
 use Rattle.refusals.specs.declared.Refusal.{Refusal}
 use Rattle.refusals.specs.declared.Refusal.TheVariants.{Short, Repair}
 use Rattle.code.specs.Code.{Bytes, distance}
@@ -19,7 +18,6 @@ use Rattle.code.specs.Search.{Repaired, remainder}
 use Rattle.code.specs.Search.Repaired.{found, none}
 use Rattle.code.specs.Repair.{repair_of}
 use Rattle.code.specs.Mend.{Mended as Whole, whole, broken, behind, mend_rows}
-use Rattle.code.proofs.Lists.{zeros, length_zeros}
 use Rattle.code.proofs.Division.{length-remainder, remainder-bytes}
 use Rattle.code.proofs.Mend.{mend_first, mend_few, none_left, bytes_split}
 use Rattle.errata.specs.declared.Errata.{Errata}
@@ -120,20 +118,16 @@ pub not_added : (r : ℕ) (b at c : List ℕ) (n : ℕ) → r < 15 → Finished 
 not_added r b at c n h = record { kept = λ l. (refl, refl); added = λ l. absurd (omega arith) }
 
 -- the row at the front, held by value, mended and put back
-pub put_back : (r : ℕ) (b at c : List ℕ) (n : ℕ) (fixed out : List ℕ) → 15 ≤ r → 255 ≤ length b → fixed ≡ mended_by (take 255 b) (entries at) (entries c) n
-    → out ≡ sets b 0 fixed → Finished r b at c n (r + n) out
-put_back r b at c n fixed out l h f g =
-    let k : length (take 255 b) ≡ 255 = length-take-le 255 b h in
-    let m : List ℕ = mended_by (take 255 b) (entries at) (entries c) n in
-    let s : length m ≡ 255 = mended-length (take 255 b) k (entries at) (entries c) n in
+pub put_back : (r : ℕ) (b at c : List ℕ) (n : ℕ) (fixed : List ℕ) → 15 ≤ r → 255 ≤ length b → fixed ≡ mended_by (take 255 b) (entries at) (entries c) n
+    → Finished r b at c n (r + n) (fixed ++ drop 255 b)
+put_back r b at c n fixed l h f =
     record {
       kept = λ x. absurd (omega arith);
       added =
           λ x. (
             refl,
-            g ∙ ap (sets b 0) f
-                ∙ sets-front b m (omega arith) ∙ ap (λ (i : ℕ). m ++ drop i b) s
-                ∙ sym (mended-front (take 255 b) (drop 255 b) (entries at) (entries c) n k)
+            ap (λ (l : List ℕ). l ++ drop 255 b) f
+                ∙ sym (mended-front (take 255 b) (drop 255 b) (entries at) (entries c) n (length-take-le 255 b h))
                 ∙ ap (λ (l : List ℕ). mended_by l (entries at) (entries c) n) (take-append-drop 255 b),
           );
     }
@@ -147,22 +141,6 @@ pub row-known : (b : List ℕ) (i : ℕ) (rests : List ℕ) → Resting b i rest
 row-known b i rests w h =
     let e : (i + 0) * 16 ≡ i * 16 = omega arith in
     ap (λ (k : ℕ). take 16 (drop k rests)) (sym e) ∙ w.left 0 (omega arith)
-
-pub ordered-few : {n : ℕ} {at : List ℕ} → Ordered n at → n ≤ 16
-ordered-few o = omega (arith, o.few)
-
--- the first row, copied over as many zeros
-pub copied_row : (rows : List ℕ) {out : List ℕ} → 255 ≤ length rows → out ≡ sets (zeros 255) 0 (take 255 rows) → out ≡ take 255 rows
-copied_row rows {out} h e = e ∙ sets-all (zeros 255) (take 255 rows) (length-take-le 255 rows h ∙ sym (length_zeros 255))
-
--- sixteen bytes of what all rows leave, copied over as many zeros
-pub copied_rest : (rests : List ℕ) (i : ℕ) {out : List ℕ} → length rests ≡ 240 → i < 15 → out ≡ sets (zeros 16) 0 (take (i * 16 + 16 - i * 16) (drop (i * 16) rests))
-    → out ≡ take 16 (drop (i * 16) rests)
-copied_rest rests i {out} n h e =
-    let m : i * 16 + 16 - i * 16 ≡ 16 = omega arith in
-    let part : List ℕ = take 16 (drop (i * 16) rests) in
-    let long : length part ≡ 16 = length-take-le 16 (drop (i * 16) rests) (omega (arith, length-drop (i * 16) rests)) in
-    e ∙ ap (λ (k : ℕ). sets (zeros 16) 0 (take k (drop (i * 16) rests))) m ∙ sets-all (zeros 16) part (long ∙ sym (length_zeros 16))
 
 pub rows_behind : (b : List ℕ) (i : ℕ) (rests : List ℕ) → Resting b i rests → 255 ≤ length b → Resting (drop 255 b) (i + 1) rests
 rows_behind b i rests w h =
@@ -192,15 +170,15 @@ module _ (b : List ℕ) (some : 255 ≤ length b) (bytes : Bytes b) (rest : List
   rest_bytes : Bytes rest
   rest_bytes = subst Bytes (sym left) (remainder-bytes 239 (take 255 b) row-bytes)
 
-  module _ (e : Errata) (told : e ≡ errata_of rest) where
+  module _ (e : Errata) (told : Some e ≡ errata_of rest) where
     pub row-ordered : Ordered e.n e.at
     row-ordered = errata_ordered rest rest_long rest_bytes e told
 
-    pub row-found : e.fits ≡ true → Found (take 255 b) (mended_by (take 255 b) (entries e.at) (entries e.values) e.n) e.n
+    pub row-found : Found (take 255 b) (mended_by (take 255 b) (entries e.at) (entries e.values) e.n) e.n
     row-found = errata_found rest rest_long rest_bytes (take 255 b) long row-bytes left e told
 
-    pub row-none : e.fits ≡ false → repair_of (take 255 b) ≡ none
-    row-none = errata_none rest rest_long rest_bytes (take 255 b) long row-bytes left e told
+  pub row-none : None ≡ errata_of rest → repair_of (take 255 b) ≡ none
+  row-none = errata_none rest rest_long rest_bytes (take 255 b) long row-bytes left
 
 -- ---- how much is counted: at most eight bytes in each row
 

@@ -2,42 +2,34 @@
 ghost use Rattle.std.specs.Prelude.{◌≡◌, ◌*◌, ◌/◌, ◌≤◌, ◌<◌, length, take, drop};
 ghost use Rattle.code.specs.Mend.{mend_rows};
 ghost use Rattle.repair.specs.InnerRows.{Resting, Finished, Ends};
-ghost use Rattle.errata.specs.InnerErrata.{Ordered, mended_by, entries};
+ghost use Rattle.errata.specs.InnerErrata.{mended_by, entries};
 
 use errata::Errata;
 
 // What row i leaves.
 fn rest_in(rests: &[u8; 240], i: usize) -> [u8; 16]
-    requires { (i < 15) × (length rests.now ≡ 240) }
+    requires { i < 15 }
     ensures { result ≡ take 16 (drop (i * 16) rests.now) }
 {
-    let all: &[u8] = rests;
-    let at = i * 16;
     let mut rest = [0u8; 16];
-    slices::copy_in(&mut rest, 0, &all[at..at + 16]);
+    rest.copy_from_slice(&rests[i * 16..i * 16 + 16]);
     rest
 }
 
 // The row at the front, held by value, with the values added at the places.
-fn corrected(rows: &[u8], e: Errata) -> [u8; 255]
-    requires { Ordered e.n e.at × (255 ≤ length rows.now) }
-    ensures { result ≡ mended_by (take 255 rows.now) (entries e.at) (entries e.values) e.n }
+fn corrected(rows: &[u8], e: &Errata) -> [u8; 255]
+    requires { 255 ≤ length rows.now }
+    ensures { result ≡ mended_by (take 255 rows.now) (entries e.now.at) (entries e.now.values) e.now.n }
 {
     let mut row = [0u8; 255];
-    slices::copy_in(&mut row, 0, &rows[0..255]);
-    let mut k: usize = 0;
-    while k < e.n {
-        let i = 254 - words::index(e.at[k]);
-        row[i] = row[i] ^ e.values[k];
-        k += 1;
-    }
-    row
+    row.copy_from_slice(&rows[..255]);
+    e.added_to(row)
 }
 
 // Where the rows behind were mended, none of them broken, corrects the row at the front, and counts its bytes to theirs. A row with nothing to add is right as it stands.
-fn finish(ended: usize, rows: &mut [u8], e: Errata) -> usize
-    requires { Ordered e.n e.at × (255 ≤ length rows.old) × (ended ≤ 127) }
-    ensures { Finished ended rows.old e.at e.values e.n result rows.new }
+fn finish(ended: usize, rows: &mut [u8], e: &Errata) -> usize
+    requires { (e.now.n ≤ 8) × (255 ≤ length rows.old) × (ended ≤ 127) }
+    ensures { Finished ended rows.old e.now.at e.now.values e.now.n result rows.new }
 {
     if ended < 15 {
         return ended;
@@ -46,7 +38,7 @@ fn finish(ended: usize, rows: &mut [u8], e: Errata) -> usize
         return ended;
     }
     let row = corrected(rows, e);
-    slices::copy_in(rows, 0, &row);
+    rows[..255].copy_from_slice(&row);
     ended + e.n
 }
 
@@ -59,10 +51,9 @@ pub(crate) fn mend_from(rows: &mut [u8], i: usize, rests: &[u8; 240]) -> usize
     if rows.len() == 0 {
         return 15;
     }
-    let e = solving::find(rest_in(rests, i));
-    if !e.fits {
+    let Some(e) = solving::find(rest_in(rests, i)) else {
         return i;
-    }
+    };
     let ended = mend_from(&mut rows[255..], i + 1, rests);
-    finish(ended, rows, e)
+    finish(ended, rows, &e)
 }

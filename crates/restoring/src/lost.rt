@@ -29,7 +29,10 @@ fn lost_values(row: [u8; 255], at: [u8; 16], n: usize) -> [u8; 16]
         values[0] = sum_of(&row);
         return values;
     }
-    solving::fill(row, at, n).values
+    match solving::fill(row, at, n) {
+        Some(e) => e.values,
+        None => [0; 16],
+    }
 }
 
 // Puts the byte `v` of the place `a` into its column, where this holds information and stands below `n`.

@@ -11,6 +11,7 @@ pub mod Encoding
 pub mod Filling
 pub mod Laying
 pub mod Terms
+pub mod Errata
 pub mod Solving
 pub mod Repair
 pub mod Single

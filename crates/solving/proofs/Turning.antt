@@ -3,7 +3,7 @@
 -- Assumes nothing.
 use mathlib.Core.Path.{◌≡◌, sym, ap, ap₂, subst, ◌∙◌}
 use mathlib.Core.Logic.{⊎_elim}
-use mathlib.Core.Bool.{Bool, cond}
+use mathlib.Core.Bool.{cond}
 use mathlib.Core.List.{List}
 use Prim.Native.Nat.{ℕ, suc, ◌+◌, ◌≤◌, ◌<◌}
 use native.Mathlib.Numerals.{add-one}
@@ -20,11 +20,11 @@ use Rattle.field.specs.Words.{entry, Products}
 use Rattle.field.proofs.Laws.{product_one}
 use Rattle.field.proofs.InWords.{entry_small}
 use Rattle.field.proofs.Raising.{one_product}
-use Rattle.errata.specs.InnerErrata.{entries, Placed, shifts_of, gathered_of, gaps_of, Solved, Agreeing}
+use Rattle.errata.specs.InnerErrata.{entries, Placed, shifts_of, gathered_of, gaps_of, Solved, Gives}
 use Rattle.errata.proofs.Gathered.{gathered-solves}
 use Rattle.errata.proofs.Tails.{tail_agrees, agrees_tail}
 use Rattle.errata.proofs.Entries.{list_length, list_at, list-byte}
-use Rattle.errata.specs.InnerValues.{list_of, Located, Emptied, Divided}
+use Rattle.errata.specs.InnerValues.{list_of, Located, Empty, Divided}
 
 -- after j turns, of the syndromes s
 pub record Turning (at : List ℕ) (s left gathered gaps : Sixteen) (j : ℕ) : Type 0 where
@@ -82,7 +82,11 @@ module _ {at : List ℕ} {s left gathered gaps : Sixteen} {j : ℕ} (was : Turni
 pub turning_end : {at : List ℕ} {s left gathered gaps : Sixteen} {j n : ℕ} → Turning at s left gathered gaps j → j ≡ n → Turning at s left gathered gaps n
 turning_end {at} {s} {left} {gathered} {gaps} was e = subst (Turning at s left gathered gaps) e was
 
--- all turns made
+-- all turns made: where values give all syndromes, nothing is left
+pub turned_empty : {at : List ℕ} {s left gathered gaps : Sixteen} {n : ℕ} → Turning at s left gathered gaps n → (c : List ℕ) → Gives (list_of s) at c n → Empty left n
+turned_empty {at} {s} {left} {gathered} {gaps} {n} was c gives j h = was.shifted j h ∙ agrees_tail at n (list_of s) c gives j h
+
+-- what was gathered over the gaps are the values
 module _ {at : List ℕ} {s left gathered gaps : Sixteen} {n : ℕ} (was : Turning at s left gathered gaps n) (placed : Placed n at)
     {values : Sixteen} (divided : Divided gathered gaps n values) where
   abbrev given : List ℕ
@@ -117,9 +121,6 @@ module _ {at : List ℕ} {s left gathered gaps : Sixteen} {n : ℕ} (was : Turni
       gathered-solves at n placed given (list-byte s) found (list_length values)
       (λ k h. ⊎_elim (λ (l : n < 2). one (omega arith) k h) (λ (l : 2 ≤ n). many l k (omega (arith, placed.few))) (lt_or_ge n 2))
 
-  pub turned-agrees : (r : Bool) → Emptied left n r → Agreeing given at found n r
-  turned-agrees r emptied =
-      record {
-        yes = λ e. tail_agrees at n given found turned_solved (λ j h. sym (was.shifted j h) ∙ emptied.yes e j h);
-        no = λ e all. emptied.no e (λ j h. was.shifted j h ∙ agrees_tail at n given found all j h);
-      }
+  -- where nothing is left they give the others
+  pub turned_gives : Empty left n → Gives given at found n
+  turned_gives empty = tail_agrees at n given found turned_solved (λ j h. sym (was.shifted j h) ∙ empty j h)

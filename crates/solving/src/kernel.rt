@@ -34,9 +34,7 @@ fn mix(v: Vector, q: Vector, p: u8, d: u8) -> Vector
     let mut high: u64 = 0;
     let mut first: u64 = 0;
     let mut last: u64 = 0;
-    let mut i: u64 = 8;
-    while 0 < i {
-        i -= 1;
+    for i in (0..8u64).rev() {
         let c = (x >> i) % 2;
         let e = (y >> i) % 2;
         low = add_up(low, v.low, q.low, c, e);
@@ -69,10 +67,8 @@ fn entries(v: Vector) -> [u8; 9]
     ensures { result ≡ nine v.low v.high }
 {
     let mut out = [0u8; 9];
-    let mut k: usize = 0;
-    while k < 8 {
+    for k in 0..8 {
         out[k] = words::byte(v.low, k as u64);
-        k += 1;
     }
     out[8] = words::byte(v.high, 0);
     out
@@ -101,14 +97,11 @@ pub(crate) fn null_vector(s: Sixteen) -> [u8; 9]
         } else if p == 0 {
             kept[i] = v;
             pivots[i] = d;
-            let next = shift(v);
-            v = next;
-            i = if i == 0 { 0 } else { i - 1 };
+            v = shift(v);
+            i = i.saturating_sub(1);
             l += 1;
         } else {
-            let q = kept[i];
-            let next = mix(v, q, p, d);
-            v = next;
+            v = mix(v, kept[i], p, d);
             i += 1;
         }
     }

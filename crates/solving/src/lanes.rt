@@ -67,10 +67,8 @@ pub(crate) fn bytes(x: Sixteen) -> [u8; 16]
     ensures { result ≡ list_of x }
 {
     let mut out = [0u8; 16];
-    let mut k: usize = 0;
-    while k < 16 {
-        out[k] = at(x, k);
-        k += 1;
+    for (k, b) in out.iter_mut().enumerate() {
+        *b = at(x, k);
     }
     out
 }

@@ -4,7 +4,7 @@
 
 ghost use Rattle.std.specs.Prelude.{◌≡◌, ◌<◌};
 ghost use Rattle.errata.specs.Errata.{errata_of};
-ghost use Rattle.errata.specs.InnerErrata.{nothing_to, Ordered, Put, Kept, Nought};
+ghost use Rattle.errata.specs.InnerErrata.{nothing_added, Ordered, Put, Kept};
 
 use errata::Errata;
 
@@ -15,30 +15,25 @@ mod values;
 
 pub use losses::fill;
 
-// What is to be added to any row that leaves `rest`. To one that leaves nothing, which is coded, nothing is.
-pub fn find(rest: [u8; 16]) -> Errata
+// What is to be added to any row that leaves `rest`; None where it has no coded row within reach. To one that leaves nothing, which is coded, nothing is.
+pub fn find(rest: [u8; 16]) -> Option<Errata>
     ensures { result ≡ errata_of rest }
 {
-    if is_nought(rest) {
-        return nothing(true);
+    if rest == [0; 16] {
+        return Some(nothing());
     }
     let s = terms::syndromes(rest);
     let places = roots::find(kernel::null_vector(s));
     let at = places.at;
-    let solution = values::solve(s, at, places.n);
-    if !solution.fits {
-        return nothing(false);
-    }
-    let values = solution.values;
-    keep(at, values, places.n)
+    let values = values::solve(s, at, places.n)?;
+    Some(keep(at, values, places.n))
 }
 
-// Nothing to add, whether or not that is right.
-fn nothing(fits: bool) -> Errata
-    ensures { result ≡ nothing_to fits }
+// Nothing to add.
+fn nothing() -> Errata
+    ensures { result ≡ nothing_added }
 {
     Errata {
-        fits,
         n: 0,
         at: [0u8; 16],
         values: [0u8; 16],
@@ -50,12 +45,9 @@ fn keep(at: [u8; 16], values: [u8; 16], n: usize) -> Errata
     requires { Ordered n at }
     ensures { Kept at values n result }
 {
-    let mut out = nothing(true);
-    let mut k: usize = 0;
-    while k < n {
-        let next = put(out, at[k], values[k]);
-        out = next;
-        k += 1;
+    let mut out = nothing();
+    for k in 0..n {
+        out = put(out, at[k], values[k]);
     }
     out
 }
@@ -74,18 +66,4 @@ fn put(e: Errata, a: u8, c: u8) -> Errata
     out.values[i] = c;
     out.n = i + 1;
     out
-}
-
-// Whether all sixteen are 0.
-pub(crate) fn is_nought(s: [u8; 16]) -> bool
-    ensures { Nought s result }
-{
-    let mut j: usize = 0;
-    while j < 16 {
-        if s[j] != 0 {
-            return false;
-        }
-        j += 1;
-    }
-    true
 }

@@ -7,9 +7,9 @@ ghost use Rattle.errata.specs.InnerRestoring.{Front, Filled};
 use crate::values;
 use errata::Errata;
 
-// What is to be added at the first n of the places `at` to a row, whatever bytes stand there; it may be 0. Where no coded row has the other bytes, or the places are
-// more than sixteen or not in decreasing order from 254 on, nothing fits. At sixteen places something always does.
-pub fn fill(row: [u8; 255], at: [u8; 16], n: usize) -> Errata
+// What is to be added at the first n of the places `at` to a row, whatever bytes stand there; it may be 0. None where no coded row has the other bytes, or the places are
+// more than sixteen or not in decreasing order from 254 on. At sixteen places something always fits.
+pub fn fill(row: [u8; 255], at: [u8; 16], n: usize) -> Option<Errata>
     ensures { result ≡ filling_of (remainder 239 row) at n }
 {
     fill_rest(rest_of(row), at, n)
@@ -19,28 +19,23 @@ pub fn fill(row: [u8; 255], at: [u8; 16], n: usize) -> Errata
 fn rest_of(row: [u8; 255]) -> [u8; 16]
     ensures { result ≡ remainder 239 row }
 {
-    let rests = encoding::remainders(&row);
     let mut rest = [0u8; 16];
-    slices::copy_in(&mut rest, 0, &rests[0..16]);
+    rest.copy_from_slice(&encoding::remainders(&row)[..16]);
     rest
 }
 
 // The same as `fill` for every row that leaves `rest`.
-fn fill_rest(rest: [u8; 16], at: [u8; 16], n: usize) -> Errata
+fn fill_rest(rest: [u8; 16], at: [u8; 16], n: usize) -> Option<Errata>
     ensures { result ≡ filling_of rest at n }
 {
     if !falling(at, n) {
-        return crate::nothing(false);
+        return None;
     }
-    if crate::is_nought(rest) {
-        return filled(at, rest, n);
+    if rest == [0; 16] {
+        return Some(filled(at, rest, n));
     }
-    let solution = values::solve(terms::syndromes(rest), at, n);
-    if solution.fits {
-        let values = solution.values;
-        return filled(at, values, n);
-    }
-    crate::nothing(false)
+    let values = values::solve(terms::syndromes(rest), at, n)?;
+    Some(filled(at, values, n))
 }
 
 // Whether the first n are at most sixteen places in decreasing order.
@@ -51,14 +46,11 @@ fn falling(at: [u8; 16], n: usize) -> bool
         return false;
     }
     let mut last: u8 = 255;
-    let mut k: usize = 0;
-    while k < n {
-        let a = at[k];
-        if last <= a {
+    for a in &at[..n] {
+        if last <= *a {
             return false;
         }
-        last = a;
-        k += 1;
+        last = *a;
     }
     true
 }
@@ -69,7 +61,6 @@ fn filled(at: [u8; 16], values: [u8; 16], n: usize) -> Errata
     ensures { Filled at values n result }
 {
     Errata {
-        fits: true,
         n,
         at: front(at, n),
         values: front(values, n),
@@ -81,11 +72,7 @@ fn front(l: [u8; 16], n: usize) -> [u8; 16]
     requires { n ≤ 16 }
     ensures { Front n l result }
 {
-    let mut out = l;
-    let mut k = n;
-    while k < 16 {
-        out[k] = 0;
-        k += 1;
-    }
+    let mut out = [0u8; 16];
+    out[..n].copy_from_slice(&l[..n]);
     out
 }

@@ -1,7 +1,7 @@
 // The rows of a place in column order, judged one by one: document 02, R-8, refusals 31, 32 and 24. A row is restored where something of it is lost, and nothing is kept
 // of it. Private to the crate.
 ghost use Rattle.std.specs.Prelude.{◌≡◌, ◌-◌, ◌*◌, ◌≤◌, ◌<◌, ◌^◌};
-ghost use Rattle.errata.specs.InnerErrata.{entries, mended_by, Placed};
+ghost use Rattle.errata.specs.InnerErrata.{entries, mended_by};
 ghost use Rattle.layout.specs.Spread.{row_start};
 ghost use Rattle.contents.specs.Contents.{bytes_at, contents};
 ghost use Rattle.columns.specs.Handing.{all_zero};
@@ -19,21 +19,6 @@ pub(crate) struct Judged {
     pub lacks: u32,
     pub coded: bool,
     pub clear: bool,
-}
-
-// The row with the values added at the places.
-fn restored(row: [u8; 255], e: Errata) -> [u8; 255]
-    requires { Placed e.n e.at }
-    ensures { result ≡ mended_by row (entries e.at) (entries e.values) e.n }
-{
-    let mut out = row;
-    let mut k: usize = 0;
-    while k < e.n {
-        let i = 254 - words::index(e.at[k]);
-        out[i] = out[i] ^ e.values[k];
-        k += 1;
-    }
-    out
 }
 
 // How many information bytes of row `q` stand in a file of `n` bytes.
@@ -67,15 +52,15 @@ fn is_zero(row: [u8; 255], from: usize) -> bool
 }
 
 // Whether row `q`, once it is restored, holds 0 wherever it reaches beyond a file of `n` bytes. Few rows do.
-fn row_ends(row: [u8; 255], e: Errata, m: usize, q: usize, n: usize) -> bool
-    requires { Placed e.n e.at × (0 < m) × (m ≤ 255) × (q * 255 < 2 ^ 63) }
-    ensures { result ≡ all_zero (beyond_in m n q (mended_by row (entries e.at) (entries e.values) e.n)) }
+fn row_ends(row: [u8; 255], e: &Errata, m: usize, q: usize, n: usize) -> bool
+    requires { (0 < m) × (m ≤ 255) × (q * 255 < 2 ^ 63) }
+    ensures { result ≡ all_zero (beyond_in m n q (mended_by row (entries e.now.at) (entries e.now.values) e.now.n)) }
 {
     let k = columns_within(m, q, n);
     if k == 239 {
         return true;
     }
-    is_zero(restored(row, e), k)
+    is_zero(e.added_to(row), k)
 }
 
 // What is wrong with row `q`: 1 where it lacks more than sixteen bytes, 2 where its known bytes fit no coded row, 3 where it is not 0 beyond the file's end; 0 where
@@ -91,11 +76,10 @@ fn fault_of(p: Place, store: &[u8], n: usize, q: u32) -> u8
     }
     let row = came.row;
     let at = came.at;
-    let e = solving::fill(row, at, missing);
-    if !e.fits {
+    let Some(e) = solving::fill(row, at, missing) else {
         return 2;
-    }
-    if !row_ends(row, e, p.rows as usize, q as usize, n) {
+    };
+    if !row_ends(row, &e, p.rows as usize, q as usize, n) {
         return 3;
     }
     0

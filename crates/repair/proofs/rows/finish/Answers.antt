@@ -1,31 +1,24 @@
 -- `rows::finish` corrects the row at the front, held by value, where no row behind is broken.
 -- Assumes nothing.
-use native.Mathlib.Omega.{arith}
-use Rattle.repair.proofs.AllRows.{not_added, nothing-added, put_back}
+use mathlib.Core.Path.{ap, sym, ◌∙◌}
+use lib.ListN.{length}
+use lib.Seq.{length-take-le}
+use Rattle.errata.specs.InnerErrata.{entries}
+use Rattle.errata.proofs.Mending.{mended-length}
+use Rattle.repair.proofs.AllRows.{nothing-added, put_back}
 use Rattle.repair.proofs.rows.finish.Goals as goal
-
-pub returns-then-ended-lt15 : goal.returns-then-ended-lt15
-returns-then-ended-lt15 c = not_added _ _ _ _ _ c.if-ended-lt15.true
 
 pub returns-then-e-eq0 : goal.returns-then-e-eq0
 returns-then-e-eq0 c = nothing-added _ _ _ _ _ c.if-e-eq0.true
 
-pub corrected-row-requires : goal.corrected-row-requires
-corrected-row-requires c = let pre = c.requires in (pre.0, pre.1)
-
-pub slice_bounds-copy_in-end : goal.slice_bounds-copy_in-end
-slice_bounds-copy_in-end c = omega arith
-
-pub overflow_add-result : goal.overflow_add-result
-overflow_add-result c =
-    let pre = c.requires in
-    record { fits = omega (arith, pre.0.few, pre.2) }
-
-pub shape_of-rows : goal.shape_of-rows
-shape_of-rows c = omega arith
+pub copy_from_slice-requires : goal.copy_from_slice-requires
+copy_from_slice-requires c =
+    let e = c.args.e.now in
+    let whole = length-take-le 255 c.args.rows.now c.requires.1 in
+    whole ∙ sym (ap length c.corrected-row.ensures ∙ mended-length _ whole (entries e.at) (entries e.values) e.n)
 
 pub returns : goal.returns
 returns c =
-    let e = c.args.e in
-    put_back c.args.ended c.args.rows.now e.at e.values e.n c.corrected-row.result c.copy_in.new.store
-    c.if-ended-lt15.false c.requires.1 c.corrected-row.ensures c.copy_in.ensures
+    let e = c.args.e.now in
+    put_back c.args.ended c.args.rows.now e.at e.values e.n c.copy_from_slice.new.self
+    c.if-ended-lt15.false c.requires.1 (c.copy_from_slice.ensures.after ∙ c.corrected-row.ensures)

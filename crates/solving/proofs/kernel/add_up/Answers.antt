@@ -1,14 +1,8 @@
 -- `kernel::add_up`: a bit times the word of ones is a mask, and no byte meets another (`added_up`).
 -- Assumes nothing.
 use native.Mathlib.Omega.{arith}
-use Rattle.errata.proofs.Blending.{added_up, mask_fits}
+use Rattle.errata.proofs.Blending.{added_up}
 use Rattle.solving.proofs.kernel.add_up.Goals as goal
-
-pub overflow_mul-result : goal.overflow_mul-result
-overflow_mul-result c = mask_fits c.requires.0
-
-pub overflow_mul-result-2 : goal.overflow_mul-result-2
-overflow_mul-result-2 c = mask_fits c.requires.1
 
 pub returns : goal.returns
 returns c = added_up _ _ _ _ _ _ c.requires.0 c.requires.1 (omega arith) (omega arith) c.doubles.ensures

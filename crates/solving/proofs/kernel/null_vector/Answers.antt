@@ -1,86 +1,29 @@
 -- `kernel::null_vector` keeps each vector at a run of its own, which does not annihilate it; there are eight runs, so that one of nine passes them all. Each turn a vector
 -- goes one run on, or one vector more is kept and the next begins one run before.
 -- Assumes nothing.
-use mathlib.Core.Path.{◌≡◌, refl, ◌∙◌}
-use Prim.Native.Nat.{ℕ, ◌-◌, ◌<◌}
+use mathlib.Core.Path.{refl}
+use Prim.Native.Nat.{◌<◌}
 use native.Mathlib.Omega.{arith}
-use Rattle.solving.proofs.Turns.{keeping_start, keeping_skip, keeping_more, keeping_mixed, keeping_end, few}
+use Rattle.solving.proofs.Turns.{keeping_start, keeping_skip, keeping_more, keeping_mixed, keeping_end}
 use Rattle.errata.specs.InnerValues.{list_of}
-use Rattle.solving.proofs.kernel.null_vector.Goals.{then-i-eq0, else-i-eq0}
 use Rattle.solving.proofs.kernel.null_vector.Goals as goal
 
 pub loop-i-init : goal.loop-i-init
 unfolding list_of
 loop-i-init c = keeping_start _ (omega arith) (omega arith)
 
-pub bounds-pivots-i : goal.bounds-pivots-i
-bounds-pivots-i c = omega arith
-
-pub overflow_add-i : goal.overflow_add-i
-overflow_add-i c = omega arith
-
-pub loop-i-smaller-then-d-eq0 : goal.loop-i-smaller-then-d-eq0
-loop-i-smaller-then-d-eq0 c = omega arith
-
 pub loop-i-preserved-then-d-eq0 : goal.loop-i-preserved-then-d-eq0
 loop-i-preserved-then-d-eq0 c = keeping_skip c.loop-i.invariant (omega arith) c.byte-d.ensures c.if-d-eq0.true
 
-pub offset_bounds-kept-i : goal.offset_bounds-kept-i
-offset_bounds-kept-i c = omega arith
-
-pub bounds-kept-i : goal.bounds-kept-i
-bounds-kept-i c = omega arith
-
-pub bounds-pivots-i-then-p-eq0 : goal.bounds-pivots-i-then-p-eq0
-bounds-pivots-i-then-p-eq0 c = omega arith
-
-pub overflow_sub-i : goal.overflow_sub-i
-overflow_sub-i c = omega arith
-
-pub overflow_add-l : goal.overflow_add-l
-overflow_add-l c = omega (arith, few c.loop-i.invariant)
-
-pub loop-i-smaller-then-p-eq0 : goal.loop-i-smaller-then-p-eq0
-loop-i-smaller-then-p-eq0 c =
-    let back : c.if-i-eq0.i ≡ c.loop-i.i - 1 = let i : ℕ = c.loop-i.i in
-    elim c.if-i-eq0.branch [
-      | then-i-eq0 w ↦
-          let z : i ≡ 0 = w.if-i-eq0.true in
-          let e : ◌≡◌ {A = ℕ} 0 (i - 1) = omega arith in
-          w.i-is ∙ e
-      | else-i-eq0 w ↦ w.i-is
-    ] in
-    omega (arith, few c.loop-i.invariant, back)
-
 pub loop-i-preserved-then-p-eq0 : goal.loop-i-preserved-then-p-eq0
 loop-i-preserved-then-p-eq0 c =
-    let back : c.if-i-eq0.i ≡ c.loop-i.i - 1 = let i : ℕ = c.loop-i.i in
-    elim c.if-i-eq0.branch [
-      | then-i-eq0 w ↦
-          let z : i ≡ 0 = w.if-i-eq0.true in
-          let e : ◌≡◌ {A = ℕ} 0 (i - 1) = omega arith in
-          w.i-is ∙ e
-      | else-i-eq0 w ↦ w.i-is
-    ] in
     let turn : c.loop-i.i < 8 = omega arith in
-    keeping_more c.loop-i.invariant turn c.byte-d.ensures refl c.if-d-eq0.false c.if-p-eq0.true c.shift-next.ensures back
-
-pub offset_bounds-kept-i-else-p-eq0 : goal.offset_bounds-kept-i-else-p-eq0
-offset_bounds-kept-i-else-p-eq0 c = omega arith
-
-pub bounds-kept-i-else-p-eq0 : goal.bounds-kept-i-else-p-eq0
-bounds-kept-i-else-p-eq0 c = omega arith
-
-pub overflow_add-i-else-p-eq0 : goal.overflow_add-i-else-p-eq0
-overflow_add-i-else-p-eq0 c = omega arith
-
-pub loop-i-smaller : goal.loop-i-smaller
-loop-i-smaller c = omega arith
+    keeping_more c.loop-i.invariant turn c.byte-d.ensures refl c.if-d-eq0.false c.if-p-eq0.true c.shift-v.ensures c.saturating_sub-i.ensures
 
 pub loop-i-preserved : goal.loop-i-preserved
 loop-i-preserved c =
     let turn : c.loop-i.i < 8 = omega arith in
-    keeping_mixed c.loop-i.invariant turn c.byte-d.ensures c.if-p-eq0.false c.mix-next.ensures
+    keeping_mixed c.loop-i.invariant turn c.byte-d.ensures c.if-p-eq0.false c.mix-v.ensures
 
 pub returns : goal.returns
 unfolding list_of

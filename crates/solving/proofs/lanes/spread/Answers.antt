@@ -1,12 +1,8 @@
 -- `lanes::spread`: a byte times 0x01 at each byte of a word stands at each of them.
 -- Assumes nothing.
 use mathlib.Core.Path.{◌∙◌}
-use native.Mathlib.Omega.{arith}
 use Rattle.errata.proofs.Entries.{entry_each}
 use Rattle.solving.proofs.lanes.spread.Goals as goal
-
-pub overflow_mul-w : goal.overflow_mul-w
-overflow_mul-w c = omega arith
 
 pub returns : goal.returns
 returns c = λ k h. entry_each c.wide-w.result k c.wide-w.ensures.1 h ∙ c.wide-w.ensures.0

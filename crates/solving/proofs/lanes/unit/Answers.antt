@@ -1,23 +1,10 @@
 -- `lanes::unit` sets one bit of one of the words; which byte it stands in is computed.
 -- Assumes nothing.
-use native.Mathlib.Omega.{arith}
 use Rattle.errata.proofs.Entries.{entry_unit_low, entry_unit_high}
 use Rattle.solving.proofs.lanes.unit.Goals as goal
 
-pub overflow_mul-result : goal.overflow_mul-result
-overflow_mul-result c = omega arith
-
-pub overflow_shl-result : goal.overflow_shl-result
-overflow_shl-result c = omega arith
-
 pub returns-then-j-lt8 : goal.returns-then-j-lt8
 returns-then-j-lt8 c = λ k h. entry_unit_low _ k c.if-j-lt8.true h
-
-pub overflow_mul-result-2 : goal.overflow_mul-result-2
-overflow_mul-result-2 c = omega arith
-
-pub overflow_shl-result-2 : goal.overflow_shl-result-2
-overflow_shl-result-2 c = omega arith
 
 pub returns : goal.returns
 returns c = λ k h. entry_unit_high _ k c.if-j-lt8.false c.requires h

@@ -1,11 +1,7 @@
 -- `values::divide` multiplies by the inverses of the gaps, or leaves all as it is.
 -- Assumes nothing.
-use mathlib.Core.Path.{refl}
 use native.Mathlib.Omega.{arith}
 use Rattle.solving.proofs.values.divide.Goals as goal
-
-pub returns-then-n-lt2 : goal.returns-then-n-lt2
-returns-then-n-lt2 c = record { few = λ h k b. refl; many = λ h k b. absurd (omega arith) }
 
 pub returns : goal.returns
 returns c = record { few = λ h k b. absurd (omega arith); many = λ h k b. (_, c.inverses.ensures.entry k b, c.products.ensures.entry k b) }

@@ -5,6 +5,3 @@ use Rattle.solving.proofs.values.locate.Given as goal
 
 abbrev pub invariant-loop-m : goal.invariant-loop-m
 invariant-loop-m l = Locating l.at l.from l.w l.m
-
-abbrev pub decreases-loop-m : goal.decreases-loop-m
-decreases-loop-m l = l.m

@@ -1,14 +1,7 @@
 -- `values::locators` has eight places in each word.
 -- Assumes nothing.
-use native.Mathlib.Omega.{arith}
 use Rattle.solving.proofs.Places.{both_located}
 use Rattle.solving.proofs.values.locators.Goals as goal
-
-pub locate-requires : goal.locate-requires
-locate-requires c = (omega arith, c.powers-powers.ensures)
-
-pub locate-requires-2 : goal.locate-requires-2
-locate-requires-2 c = (omega arith, c.powers-powers.ensures)
 
 pub returns : goal.returns
 returns c = both_located c.args.at _ _ c.locate.ensures c.locate-2.ensures

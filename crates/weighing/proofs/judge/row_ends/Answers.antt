@@ -9,14 +9,8 @@ use Rattle.columns.specs.Handing.{all_zero}
 use Rattle.columns.proofs.ZeroLaws.{beyond-none, beyond_from}
 use Rattle.weighing.proofs.judge.row_ends.Goals as goal
 
-pub columns_within-k-requires : goal.columns_within-k-requires
-columns_within-k-requires c = (c.requires.1, c.requires.2, c.requires.3)
-
 pub returns-then-k-eq239 : goal.returns-then-k-eq239
 returns-then-k-eq239 c = beyond-none _ _ _ _ _ c.columns_within-k.ensures c.if-k-eq239.true
-
-pub restored-requires : goal.restored-requires
-restored-requires c = c.requires.0
 
 pub is_zero-requires : goal.is_zero-requires
 is_zero-requires c = omega (arith, c.columns_within-k.ensures.within)
@@ -24,5 +18,5 @@ is_zero-requires c = omega (arith, c.columns_within-k.ensures.within)
 pub returns : goal.returns
 returns c =
     let k : ℕ = c.columns_within-k.result in
-    c.is_zero.ensures ∙ ap (λ (l : List ℕ). all_zero (bytes_at l k (239 - k))) c.restored.ensures
+    c.is_zero.ensures ∙ ap (λ (l : List ℕ). all_zero (bytes_at l k (239 - k))) c.added_to.ensures
     ∙ beyond_from _ _ _ _ _ c.columns_within-k.ensures
