@@ -5,6 +5,7 @@ use mathlib.Core.Logic.{⊎_elim}
 use mathlib.Core.Bool.{Bool, false}
 use mathlib.Core.List.{List}
 use Prim.Native.Nat.{ℕ, ◌+◌, ◌-◌, ◌*◌, ◌/◌, ◌%◌, ◌^◌, ◌≤◌, ◌<◌}
+use Rattle.std.proofs.Common.{min}
 use native.Mathlib.Nat.{le_refl, suc-mul, mul-le-mul, mul-le-mul_right, mod-lt, div-add-mod', div-le_self}
 use native.Mathlib.Omega.{arith}
 use lib.ListN.{length, get_or, replicate}
@@ -40,6 +41,9 @@ pub gathered-few : {p : Place} {s : List ℕ} {first c lost : ℕ} {row at : Lis
 gathered-few {p} {s} {first} {c} v = omega (arith, v.told.count, lost-passing (gone_in p s first) c, lost-all (gone_in p s first) c, v.within)
 
 -- ---- a run
+
+pub least : {a b r : ℕ} → r ≡ min a b → Least a b r
+least e = record { left = omega arith; right = omega arith; above = λ z l g. omega arith }
 
 module _ {p : Place} {s : List ℕ} {first k c lost : ℕ} {row at : List ℕ} (b : Begins p s first k c lost row at) where
   apart : k * p.slot + (first + c * p.rows) % p.slot ≡ first + c * p.rows
