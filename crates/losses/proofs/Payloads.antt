@@ -67,6 +67,11 @@ pub slot-sum : (p : Place) (k : ℕ) → p.start + k * (p.slot + 2) ≡ slot_at 
 unfolding slot_at
 slot-sum p k = refl
 
+-- its length lies in the store
+pub slot-room : (p : Place) (k size : ℕ) → k < p.count → end_of p ≤ size → p.start + k * (p.slot + 2) + 2 ≤ size
+unfolding slot_at
+slot-room p k size h l = omega (arith, (slot-within p k h).1)
+
 -- whether a length fits, where it is known whether payloads are whole rows
 pub fits-known : (p : Place) (n : ℕ) (b : Bool) → b ≡ in_rows p → (leb n p.slot && (not b || eqb (n % 255) 0)) ≡ length_fits p n
 fits-known p n b e = ap (λ (x : Bool). leb n p.slot && (not x || eqb (n % 255) 0)) e

