@@ -44,30 +44,25 @@ fn nothing_seen() -> Seen
 pub fn survey(p: Place, store: &[u8]) -> Seen
     ensures { result ≡ seen_of p store.now }
 {
-    let width = p.slot as usize + 2;
-    let mut at = p.start as usize;
-    let end = at + places::cover_of(p.count, p.slot);
-    if store.len() < end {
+    if store.len() < places::end_of(p) {
         return nothing_seen();
     }
+    let width = p.slot as usize + 2;
     let mut filled: u32 = 0;
     let mut empty: u32 = 0;
     let mut bytes: usize = 0;
-    let mut k: u32 = 0;
-    while at < end {
-        let n = contents::slot_length(store, at);
+    for k in 0..p.count {
+        let n = contents::slot_length(store, p.start as usize + k as usize * width);
         if !contents::length_fits(p, n) {
             return nothing_seen();
         }
         if n != 0 {
             filled += 1;
         }
-        k += 1;
-        if filled == k {
-            empty = k;
+        if filled == k + 1 {
+            empty = filled;
         }
         bytes += n;
-        at += width;
     }
     Seen {
         sound: true,
