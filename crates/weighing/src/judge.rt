@@ -27,11 +27,8 @@ fn restored(row: [u8; 255], e: Errata) -> [u8; 255]
     ensures { result ≡ mended_by row (entries e.at) (entries e.values) e.n }
 {
     let mut out = row;
-    let mut k: usize = 0;
-    while k < e.n {
-        let i = 254 - words::index(e.at[k]);
-        out[i] = out[i] ^ e.values[k];
-        k += 1;
+    for k in 0..e.n {
+        out[254 - words::index(e.at[k])] ^= e.values[k];
     }
     out
 }
@@ -51,21 +48,6 @@ fn columns_within(m: usize, q: usize, n: usize) -> usize
     (n - start - 1) / m + 1
 }
 
-// Whether the information bytes of a row from `from` on are 0.
-fn is_zero(row: [u8; 255], from: usize) -> bool
-    requires { from ≤ 239 }
-    ensures { result ≡ all_zero (bytes_at row from (239 - from)) }
-{
-    let mut i = from;
-    while i < 239 {
-        if row[i] != 0 {
-            return false;
-        }
-        i += 1;
-    }
-    true
-}
-
 // Whether row `q`, once it is restored, holds 0 wherever it reaches beyond a file of `n` bytes. Few rows do.
 fn row_ends(row: [u8; 255], e: Errata, m: usize, q: usize, n: usize) -> bool
     requires { Placed e.n e.at × (0 < m) × (m ≤ 255) × (q * 255 < 2 ^ 63) }
@@ -75,7 +57,7 @@ fn row_ends(row: [u8; 255], e: Errata, m: usize, q: usize, n: usize) -> bool
     if k == 239 {
         return true;
     }
-    is_zero(restored(row, e), k)
+    restored(row, e)[k..239].iter().all(|b| *b == 0)
 }
 
 // What is wrong with row `q`: 1 where it lacks more than sixteen bytes, 2 where its known bytes fit no coded row, 3 where it is not 0 beyond the file's end; 0 where
@@ -108,8 +90,7 @@ pub(crate) fn judge(p: Place, store: &[u8], n: usize, rows: u32) -> Judged
 {
     let mut coded = true;
     let mut clear = true;
-    let mut q: u32 = 0;
-    while q < rows {
+    for q in 0..rows {
         let fault = fault_of(p, store, n, q);
         if fault == 1 {
             return Judged {
@@ -120,7 +101,6 @@ pub(crate) fn judge(p: Place, store: &[u8], n: usize, rows: u32) -> Judged
         }
         coded = coded & (fault != 2);
         clear = clear & (fault != 3);
-        q += 1;
     }
     Judged {
         lacks: rows,

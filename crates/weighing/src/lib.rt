@@ -16,7 +16,7 @@ mod lengths;
 pub fn weigh(p: Place, store: &[u8], n: usize) -> Verdict
     ensures { result ≡ weighed_of p store.now n }
 {
-    if !lengths::is_tabled(p, store.len()) {
+    if !losses::is_tabled(p, store.len()) {
         return Verdict::Refused(Refusal::Record);
     }
     let seen = standing::survey(p, store);

@@ -22,9 +22,6 @@ returns-then-not-e c =
     fault_uncoded _ _ _ _ _ (row-full _ _ c.requires.fits _ _ c.gather-came.ensures few)
     (row-none _ _ c.requires.fits _ _ c.gather-came.ensures few bytes _ c.fill-e.ensures (not-true _ c.if-not-e.true))
 
-pub overflow_cast-p : goal.overflow_cast-p
-overflow_cast-p c = omega arith
-
 pub row_ends-requires : goal.row_ends-requires
 row_ends-requires c =
     let bytes : Bytes c.gather-came.result.row = let fit : (i : ℕ) → mir.Val.Fits mir.Syntax.w8 (get_or c.gather-came.result.row i 0) = λ i. search rules in
