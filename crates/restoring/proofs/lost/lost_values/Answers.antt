@@ -2,16 +2,12 @@
 -- Assumes nothing.
 use mathlib.Core.Path.{◌≡◌}
 use Prim.Native.Nat.{ℕ}
-use native.Mathlib.Omega.{arith}
 use lib.ListN.{length, get_or}
 use borrow.Author.Rules.{rules}
 use Rattle.code.specs.Code.{Bytes}
 use Rattle.code.proofs.Lists.{zeros, bytes_of}
 use Rattle.columns.proofs.Missing.{one_restores, filled_restores}
 use Rattle.restoring.proofs.lost.lost_values.Goals as goal
-
-pub bounds-values-0 : goal.bounds-values-0
-bounds-values-0 c = omega arith
 
 pub returns-then-n-eq1 : goal.returns-then-n-eq1
 returns-then-n-eq1 c =

@@ -1,23 +1,12 @@
 -- What came is written; where no slot is empty that is the file. Else what is lost is put in, and both are all there is.
 -- Assumes nothing.
-use native.Mathlib.Omega.{arith}
 use Rattle.columns.proofs.Whole.{known_written, both-written}
 use Rattle.restoring.proofs.write.write_file.Goals as goal
-
-pub write_known-requires : goal.write_known-requires
-write_known-requires c = c.requires
-
-pub shape_of-out-then-survey-p : goal.shape_of-out-then-survey-p
-shape_of-out-then-survey-p c = omega (arith, c.write_known.ensures.long)
 
 pub returns-then-survey-p : goal.returns-then-survey-p
 returns-then-survey-p c =
     known_written c.args.p c.args.store.now c.args.n c.requires.0 c.survey.result c.survey.ensures c.if-survey-p.true
     c.args.out.now _ c.write_known.ensures c.requires.1
-
-pub restore_rows-requires : goal.restore_rows-requires
-restore_rows-requires c =
-    (c.requires.0, omega (arith, c.write_known.ensures.long, c.requires.1))
 
 pub returns : goal.returns
 returns c =
