@@ -6,7 +6,7 @@ use mathlib.Core.List.{List}
 use Prim.Native.Nat.{ℕ, suc, ◌+◌, ◌-◌, ◌*◌, ◌^◌, ◌<◌, ◌≤◌, min}
 use native.Mathlib.Nat.{suc-mul, mul_assoc}
 use native.Mathlib.Omega.{arith}
-use borrow.Author.Tests.{le-leb, lt-leb, leb-true, eq-eqb, ne_eqb, eqb-true}
+use borrow.Author.Tests.{le-leb, lt-leb, leb-true, eqb-true}
 use lib.Dec.{eqb, leb}
 use lib.ListN.{length}
 use Rattle.ground.specs.Lists.{ceil}
@@ -81,12 +81,6 @@ module _ (p : Place) (n : ℕ) where
       }
 
 -- ---- a slot
-
-pub differs-yes : (n full : ℕ) → (n ≡ 0 → ⊥) → not (eqb n full) ≡ (not (eqb n 0) && not (eqb n full))
-differs-yes n full d = rw (ne_eqb n 0 d) refl
-
-pub differs-no : (n full : ℕ) → n ≡ 0 → not (eqb n 0) ≡ (not (eqb n 0) && not (eqb n full))
-differs-no n full e = rw (eq-eqb n 0 e) refl
 
 -- a slot that is not wrong has the length that stands in it
 payload_length_lem : (p : Place) (s : List ℕ) → any_wrong (contents p s) ≡ false → (k : ℕ) → k < p.count → length (payload_at (contents p s) k) ≡ length_at s (slot_at p k)
