@@ -6,7 +6,7 @@ use mathlib.Core.List.{List}
 use Prim.Native.Nat.{ℕ, suc, ◌+◌, ◌-◌, ◌*◌, ◌^◌, ◌<◌, ◌≤◌, min}
 use native.Mathlib.Nat.{suc-mul, mul_assoc}
 use native.Mathlib.Omega.{arith}
-use borrow.Author.Tests.{le-leb, lt-leb, leb-true, eq-eqb, ne_eqb, eqb-true}
+use borrow.Author.Tests.{le-leb, lt-leb, leb-true, eqb-true}
 use lib.Dec.{eqb, leb}
 use lib.ListN.{length}
 use Rattle.ground.specs.Lists.{ceil}
@@ -20,7 +20,6 @@ use Rattle.contents.proofs.Bytes.{length-bytes}
 use Rattle.contents.proofs.Slots.{slot-holds, slot-wrong}
 use Rattle.contents.proofs.Filled.{wrong-none}
 use Rattle.contents.proofs.Places.{length-contents, reading_slots}
-use Rattle.standing.proofs.StandLaws.{Stands, stands_first, stands_next}
 use Rattle.losses.specs.Losses.{payload_of, payload_at, tabled}
 use Rattle.losses.proofs.Tabling.{tabled_facts}
 use Rattle.columns.specs.Columns.{sent_length, length_serves, misfits}
@@ -83,12 +82,6 @@ module _ (p : Place) (n : ℕ) where
 
 -- ---- a slot
 
-pub differs-yes : (n full : ℕ) → (n ≡ 0 → ⊥) → not (eqb n full) ≡ (not (eqb n 0) && not (eqb n full))
-differs-yes n full d = rw (ne_eqb n 0 d) refl
-
-pub differs-no : (n full : ℕ) → n ≡ 0 → not (eqb n 0) ≡ (not (eqb n 0) && not (eqb n full))
-differs-no n full e = rw (eq-eqb n 0 e) refl
-
 -- a slot that is not wrong has the length that stands in it
 payload_length_lem : (p : Place) (s : List ℕ) → any_wrong (contents p s) ≡ false → (k : ℕ) → k < p.count → length (payload_at (contents p s) k) ≡ length_at s (slot_at p k)
 payload_length_lem p s w k h = by (length_fits p (length_at s (slot_at p k))) refl
@@ -99,10 +92,9 @@ payload_length_lem p s w k h = by (length_fits p (length_at s (slot_at p k))) re
         ∙ length-bytes s (slot_at p k + 2) (length_at s (slot_at p k))
     by false t = absurd (wrong-none (contents p s) w k (omega (arith, length-contents p s)) (reading_slots p s k h ∙ slot-wrong p s k t))
 
--- ---- the loop: at slot k, which starts at at; of what was sent, so much is left for it and those behind it
+-- ---- the loop: at slot k; of what was sent, so much is left for it and those behind it
 
-pub record Fitting (p : Place) (s : List ℕ) (total at left k : ℕ) : Type 0 where
-  pub stands : Stands p at k
+pub record Fitting (p : Place) (s : List ℕ) (total left k : ℕ) : Type 0 where
   pub remains : left ≡ total - k * p.slot
   pub rest : lowest_left (misfits p.slot total (contents p s)) p.count k ≡ lowest_from (misfits p.slot total (contents p s)) 0 p.count
 
@@ -110,21 +102,21 @@ module _ (p : Place) (s : List ℕ) (total : ℕ) where
   abbrev all : Option ℕ
   all = lowest_from (misfits p.slot total (contents p s)) 0 p.count
 
-  pub fitting_first : (left : ℕ) → left ≡ total → Fitting p s total p.start left 0
+  pub fitting_first : (left : ℕ) → left ≡ total → Fitting p s total left 0
   fitting_first left e =
       let z : total - 0 * p.slot ≡ total = omega arith in
-      record { stands = stands_first p; remains = e ∙ sym z; rest = left-first (misfits p.slot total (contents p s)) p.count }
+      record { remains = e ∙ sym z; rest = left-first (misfits p.slot total (contents p s)) p.count }
 
-  module _ (at left k : ℕ) (v : Fitting p s total at left k) where
+  module _ (left k : ℕ) (v : Fitting p s total left k) where
     pub fitting_end : p.count ≤ k → true ≡ is_nothing all
     fitting_end h = sym (ap is_nothing (sym v.rest ∙ left_end (misfits p.slot total (contents p s)) p.count k h))
 
-    module _ (w : any_wrong (contents p s) ≡ false) (h : k < p.count) (full l : ℕ) (f : full ≡ min p.slot left) (e : l ≡ length_at s at) (b : Bool)
+    module _ (w : any_wrong (contents p s) ≡ false) (h : k < p.count) (full l : ℕ) (f : full ≡ min p.slot left) (e : l ≡ length_at s (slot_at p k)) (b : Bool)
         (d : b ≡ (not (eqb l 0) && not (eqb l full))) where
       here : misfits p.slot total (contents p s) k ≡ b
       unfolding misfits
       here =
-          let a : length (payload_at (contents p s) k) ≡ l = payload_length_lem p s w k h ∙ ap (length_at s) (sym v.stands.place) ∙ sym e in
+          let a : length (payload_at (contents p s) k) ≡ l = payload_length_lem p s w k h ∙ sym e in
           let g : min p.slot (total - k * p.slot) ≡ full = ap (min p.slot) (sym v.remains) ∙ sym f in
           ap₂ (λ (x y : ℕ). not (eqb x 0) && not (eqb x y)) a g ∙ sym d
 
@@ -132,11 +124,10 @@ module _ (p : Place) (s : List ℕ) (total : ℕ) where
       fitting_not t =
           sym (ap is_nothing (sym v.rest ∙ left_here (misfits p.slot total (contents p s)) p.count k h (here ∙ t)))
 
-      pub fitting_next : b ≡ false → Fitting p s total (at + (p.slot + 2)) (left - full) (k + 1)
+      pub fitting_next : b ≡ false → Fitting p s total (left - full) (k + 1)
       fitting_next t =
           let m : (k + 1) * p.slot ≡ k * p.slot + p.slot = ap (λ (x : ℕ). x * p.slot) (let z : k + 1 ≡ suc k = omega arith in z) ∙ suc-mul k p.slot in
           record {
-            stands = stands_next p at k v.stands h;
             remains = omega (arith, v.remains);
             rest = sym (left-next (misfits p.slot total (contents p s)) p.count k h (here ∙ t)) ∙ v.rest;
           }

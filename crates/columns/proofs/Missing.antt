@@ -9,7 +9,7 @@ use mathlib.Core.List.{List, ◌∷◌}
 use Prim.Native.Nat.{ℕ, zero, suc, ◌+◌, ◌-◌, ◌<◌, ◌≤◌}
 use native.Mathlib.Omega.{arith}
 use lib.ListN.{length, get_or, set, take, length-set}
-use lib.Seq.{ext_get_or, get_or-set_same, get_or-set_other, get_or-take, take_all}
+use lib.Seq.{ext_get_or, get_or-set_same, get_or-set_other, get_or-take}
 use Rattle.ground.specs.Bits.{sum}
 use Rattle.ground.proofs.Sums.{zero_sum, sum_cancel}
 use Rattle.ground.proofs.Listed.{get_or-listed_0}
@@ -47,9 +47,6 @@ sum_first row = sym (value_nil 1)
 pub sum_more : (row : List ℕ) (i acc : ℕ) → i < length row → get_or row i 0 < 256 → acc ≡ value (take i row) 1 → sum acc (get_or row i 0) ≡ value (take (i + 1) row) 1
 sum_more row i acc h b e =
     ap (λ (x : ℕ). sum x (get_or row i 0)) (e ∙ sym (one_product (value (take i row) 1) (value-byte (take i row) 1))) ∙ sym (value-take row i 1 h b)
-
-pub sum-last : (row : List ℕ) (i acc : ℕ) → length row ≤ i → acc ≡ value (take i row) 1 → acc ≡ value row 1
-sum-last row i acc h e = e ∙ ap (λ (x : List ℕ). value x 1) (take_all i row h)
 
 -- ---- one byte is lost
 

@@ -161,6 +161,3 @@ module _ (p : Place) (s : List ℕ) (n : ℕ) where
       nearer_then (aim_of p s) n (LostBelow p s q) (LostRow p s q) (LostBelow p s (q + 1)) before out after u v
       (λ i h x. ⊎_elim (λ (e : row_number p.rows i ≡ q). inr (e, x.1)) (λ (b : row_number p.rows i < q). inl (b, x.1))
       (below_suc (subst (λ (y : ℕ). row_number p.rows i < y) (add-one q) x.0)))
-
-  pub lost-last : (rows q : ℕ) (before out : List ℕ) → Nearer (aim_of p s) n (LostBelow p s q) before out → rows ≤ q → Nearer (aim_of p s) n (LostBelow p s rows) before out
-  lost-last rows q before out u h = nearer_less (aim_of p s) n (LostBelow p s q) (LostBelow p s rows) before out u (λ i b x. (omega (arith, x.0), x.1))

@@ -100,9 +100,6 @@ checks_few m f =
     parts : (t m a b : ℕ) → t * ((a + b) * m) ≡ t * (a * m) + t * (b * m)
     parts t m a b = ap (λ (x : ℕ). t * x) (add-mul a b m) ∙ mul-add t (a * m) (b * m)
 
-pub next-few : (m f : ℕ) → (f / (239 * m) + 1) * (239 * m) ≤ f + 239 * m
-next-few m f = omega (arith, add-mul (f / (239 * m)) 1 (239 * m), div-add-mod' f (239 * m))
-
 -- the rows of a file of n bytes
 module _ (m n : ℕ) (h : 0 < m) where
   pub rows_few : m * tables_of m n * 239 < n + 239 * m

@@ -6,15 +6,16 @@ use mathlib.Core.Bool.{Bool, true, false, cond, ◌&&◌}
 use mathlib.Core.List.{List, [], ◌∷◌}
 use Prim.Native.Nat.{ℕ, zero, suc, ◌+◌, ◌-◌, ◌*◌, ◌<◌, ◌≤◌}
 use native.Mathlib.Omega.{arith}
-use borrow.Author.Tests.{eq-eqb, ne_eqb, eqb-true, eqb-false, lt-ltb, le-ltb}
+use borrow.Author.Tests.{eq-eqb, eqb-true, eqb-false, lt-ltb, le-ltb}
 use lib.Dec.{eqb, ltb}
-use lib.ListN.{length, get_or}
+use lib.ListN.{length, get_or, take, drop}
+use Rattle.std.specs.List.{list_all}
 use Rattle.ground.proofs.Listed.{length-listed, get_or-listed, get_or-listed_0}
 use Rattle.ground.proofs.Numbers.{lt_or_ge}
 use Rattle.ground.proofs.Truth.{differ}
 use Rattle.layout.specs.Spread.{row_start}
 use Rattle.contents.specs.Contents.{bytes_at}
-use Rattle.contents.proofs.Bytes.{length-bytes}
+use Rattle.contents.proofs.Bytes.{length-bytes, bytes-part}
 use Rattle.columns.specs.Handing.{all_zero}
 use Rattle.columns.specs.InnerJudge.{beyond_in}
 use Rattle.layout.specs.Spread.{Columns}
@@ -61,31 +62,14 @@ not_zero (x ∷ l) e = by (not_zero l) (eqb x 0) refl e
     by later true t e = let a = later e in record { number = suc a.number; below = omega (arith, a.below); other = a.other }
     by later false t e = record { number = 0; below = omega arith; other = eqb-false x 0 t }
 
--- ---- the loop over the bytes from from to to: those from i on say what all say
+-- ---- the bytes from from to to, as `all` looks at them
 
-pub record Zeroing (s : List ℕ) (from to i : ℕ) : Type 0 where
-  pub within : i ≤ to
-  pub rest : all_zero (bytes_at s i (to - i)) ≡ all_zero (bytes_at s from (to - from))
+all_same : (l : List ℕ) → list_all (λ x. eqb x 0) l ≡ all_zero l
+all_same [] = refl
+all_same (x ∷ l) = ap (λ (b : Bool). eqb x 0 && b) (all_same l)
 
-pub zeroing_first : (s : List ℕ) (from to : ℕ) → from ≤ to → Zeroing s from to from
-zeroing_first s from to h = record { within = h; rest = refl }
-
-module _ (s : List ℕ) (from to i : ℕ) (v : Zeroing s from to i) where
-  pub zeroing_end : to ≤ i → true ≡ all_zero (bytes_at s from (to - from))
-  zeroing_end h = let e : 0 ≡ to - i = omega arith in ap (λ (n : ℕ). all_zero (bytes_at s i n)) e ∙ v.rest
-
-  module _ (h : i < to) where
-    zero_on : (eqb (get_or s i 0) 0 && all_zero (bytes_at s (i + 1) (to - (i + 1)))) ≡ all_zero (bytes_at s from (to - from))
-    zero_on =
-        let e : suc (to - (i + 1)) ≡ to - i = omega arith in
-        let d : i + 1 ≡ suc i = omega arith in
-        ap (λ (n : ℕ). eqb (get_or s i 0) 0 && all_zero (bytes_at s n (to - (i + 1)))) d ∙ ap (λ (n : ℕ). all_zero (bytes_at s i n)) e ∙ v.rest
-
-    pub zeroing_next : get_or s i 0 ≡ 0 → Zeroing s from to (i + 1)
-    zeroing_next e = record { within = omega arith; rest = rw (eq-eqb (get_or s i 0) 0 e) at zero_on }
-
-    pub zeroing_not : (get_or s i 0 ≡ 0 → ⊥) → false ≡ all_zero (bytes_at s from (to - from))
-    zeroing_not d = rw (ne_eqb (get_or s i 0) 0 d) at zero_on
+pub zero_at : (s : List ℕ) (from to : ℕ) → from ≤ to → to ≤ length s → list_all (λ x. eqb x 0) (take (to - from) (drop from s)) ≡ all_zero (bytes_at s from (to - from))
+zero_at s from to h l = all_same (take (to - from) (drop from s)) ∙ ap all_zero (sym (bytes-part s from (to - from) (omega arith)))
 
 -- ---- the bytes of row q beyond n bytes of the file
 

@@ -140,10 +140,6 @@ module _ (p : Place) (size : ℕ) where
   usable_far h = rw (lt-leb (end_of p) size h) refl
 
   module _ (h : end_of p ≤ size) where
-    pub usable-ordered : (p.order ≡ 0 → ⊥) → false ≡ usable_in p size
-    unfolding usable_in
-    usable-ordered d = rw (le-leb (end_of p) size h, ne_eqb p.order 0 d) refl
-
     module _ (o : p.order ≡ 0) where
       pub usable-plain : p.protection ≡ 0 → true ≡ usable_in p size
       unfolding usable_in

@@ -7,8 +7,6 @@ use Prim.Native.Nat.{ℕ, suc, ◌+◌, ◌-◌, ◌*◌, ◌<◌, ◌≤◌}
 use native.Mathlib.Nat.{add-mul, suc-mul, mul-pos, zero-lt-suc}
 use native.Mathlib.Omega.{arith}
 use borrow.Author.Tests.{lt-leb, eq-eqb, ne_eqb, ltb-true, ltb-false}
-use mir.Syntax.{Width}
-use mir.Val.{Fits}
 use lib.Dec.{eqb, ltb, leb}
 use lib.ListN.{length, get_or, set, length-set}
 use Rattle.ground.specs.Lists.{listed}
@@ -18,10 +16,6 @@ use Rattle.layout.specs.Spread.{spread}
 use Rattle.layout.proofs.Scatter.{set-yes, set-no, spread-step}
 use Rattle.handing.specs.Passes.{info_at}
 use Rattle.layout.specs.Spread.{Columns}
-
--- ---- a count below one that fits its width: the next fits too
-pub one_on : (w : Width) (n i : ℕ) → Fits w n → i < n → Fits w (i + 1)
-one_on w n i f l = record { fits = omega (arith, f.fits) }
 
 -- ---- how many tables a file of n bytes needs
 
@@ -75,35 +69,36 @@ module _ (m n : ℕ) (f : ℕ → ℕ) (w p : ℕ) (before : List ℕ) where
         spread_none m n (listed f (w - c) c) to out (λ i l. h i (omega (arith, length-listed f (w - c) c))) ∙ v.rest
 
 -- ---- the loop that writes the first k bytes of a row
-pub record RowWriting (s : List ℕ) (at k m p : ℕ) (before out : List ℕ) (to c : ℕ) : Type 0 where
+pub record RowWriting (s : List ℕ) (at k m p : ℕ) (before out : List ℕ) (c : ℕ) : Type 0 where
   pub within : c ≤ k
-  pub place : to ≡ p + c * m
   pub long : length out ≡ length before
-  pub rest : (n : ℕ) → Columns m n p k → Spreading m n (λ x. get_or s (at + x) 0) 239 p before out to c
+  pub rest : (n : ℕ) → Columns m n p k → Spreading m n (λ x. get_or s (at + x) 0) 239 p before out (p + c * m) c
 
 module _ (s : List ℕ) (at k m p : ℕ) (before : List ℕ) where
-  pub writing_first : RowWriting s at k m p before before p 0
-  writing_first = record {
-    within = omega arith;
-    place = omega arith;
-    long = refl;
-    rest = λ n e. spreading_first m n (λ x. get_or s (at + x) 0) 239 p before;
-  }
+  pub writing_first : RowWriting s at k m p before before 0
+  writing_first =
+      let z : p + 0 * m ≡ p = omega arith in
+      record {
+        within = omega arith;
+        long = refl;
+        rest = λ n e. rw z (spreading_first m n (λ x. get_or s (at + x) 0) 239 p before);
+      }
 
-  module _ (out : List ℕ) (to c : ℕ) (v : RowWriting s at k m p before out to c) where
-    pub writing_room : c < k → ((i : ℕ) → i < k → p + i * m < length before) → to < length out
-    writing_room h e = omega (arith, e c h, v.place, v.long)
+  module _ (out : List ℕ) (c : ℕ) (v : RowWriting s at k m p before out c) where
+    pub writing_room : c < k → ((i : ℕ) → i < k → p + i * m < length before) → p + c * m < length out
+    writing_room h e = omega (arith, e c h, v.long)
 
-    pub writing_next : c < k → RowWriting s at k m p before (set out to (get_or s (at + c) 0)) (to + m) (c + 1)
-    writing_next h = record {
-      within = omega arith;
-      place = omega (arith, v.place, add-mul c 1 m);
-      long = length-set out to (get_or s (at + c) 0) ∙ v.long;
-      rest = λ n e. spreading_next m n (λ x. get_or s (at + x) 0) 239 p before out to c (v.rest n e) (omega (arith, e.within)) (omega (arith, e.inside c h, v.place));
-    }
+    pub writing_next : c < k → RowWriting s at k m p before (set out (p + c * m) (get_or s (at + c) 0)) (c + 1)
+    writing_next h =
+        let z : p + (c + 1) * m ≡ p + c * m + m = omega (arith, add-mul c 1 m) in
+        record {
+          within = omega arith;
+          long = length-set out (p + c * m) (get_or s (at + c) 0) ∙ v.long;
+          rest = λ n e. rw z (spreading_next m n (λ x. get_or s (at + x) 0) 239 p before out (p + c * m) c (v.rest n e) (omega (arith, e.within)) (e.inside c h));
+        }
 
     pub writing_end : k ≤ c → (n : ℕ) → Columns m n p k → out ≡ spread m n (info_at s at) p before
     unfolding info_at
     writing_end h n e =
-        spreading_end m n (λ x. get_or s (at + x) 0) 239 p before out to c (v.rest n e) (λ i l.
-        omega (arith, e.outside (c + i) (omega (arith, v.within)) l, v.place, add-mul c i m))
+        spreading_end m n (λ x. get_or s (at + x) 0) 239 p before out (p + c * m) c (v.rest n e) (λ i l.
+        omega (arith, e.outside (c + i) (omega (arith, v.within)) l, add-mul c i m))

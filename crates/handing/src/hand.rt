@@ -15,17 +15,14 @@ fn write_plain(p: Place, store: &[u8], out: &mut [u8])
     ensures { out.new ≡ sent_in p store.now ++ drop (length (sent_in p store.now)) out.old }
 {
     let width = p.slot as usize + 2;
-    let mut at = p.start as usize;
     let mut o: usize = 0;
-    let mut k: u32 = 0;
-    while k < p.count {
+    for k in 0..p.count {
+        let at = p.start as usize + k as usize * width;
         let n = contents::slot_length(store, at);
         let from = at + 2;
         let to = from + n;
         slices::copy_in(out, o, &store[from..to]);
         o += n;
-        at += width;
-        k += 1;
     }
 }
 
@@ -36,15 +33,12 @@ fn write_rows(p: Place, store: &[u8], n: usize, out: &mut [u8])
 {
     let m = p.rows as usize;
     let width = p.slot as usize + 2;
-    let mut at = p.start as usize;
     let mut q: usize = 0;
-    let mut k: u32 = 0;
-    while k < p.count {
+    for k in 0..p.count {
+        let at = p.start as usize + k as usize * width;
         let count = contents::slot_length(store, at) / 255;
         tables::scatter_rows(store, at + 2, count, m, q, n, out);
         q += count;
-        at += width;
-        k += 1;
     }
 }
 
@@ -55,17 +49,14 @@ fn padding_ends(p: Place, store: &[u8], n: usize) -> bool
 {
     let m = p.rows as usize;
     let width = p.slot as usize + 2;
-    let mut at = p.start as usize;
     let mut q: usize = 0;
-    let mut k: u32 = 0;
-    while k < p.count {
+    for k in 0..p.count {
+        let at = p.start as usize + k as usize * width;
         let count = contents::slot_length(store, at) / 255;
         if !tables::rows_end(store, at + 2, count, m, q, n) {
             return false;
         }
         q += count;
-        at += width;
-        k += 1;
     }
     true
 }

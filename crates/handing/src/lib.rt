@@ -30,14 +30,11 @@ pub fn hand_place(p: Place, store: &[u8], n: usize, out: &mut [u8]) -> Result<()
 fn is_usable(p: Place, size: usize) -> bool
     ensures { result ≡ usable_in p size }
 {
-    if size < p.start as usize + places::cover_of(p.count, p.slot) {
+    if size < places::end_of(p) {
         return false;
     }
     if p.order != 0 {
         return false;
     }
-    if p.protection == 0 {
-        return true;
-    }
-    p.rows != 0
+    p.protection == 0 || p.rows != 0
 }

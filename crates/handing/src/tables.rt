@@ -47,12 +47,11 @@ fn scatter_row(store: &[u8], at: usize, k: usize, m: usize, p: usize, out: &mut 
     requires { (at + 239 ≤ length store.now) × (m ≤ 255) × (k ≤ 239) × ((c : ℕ) → c < k → p + c * m < length out.old) }
     ensures { (n : ℕ) → Columns m n p k → out.new ≡ spread m n (info_at store.now at) p out.old }
 {
+    // A product for each byte takes longer.
     let mut to = p;
-    let mut c: usize = 0;
-    while c < k {
+    for c in 0..k {
         out[to] = store[at + c];
         to += m;
-        c += 1;
     }
 }
 
@@ -69,29 +68,12 @@ pub(crate) fn scatter_rows(
     requires { RowsAt m (length store.now) at count q × (n ≤ length out.old) }
     ensures { Scatters m n store.now at count q out.old out.new }
 {
-    let mut j: usize = 0;
-    while j < count {
+    for j in 0..count {
         let row = row_span(m, q + j, n);
         let k = row.count;
         let p = row.start;
         scatter_row(store, at + j * 255, k, m, p, out);
-        j += 1;
     }
-}
-
-// Whether the bytes of `store` from `from` to `to` are 0.
-fn is_zero(store: &[u8], from: usize, to: usize) -> bool
-    requires { (from ≤ to) × (to ≤ length store.now) }
-    ensures { result ≡ all_zero (bytes_at store.now from (to - from)) }
-{
-    let mut i = from;
-    while i < to {
-        if store[i] != 0 {
-            return false;
-        }
-        i += 1;
-    }
-    true
 }
 
 // Whether the rows hold 0 wherever they reach beyond a file of `n` bytes.
@@ -99,14 +81,12 @@ pub(crate) fn rows_end(store: &[u8], at: usize, count: usize, m: usize, q: usize
     requires { RowsAt m (length store.now) at count q }
     ensures { Padding m n store.now at count q result }
 {
-    let mut j: usize = 0;
-    while j < count {
+    for j in 0..count {
         let k = row_span(m, q + j, n).count;
         let a = at + j * 255;
-        if !is_zero(store, a + k, a + 239) {
+        if !store[a + k..a + 239].iter().all(|b| *b == 0) {
             return false;
         }
-        j += 1;
     }
     true
 }

@@ -5,7 +5,8 @@ use mathlib.Core.Logic.{⊎_elim}
 use mathlib.Core.Bool.{Bool, false}
 use mathlib.Core.List.{List}
 use Prim.Native.Nat.{ℕ, ◌+◌, ◌-◌, ◌*◌, ◌/◌, ◌%◌, ◌^◌, ◌≤◌, ◌<◌}
-use native.Mathlib.Nat.{le_refl, suc-mul, mul-le-mul, mul-le-mul_right, mod-lt, div-add-mod', div-le_self}
+use Rattle.std.proofs.Common.{min}
+use native.Mathlib.Nat.{suc-mul, mul-le-mul, mul-le-mul_right, mod-lt, div-add-mod', div-le_self}
 use native.Mathlib.Omega.{arith}
 use lib.ListN.{length, get_or, replicate}
 use lib.Seq.{ext_get_or}
@@ -41,6 +42,9 @@ gathered-few {p} {s} {first} {c} v = omega (arith, v.told.count, lost-passing (g
 
 -- ---- a run
 
+pub least : {a b r : ℕ} → r ≡ min a b → Least a b r
+least e = record { left = omega arith; right = omega arith; above = λ z l g. omega arith }
+
 module _ {p : Place} {s : List ℕ} {first k c lost : ℕ} {row at : List ℕ} (b : Begins p s first k c lost row at) where
   apart : k * p.slot + (first + c * p.rows) % p.slot ≡ first + c * p.rows
   apart = ap (λ (x : ℕ). x * p.slot + (first + c * p.rows) % p.slot) b.slot ∙ div-add-mod' (first + c * p.rows) p.slot
@@ -62,9 +66,6 @@ module _ {p : Place} {s : List ℕ} {first k c lost : ℕ} {row at : List ℕ} (
     -- nothing passes a word
     pub begins-low : k * p.slot ≤ 2 ^ 48
     begins-low = let l : c ≤ 255 = omega (arith, b.short) in omega (arith, begins_from, mul-le-mul l few, b.low)
-
-    pub begins-slot : k ≤ 2 ^ 48
-    begins-slot = omega (arith, mul-le-mul (le_refl k) b.tabled.slot, begins-low)
 
     pub begins_walk : (end : ℕ) → end ≤ first + 255 * p.rows → Walk first p.rows end c
     begins_walk end l = record { some = b.tabled.rows; few = few; low = b.low; column = omega (arith, b.short); last = l }

@@ -4,7 +4,7 @@ use mathlib.Core.Path.{◌≡◌, refl, sym, ap, ◌∙◌}
 use mathlib.Core.Bool.{Bool, true, false, not, ◌&&◌, ◌||◌}
 use mathlib.Core.List.{List}
 use Prim.Native.Nat.{ℕ, ◌+◌, ◌-◌, ◌*◌, ◌/◌, ◌%◌, ◌≤◌, ◌<◌}
-use native.Mathlib.Nat.{add-mul, one-mul, mul-add, mul_assoc, mul_comm, div-add-mod', div-eq_of_lt-le}
+use native.Mathlib.Nat.{add-mul, one-mul, mul-add, div-add-mod', div-eq_of_lt-le}
 use native.Mathlib.Omega.{arith}
 use borrow.Author.Tests.{eq-eqb, ne_eqb}
 use lib.Dec.{eqb, leb}
@@ -33,13 +33,6 @@ module _ (size k y : ℕ) (a : k * size ≤ y) (b : y < k * size + size) where
       let d : y / size * size + y % size ≡ y = div-add-mod' y size in
       let e : y / size * size ≡ k * size = ap (λ (x : ℕ). x * size) slot_is in
       omega arith
-
--- where column 0 of row q stands is no large number
-pub first-low : (q m : ℕ) → q / m * (255 * m) + q % m ≤ 256 * q
-first-low q m =
-    let d : q / m * m + q % m ≡ q = div-add-mod' q m in
-    let e : q / m * (255 * m) ≡ 255 * (q / m * m) = sym (mul_assoc (q / m) 255 m) ∙ ap (λ (x : ℕ). x * m) (mul_comm (q / m) 255) ∙ mul_assoc 255 (q / m) m in
-    omega arith
 
 -- ---- what a slot holds
 
@@ -86,9 +79,6 @@ fits-known p n b e = ap (λ (x : Bool). leb n p.slot && (not x || eqb (n % 255) 
 -- ---- a column that stands in slot k
 
 module _ {p : Place} {s : List ℕ} {k n : ℕ} (held : Held p s k n) where
-  pub held-length : length (payload_at (contents p s) k) ≡ n
-  held-length = ap length held.bytes ∙ length-bytes s (slot_at p k + 2) n
-
   module _ (first x : ℕ) (a : k * p.slot ≤ first + x * p.rows) (b : first + x * p.rows < k * p.slot + p.slot) where
     abbrev y : ℕ
     y = first + x * p.rows

@@ -1,17 +1,18 @@
 -- A row gathered column by column (`Stands`, `Taken`, specs/InnerRuns.antt): what one column adds, by what its slot holds, and where the next one stands.
 -- Assumes nothing.
 use mathlib.Core.Path.{◌≡◌, ap, subst, ◌∙◌}
-use mathlib.Core.Bool.{false}
+use mathlib.Core.Bool.{Bool, false}
 use mathlib.Core.List.{List}
 use Prim.Native.Nat.{ℕ, ◌+◌, ◌*◌, ◌/◌, ◌%◌, ◌^◌, ◌≤◌, ◌<◌}
 use native.Mathlib.Nat.{le_refl, mul-add, add-mul, mul-le-mul, mod-lt, div-add-mod'}
 use native.Mathlib.Omega.{arith}
-use lib.ListN.{get_or, set}
+use lib.ListN.{length, get_or, set}
 use Rattle.places.specs.declared.Place.{Place}
-use Rattle.places.specs.Places.{end_of}
-use Rattle.losses.specs.InnerRuns.{byte_in, gone_in, Held, One, Gathered, Behind, Stands, Taken}
+use Rattle.places.specs.Places.{end_of, in_rows}
+use Rattle.losses.specs.InnerRuns.{byte_in, gone_in, Tabled, Held, One, Gathered, Behind, Alone, Stands, Taken}
 use Rattle.losses.proofs.Noting.{told_came}
 use Rattle.losses.proofs.Walking.{next-times, part-more, part_zero}
+use Rattle.losses.proofs.Gathering.{gathered-few}
 use Rattle.losses.proofs.Payloads.{byte_came, byte-none, gone-empty, gone_not, held-inside}
 
 -- ---- one column
@@ -79,13 +80,6 @@ taken-inside {p} {s} {k} held b size ends l =
     let t : k * (p.slot + 2) ≡ k * p.slot + k * 2 = mul-add k p.slot 2 in
     omega (arith, held-inside held (λ z. omega arith))
 
--- and nothing passes a word
-pub taken-low : {p : Place} {s : List ℕ} {k n : ℕ} → Held p s k n → (b : ℕ) → b < n → p.count ≤ 2 ^ 32 → p.slot ≤ 2 ^ 16 → (k * (p.slot + 2) ≤ 2 ^ 49) × (b ≤ 2 ^ 16)
-taken-low {p} {k = k} held b l count size =
-    let h : k ≤ 2 ^ 32 = omega (arith, held.inside (omega arith)) in
-    let g : p.slot + 2 ≤ 2 ^ 17 = omega arith in
-    (omega (arith, mul-le-mul h g), omega (arith, held.fits))
-
 -- ---- column after column
 
 pub stands_first : {p : Place} {s : List ℕ} {first : ℕ} {row at : List ℕ} → 0 < p.slot → Gathered p s first 0 0 row at → Stands p s first (first / p.slot) (first % p.slot) 0 0 row at
@@ -112,6 +106,18 @@ module _ {p : Place} {s : List ℕ} {first k b c lost : ℕ} {row at : List ℕ}
         byte = v.byte;
         place = omega (arith, v.place, next-times c p.rows, div-add-mod' p.rows p.slot, add-mul k (p.rows / p.slot) p.slot);
         gathered = taken.gathered first v;
+      }
+
+  -- what taking column c asks
+  pub stands-alone : Tabled p (length s) → (rows : Bool) → rows ≡ in_rows p → c < 255 → Alone p (length s) rows c lost row at
+  stands-alone tabled rows judged short =
+      record {
+        ends = tabled.ends;
+        judged = judged;
+        short = short;
+        few = gathered-few v.gathered;
+        long = v.gathered.part.sized;
+        room = v.gathered.told.sized;
       }
 
   pub stands_end : 255 ≤ c → Gathered p s first 255 lost row at

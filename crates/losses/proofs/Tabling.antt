@@ -3,9 +3,9 @@
 use mathlib.Core.Path.{◌≡◌, refl}
 use mathlib.Core.Bool.{true, false, not, ◌&&◌}
 use mathlib.Core.List.{List}
-use Prim.Native.Nat.{ℕ, ◌≤◌, ◌<◌}
+use Prim.Native.Nat.{ℕ, ◌<◌}
 use native.Mathlib.Omega.{arith}
-use borrow.Author.Tests.{le-leb, lt-leb, leb-true, eq-eqb, ne_eqb, eqb-false, not-true}
+use borrow.Author.Tests.{leb-true, eqb-false, not-true}
 use lib.Dec.{eqb, leb}
 use lib.ListN.{length, replicate}
 use Rattle.ground.proofs.Truth.{and_both}
@@ -18,18 +18,6 @@ use Rattle.losses.specs.Losses.{row_came, lost_in, lost_places, came_by, tabled,
 use Rattle.losses.specs.InnerRuns.{Tabled}
 
 module _ (p : Place) (size : ℕ) where
-  pub tabled_far : size < end_of p → false ≡ tabled p size
-  unfolding tabled
-  tabled_far h = rw (lt-leb (end_of p) size h) refl
-
-  pub tabled-rows : end_of p ≤ size → p.rows ≡ 0 → false ≡ tabled p size
-  unfolding tabled
-  tabled-rows h e = rw (le-leb (end_of p) size h, eq-eqb p.rows 0 e) refl
-
-  pub tabled-slot : end_of p ≤ size → (p.rows ≡ 0 → ⊥) → not (eqb p.slot 0) ≡ tabled p size
-  unfolding tabled
-  tabled-slot h e = rw (le-leb (end_of p) size h, ne_eqb p.rows 0 e) refl
-
   some : (n : ℕ) → not (eqb n 0) ≡ true → 0 < n
   some n t = let d = eqb-false n 0 (not-true (eqb n 0) t) in omega arith
 

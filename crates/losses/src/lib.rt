@@ -32,14 +32,11 @@ pub fn gather(p: Place, store: &[u8], q: u32) -> Came
 }
 
 // Whether a place lies in a store of `size` bytes, and has rows in a table and bytes in a slot.
-fn is_tabled(p: Place, size: usize) -> bool
+pub fn is_tabled(p: Place, size: usize) -> bool
     ensures { result ≡ tabled p size }
 {
-    if size < p.start as usize + places::cover_of(p.count, p.slot) {
+    if size < places::end_of(p) {
         return false;
     }
-    if p.rows == 0 {
-        return false;
-    }
-    p.slot != 0
+    p.rows != 0 && p.slot != 0
 }

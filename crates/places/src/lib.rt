@@ -3,7 +3,7 @@
 #![tactic(auto)]
 
 ghost use Rattle.std.specs.Prelude.{◌≡◌};
-ghost use Rattle.places.specs.Places.{fresh_record, cover_of, place_of, count_fits, names, place_named, first_unused};
+ghost use Rattle.places.specs.Places.{fresh_record, cover_of, end_of, place_of, count_fits, names, place_named, first_unused};
 
 use settings::Settings;
 
@@ -94,6 +94,13 @@ pub fn cover_of(count: u32, size: u16) -> usize
     ensures { result ≡ cover_of count size }
 {
     count as usize * (size as usize + 2)
+}
+
+// Where the bytes of a place end.
+pub fn end_of(p: Place) -> usize
+    ensures { result ≡ end_of p }
+{
+    p.start as usize + cover_of(p.count, p.slot)
 }
 
 // Whether a file may have this many packets.

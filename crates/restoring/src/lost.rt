@@ -12,10 +12,8 @@ fn sum_of(row: &[u8]) -> u8
     ensures { result ≡ value row.now 1 }
 {
     let mut acc: u8 = 0;
-    let mut i: usize = 0;
-    while i < row.len() {
-        acc = acc ^ row[i];
-        i += 1;
+    for b in row {
+        acc ^= *b;
     }
     acc
 }
@@ -64,10 +62,8 @@ fn put_lost(
     requires { (lost ≤ 16) × ((k : ℕ) → k < lost → get_or at k 0 < 255) × (m ≤ 255) × (base < 2 ^ 32) × (n ≤ length out.old) }
     ensures { out.new ≡ put_columns m n base at values lost out.old }
 {
-    let mut k: usize = 0;
-    while k < lost {
+    for k in 0..lost {
         put_byte(at[k], values[k], m, base, n, out);
-        k += 1;
     }
 }
 
@@ -96,9 +92,7 @@ pub(crate) fn restore_rows(p: Place, store: &[u8], n: usize, out: &mut [u8])
 {
     let m = p.rows as usize;
     let rows = (m * words::over(n, 239 * m)) as u32;
-    let mut q: u32 = 0;
-    while q < rows {
+    for q in 0..rows {
         restore_row(p, store, q, n, out);
-        q += 1;
     }
 }

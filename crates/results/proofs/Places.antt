@@ -21,6 +21,9 @@ find_unused_one κs a r s d e p q = (equation p q, refl)
 pub cover_of_one : OneResult (ended_of _ places.cover_of.Kinds.ps places.cover_of.Kinds.r) places.cover_of.Reads.Learnt
 cover_of_one κs a r s d e p q = (equation p q, refl)
 
+pub end_of_one : OneResult (ended_of _ places.end_of.Kinds.ps places.end_of.Kinds.r) places.end_of.Reads.Learnt
+end_of_one κs a r s d e p q = (equation p q, refl)
+
 pub count_fits_one : OneResult (ended_of _ places.count_fits.Kinds.ps places.count_fits.Kinds.r) places.count_fits.Reads.Learnt
 count_fits_one κs a r s d e p q = (equation p q, refl)
 

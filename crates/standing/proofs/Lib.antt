@@ -1,4 +1,3 @@
-pub mod StandLaws
 pub mod SurveyLaws
 pub mod StatusLaws
 pub mod Apart

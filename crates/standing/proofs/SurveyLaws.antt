@@ -13,13 +13,12 @@ use Rattle.places.specs.Places.{end_of}
 use Rattle.contents.specs.Slots.{length_at}
 use Rattle.contents.specs.Contents.{Slot as Content, holding, bytes_at, slot_at, length_fits, contents, any_wrong, filled, lowest_empty, joined}
 use Rattle.contents.proofs.Bytes.{length-bytes}
-use Rattle.contents.proofs.Walks.{contents_from, walk_all, walk_step, walk_end}
-use Rattle.contents.proofs.Slots.{slot-holds, slot-wrong, fits-room}
+use Rattle.contents.proofs.Walks.{contents_from, walk_all, walk_step, walk_end, walk_on}
+use Rattle.contents.proofs.Slots.{slot-holds, slot-wrong, slot-within, fits-room}
 use Rattle.contents.proofs.Filled.{lowest-found}
 use Rattle.contents.proofs.Places.{length-contents}
 use Rattle.standing.specs.declared.Seen.{Seen}
 use Rattle.standing.specs.Survey.{before, seen_in, seen_of}
-use Rattle.standing.proofs.StandLaws.{Stands, stands_first, stands_next}
 use Rattle.std.specs.Prelude.{Option, Some, None}
 
 -- ---- what is seen
@@ -143,20 +142,20 @@ tally_few c d f e b k t = by t.lowest
     by (none x y z) = omega arith
     by (some x y z) = omega arith
 
--- ---- the pass: at slot k, which starts at at
-pub record Surveying (p : Place) (s : List ℕ) (at f e b k : ℕ) : Type 0 where
-  pub stands : Stands p at k
-  pub short : b ≤ at
+-- ---- the pass, at slot k
+pub record Surveying (p : Place) (s : List ℕ) (f e b k : ℕ) : Type 0 where
+  pub within : k ≤ p.count
+  pub short : b ≤ slot_at p k
   pub tally : Tally (contents p s) (contents_from p s k) f e b k
 
-pub surveying_first : (p : Place) (s : List ℕ) → Surveying p s p.start 0 0 0 0
+pub surveying_first : (p : Place) (s : List ℕ) → Surveying p s 0 0 0 0
 surveying_first p s = record {
-  stands = stands_first p;
+  within = omega arith;
   short = omega arith;
   tally = rw (walk_all p s) (tally_first (contents p s));
 }
 
-module _ (p : Place) (s : List ℕ) (at f e b k : ℕ) (v : Surveying p s at f e b k) where
+module _ (p : Place) (s : List ℕ) (f e b k : ℕ) (v : Surveying p s f e b k) where
   pub surveying_few : f ≤ k
   surveying_few = tally_few _ _ _ _ _ _ v.tally
 
@@ -167,34 +166,32 @@ module _ (p : Place) (s : List ℕ) (at f e b k : ℕ) (v : Surveying p s at f e
       by t = seen_sound (contents p s) f e b (sym t.right) (omega (arith, t.count)) (lowest t.lowest) (omega (arith, t.total))
         where
           all : k ≡ length (contents p s)
-          all = omega (arith, v.stands.within, length-contents p s)
+          all = omega (arith, v.within, length-contents p s)
 
           lowest : Lowest (contents p s) [] f e k → e ≡ before (lowest_empty (contents p s) 0) (length (contents p s))
           lowest (none x y z) = y ∙ all ∙ ap (λ (o : Option ℕ). before o (length (contents p s))) z
           lowest (some x y z) = ap (λ (o : Option ℕ). before o (length (contents p s))) (sym z)
 
-  module _ (h : k < p.count) (n : ℕ) (l : n ≡ length_at s at) where
-    length-here : length_at s (slot_at p k) ≡ n
-    length-here = ap (length_at s) (sym v.stands.place) ∙ sym l
-
+  module _ (h : k < p.count) (n : ℕ) (l : n ≡ length_at s (slot_at p k)) where
     pub surveying_wrong : end_of p ≤ length s → length_fits p n ≡ false → None ≡ seen_of p s
     surveying_wrong i w =
         seen_wrong (contents p s)
         (sym v.tally.right
-        ∙ ap any_wrong (walk_step p s k h ∙ ap (λ (y : Content). y ∷ contents_from p s (k + 1)) (slot-wrong p s k (rw length-here w))))
+        ∙ ap any_wrong (walk_step p s k h ∙ ap (λ (y : Content). y ∷ contents_from p s (k + 1)) (slot-wrong p s k (rw (sym l) w))))
         ∙ seen_inside p s i
 
     module _ (w : length_fits p n ≡ true) where
-      pub surveying_room : n ≤ p.slot
-      surveying_room = fits-room p n w
+      -- no number of bytes passes a word
+      pub surveying_room : end_of p ≤ length s → b + n ≤ length s
+      surveying_room i = omega (arith, v.short, fits-room p n w, (slot-within p k h).1)
 
-      pub surveying_next : (g o : ℕ) → More f n g → Lead e k g o → Surveying p s (at + (p.slot + 2)) g o (b + n) (k + 1)
+      pub surveying_next : (g o : ℕ) → More f n g → Lead e k g o → Surveying p s g o (b + n) (k + 1)
       surveying_next g o m q =
           let x : List ℕ = bytes_at s (slot_at p k + 2) n in
           let d : contents_from p s k ≡ holding x ∷ contents_from p s (k + 1) =
-          walk_step p s k h ∙ ap (λ (y : Content). y ∷ contents_from p s (k + 1)) (slot-holds p s k n length-here w) in
+          walk_step p s k h ∙ ap (λ (y : Content). y ∷ contents_from p s (k + 1)) (slot-holds p s k n (sym l) w) in
           record {
-            stands = stands_next p at k v.stands h;
-            short = omega (arith, v.short, surveying_room);
+            within = omega arith;
+            short = omega (arith, v.short, fits-room p n w, walk_on p k);
             tally = tally_next (contents p s) (contents_from p s (k + 1)) f e k n g o x (length-bytes s (slot_at p k + 2) n) b (rw d at v.tally) m q;
           }

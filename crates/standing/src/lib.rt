@@ -32,30 +32,25 @@ pub struct Standing {
 pub fn survey(p: Place, store: &[u8]) -> Option<Seen>
     ensures { result ≡ seen_of p store.now }
 {
-    let width = p.slot as usize + 2;
-    let mut at = p.start as usize;
-    let end = at + places::cover_of(p.count, p.slot);
-    if store.len() < end {
+    if store.len() < places::end_of(p) {
         return None;
     }
+    let width = p.slot as usize + 2;
     let mut filled: u32 = 0;
     let mut empty: u32 = 0;
     let mut bytes: usize = 0;
-    let mut k: u32 = 0;
-    while at < end {
-        let n = contents::slot_length(store, at);
+    for k in 0..p.count {
+        let n = contents::slot_length(store, p.start as usize + k as usize * width);
         if !contents::length_fits(p, n) {
             return None;
         }
         if n != 0 {
             filled += 1;
         }
-        k += 1;
-        if filled == k {
-            empty = k;
+        if filled == k + 1 {
+            empty = filled;
         }
         bytes += n;
-        at += width;
     }
     Some(Seen {
         filled,

@@ -36,21 +36,6 @@ fn columns_within(m: usize, q: usize, n: usize) -> usize
     (n - start - 1) / m + 1
 }
 
-// Whether the information bytes of a row from `from` on are 0.
-fn is_zero(row: [u8; 255], from: usize) -> bool
-    requires { from ≤ 239 }
-    ensures { result ≡ all_zero (bytes_at row from (239 - from)) }
-{
-    let mut i = from;
-    while i < 239 {
-        if row[i] != 0 {
-            return false;
-        }
-        i += 1;
-    }
-    true
-}
-
 // Whether row `q`, once it is restored, holds 0 wherever it reaches beyond a file of `n` bytes. Few rows do.
 fn row_ends(row: [u8; 255], e: &Errata, m: usize, q: usize, n: usize) -> bool
     requires { (0 < m) × (m ≤ 255) × (q * 255 < 2 ^ 63) }
@@ -60,7 +45,7 @@ fn row_ends(row: [u8; 255], e: &Errata, m: usize, q: usize, n: usize) -> bool
     if k == 239 {
         return true;
     }
-    is_zero(e.added_to(row), k)
+    e.added_to(row)[k..239].iter().all(|b| *b == 0)
 }
 
 // What is wrong with row `q`: 1 where it lacks more than sixteen bytes, 2 where its known bytes fit no coded row, 3 where it is not 0 beyond the file's end; 0 where
@@ -92,8 +77,7 @@ pub(crate) fn judge(p: Place, store: &[u8], n: usize, rows: u32) -> Judged
 {
     let mut coded = true;
     let mut clear = true;
-    let mut q: u32 = 0;
-    while q < rows {
+    for q in 0..rows {
         let fault = fault_of(p, store, n, q);
         if fault == 1 {
             return Judged {
@@ -104,7 +88,6 @@ pub(crate) fn judge(p: Place, store: &[u8], n: usize, rows: u32) -> Judged
         }
         coded = coded & (fault != 2);
         clear = clear & (fault != 3);
-        q += 1;
     }
     Judged {
         lacks: rows,

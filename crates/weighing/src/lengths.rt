@@ -3,24 +3,10 @@ ghost use Rattle.std.specs.Prelude.{◌≡◌, not, ◌&&◌, ◌*◌, ◌≤◌
 ghost use Rattle.layout.specs.Layout.{tables_of};
 ghost use Rattle.places.specs.Room.{lowest_from};
 ghost use Rattle.contents.specs.Contents.{contents};
-ghost use Rattle.losses.specs.Losses.{tabled};
 ghost use Rattle.columns.specs.Columns.{sent_length, length_serves, misfits};
 ghost use Rattle.columns.specs.InnerJudge.{Serving, is_nothing};
 
 use places::Place;
-
-// Whether a place lies in a store of `size` bytes, and has rows in a table and bytes in a slot.
-pub(crate) fn is_tabled(p: Place, size: usize) -> bool
-    ensures { result ≡ tabled p size }
-{
-    if size < p.start as usize + places::cover_of(p.count, p.slot) {
-        return false;
-    }
-    if p.rows == 0 {
-        return false;
-    }
-    p.slot != 0
-}
 
 // How many rows the tables of a file of `n` bytes have, `m` in each table.
 pub(crate) fn rows_of(m: u8, n: usize) -> u32
@@ -59,17 +45,14 @@ pub(crate) fn lengths_fit(p: Place, store: &[u8], n: usize) -> bool
     ensures { result ≡ is_nothing (lowest_from (misfits p.slot (sent_length p.rows n) (contents p store.now)) 0 p.count) }
 {
     let size = p.slot as usize;
-    let mut at = p.start as usize;
     let mut left = 255 * (rows_of(p.rows, n) as usize);
-    let mut k: u32 = 0;
-    while k < p.count {
+    for k in 0..p.count {
+        let at = p.start as usize + k as usize * (size + 2);
         let full = words::lesser(size, left);
         if differs(contents::slot_length(store, at), full) {
             return false;
         }
         left -= full;
-        at += size + 2;
-        k += 1;
     }
     true
 }

@@ -16,7 +16,7 @@ mod lengths;
 pub fn weigh(p: Place, store: &[u8], n: usize) -> Result<(), Refusal>
     ensures { result ≡ weighed_of p store.now n }
 {
-    if !lengths::is_tabled(p, store.len()) {
+    if !losses::is_tabled(p, store.len()) {
         return Err(Refusal::Record);
     }
     standing::survey(p, store).ok_or(Refusal::Slot)?;

@@ -2,15 +2,11 @@
 -- Assumes nothing.
 use mathlib.Core.Bool.{true}
 use mathlib.Core.Path.{◌≡◌, sym, ◌∙◌}
-use native.Mathlib.Omega.{arith}
 use lib.ListN.{length}
 use Rattle.handing.specs.Hand.{usable_in}
 use Rattle.columns.proofs.HandLaws.{comes_from}
 use Rattle.handing.proofs.HandCases.{usable-known, place_columns, place-refused, place-usable}
 use Rattle.handing.proofs.hand_place.Goals as goal
-
-pub shape_of-out-then-p-eq1 : goal.shape_of-out-then-p-eq1
-shape_of-out-then-p-eq1 c = omega arith
 
 pub returns-then-p-eq1 : goal.returns-then-p-eq1
 returns-then-p-eq1 c = comes_from (place_columns _ _ _ _ c.if-p-eq1.true) c.hand_columns.ensures
@@ -22,9 +18,6 @@ pub hand_usable-requires : goal.hand_usable-requires
 hand_usable-requires c =
     let usable : usable_in c.args.p (length c.args.store.now) ≡ true = sym c.is_usable.ensures ∙ c.if-not-is_usable.false in
     usable-known _ _ usable
-
-pub shape_of-out : goal.shape_of-out
-shape_of-out c = omega arith
 
 pub returns : goal.returns
 returns c =

@@ -1,43 +1,22 @@
--- The place's end and order, and whether it has rows where it has protection.
+-- The tests are those of the definition.
 -- Assumes nothing.
-use mathlib.Core.Path.{◌≡◌, ap}
-use Prim.Native.Nat.{ℕ, ◌+◌, ◌≤◌, ◌^◌}
-use native.Mathlib.Nat.{mul-le-mul}
-use native.Mathlib.Omega.{arith}
-use Rattle.places.specs.Places.{end_of}
-use Rattle.handing.proofs.HandCases.{usable_far, usable-ordered, usable-plain, usable-rows}
+use Rattle.std.proofs.Common.{arith}
+use Rattle.std.proofs.lemmas.Bool.Decides.{nat_tests}
+use Rattle.handing.specs.Hand.{usable_in}
 use Rattle.handing.proofs.is_usable.Goals as goal
 
-pub overflow_cast-p : goal.overflow_cast-p
-overflow_cast-p c = omega arith
-
-pub overflow_add-p : goal.overflow_add-p
-overflow_add-p c =
-    let p = c.args.p in
-    let a : p.count ≤ 2 ^ 32 = omega arith in
-    let b : p.slot + 2 ≤ 2 ^ 17 = omega arith in
-    omega (arith, c.cover_of.ensures, mul-le-mul a b)
-
-pub returns-then-size-p : goal.returns-then-size-p
-unfolding end_of
-returns-then-size-p c =
-    let ends : c.args.p.start + c.cover_of.result ≡ end_of c.args.p = ap (λ (x : ℕ). c.args.p.start + x) c.cover_of.ensures in
-    usable_far _ _ (omega (arith, ends))
+pub returns-then-size-end_of : goal.returns-then-size-end_of
+unfolding usable_in
+returns-then-size-end_of c = grind (arith, nat_tests)
 
 pub returns-then-p-ne0 : goal.returns-then-p-ne0
-unfolding end_of
-returns-then-p-ne0 c =
-    let ends : c.args.p.start + c.cover_of.result ≡ end_of c.args.p = ap (λ (x : ℕ). c.args.p.start + x) c.cover_of.ensures in
-    usable-ordered _ _ (omega (arith, ends)) c.if-p-ne0.true
+unfolding usable_in
+returns-then-p-ne0 c = grind (arith, nat_tests)
 
 pub returns-then-p-eq0 : goal.returns-then-p-eq0
-unfolding end_of
-returns-then-p-eq0 c =
-    let ends : c.args.p.start + c.cover_of.result ≡ end_of c.args.p = ap (λ (x : ℕ). c.args.p.start + x) c.cover_of.ensures in
-    usable-plain _ _ (omega (arith, ends)) c.if-p-ne0.false c.if-p-eq0.true
+unfolding usable_in
+returns-then-p-eq0 c = grind (arith, nat_tests)
 
-pub returns : goal.returns
-unfolding end_of
-returns c =
-    let ends : c.args.p.start + c.cover_of.result ≡ end_of c.args.p = ap (λ (x : ℕ). c.args.p.start + x) c.cover_of.ensures in
-    usable-rows _ _ (omega (arith, ends)) c.if-p-ne0.false c.if-p-eq0.false
+pub returns-else-p-eq0 : goal.returns-else-p-eq0
+unfolding usable_in
+returns-else-p-eq0 c = grind (arith, nat_tests)

@@ -70,6 +70,3 @@ weigh_rows-requires c =
     let l = serving in
     let f = sym c.lengths_fit.ensures ∙ c.if-not-lengths_fit.false in
     (shaped _ _ _ [] t w l f, columns_shaped _ _ _ _ t w l f)
-
-pub returns : goal.returns
-returns c = c.weigh_rows.ensures

@@ -10,12 +10,6 @@ use Rattle.weighing.specs.Inner.{Judges}
 use Rattle.weighing.proofs.WeighLaws.{weighed_lost, weighed_code, weighed_padding, weighed_clear}
 use Rattle.weighing.proofs.weigh_rows.Goals as goal
 
-pub rows_of-rows-requires : goal.rows_of-rows-requires
-rows_of-rows-requires c = let g = c.requires.0.serving in (g.place.rows, g.most)
-
-pub judge-judged-requires : goal.judge-judged-requires
-judge-judged-requires c = c.requires.0.serving.place
-
 pub returns-then-lacks-rows : goal.returns-then-lacks-rows
 returns-then-lacks-rows c =
     let judges : Judges c.args.p.rows c.args.p.slot (contents c.args.p c.args.store.now) c.args.n

@@ -1,34 +1,15 @@
 -- The refusals 22, 23, 24 and 26 are ruled out in this order; then the rows laid where they belong are the file.
 use mathlib.Core.Path.{sym, ap, ◌∙◌}
 use Prim.Native.Nat.{ℕ, ◌/◌}
-use native.Mathlib.Omega.{arith}
-use Rattle.layout.proofs.Spans.{start_most}
 use Rattle.handing.proofs.HandCases.{rows_shape, rows-size, rows_padding, rows-output, rows-file}
 use Rattle.handing.proofs.hand.hand_rows.Goals as goal
-
-pub overflow_cast-m : goal.overflow_cast-m
-overflow_cast-m c = omega arith
-
-pub nonzero_rem-rows : goal.nonzero_rem-rows
-nonzero_rem-rows c = c.requires.0.least
 
 pub returns-then-rows-m-ne0 : goal.returns-then-rows-m-ne0
 returns-then-rows-m-ne0 c = rows_shape _ _ _ _ _ (ap (λ (x : ℕ). x / 255) c.requires.1) c.if-rows-m-ne0.true
 
-pub nonzero_div-rows-2 : goal.nonzero_div-rows-2
-nonzero_div-rows-2 c = c.requires.0.least
-
-pub needs_tables-requires : goal.needs_tables-requires
-needs_tables-requires c =
-    let a = c.args in
-    (c.requires.0.least, omega arith, omega (arith, start_most a.p.rows (a.bytes / 255)))
-
 pub returns-then-not-needs_tables : goal.returns-then-not-needs_tables
 returns-then-not-needs_tables c =
     rows-size _ _ _ _ _ (ap (λ (x : ℕ). x / 255) c.requires.1) c.if-rows-m-ne0.false (sym c.needs_tables.ensures ∙ c.if-not-needs_tables.true)
-
-pub padding_ends-requires : goal.padding_ends-requires
-padding_ends-requires c = c.requires.0
 
 pub returns-then-not-padding_ends : goal.returns-then-not-padding_ends
 returns-then-not-padding_ends c =
@@ -40,12 +21,6 @@ returns-then-out-n c =
     rows-output _ _ _ _ _ (ap (λ (x : ℕ). x / 255) c.requires.1) c.if-rows-m-ne0.false
     (sym c.needs_tables.ensures ∙ c.if-not-needs_tables.false) c.requires.0.least _ (c.if-not-padding_ends.false) c.padding_ends.ensures
     c.if-out-n.true
-
-pub write_rows-requires : goal.write_rows-requires
-write_rows-requires c = (c.requires.0, c.if-out-n.false)
-
-pub shape_of-out : goal.shape_of-out
-shape_of-out c = omega arith
 
 pub returns : goal.returns
 returns c =

@@ -36,9 +36,6 @@ hand_rows-requires c =
     let d = c.if-p-ne0.true in
     (record { filled = record { ends = u.ends; right = t.right }; protected = d; by_rows = u.by_rows; least = u.rows d }, t.bytes)
 
-pub shape_of-out-then-p-ne0 : goal.shape_of-out-then-p-ne0
-shape_of-out-then-p-ne0 c = omega arith
-
 pub returns-then-p-ne0 : goal.returns-then-p-ne0
 returns-then-p-ne0 c =
     let some : c.survey.result ≡ Some c.in_ok-seen.seen = grind arith in
@@ -73,9 +70,6 @@ write_plain-requires c =
     let tallied : Tallied c.args.p (contents c.args.p c.args.store.now) c.in_ok-seen.seen = seen_right _ _ c.requires.ends _ _ c.survey.ensures some in
     let t = tallied in
     (record { ends = c.requires.ends; right = t.right }, omega (arith, t.bytes, c.if-out-bytes.false))
-
-pub shape_of-out : goal.shape_of-out
-shape_of-out c = omega arith
 
 pub returns : goal.returns
 returns c =

@@ -1,51 +1,39 @@
--- One row a turn, to the first that holds another byte than 0 beyond the file's end. Invariant, `Clearing`: the j rows before hold 0 there. The measure is how
--- many rows are left.
-use mathlib.Core.Path.{sym, ◌∙◌}
+-- What each row adds, by whether it holds another byte than 0 beyond the file's end.
+use mathlib.Core.Path.{◌≡◌, sym, ◌∙◌}
+use mathlib.Core.Bool.{true, false}
+use mathlib.Core.List.{List}
+use Prim.Native.Nat.{ℕ, ◌+◌, ◌*◌, ◌-◌}
 use native.Mathlib.Omega.{arith}
-use borrow.Author.Count.{falls}
-use Rattle.handing.proofs.TableLaws.{one_on}
-use Rattle.handing.proofs.RowLaws.{clearing_first, clearing_end, clearing_next, clearing_not}
+use lib.Dec.{eqb}
+use lib.ListN.{take, drop}
+use Rattle.std.proofs.Common.{rules, tests}
+use Rattle.std.proofs.lemmas.Iterator.{YieldsList-from_slice}
+use Rattle.std.proofs.lemmas.Iterator.Search.{all_from_yields_List}
+use Rattle.contents.specs.Contents.{bytes_at}
+use Rattle.columns.specs.Handing.{all_zero}
+use Rattle.columns.proofs.ZeroLaws.{zero_at}
+use Rattle.handing.proofs.RowLaws.{clearing_end, clearing_next, clearing_not}
 use Rattle.handing.proofs.tables.rows_end.Goals as goal
 
-pub loop-j-init : goal.loop-j-init
-loop-j-init c = clearing_first _ _ _ _ _ _
-
-pub overflow_add-q : goal.overflow_add-q
-overflow_add-q c = omega (arith, c.requires.below)
-
-pub row_span-k-requires : goal.row_span-k-requires
-row_span-k-requires c = let r = c.requires in (r.some, r.few, omega (arith, r.below))
-
-pub overflow_mul-a : goal.overflow_mul-a
-overflow_mul-a c = omega (arith, c.requires.inside)
-
-pub overflow_add-a : goal.overflow_add-a
-overflow_add-a c = omega (arith, c.requires.inside)
-
-pub overflow_add-a-in-loop-j : goal.overflow_add-a-in-loop-j
-overflow_add-a-in-loop-j c = omega (arith, c.requires.inside, c.row_span-k.ensures.1.within)
-
-pub overflow_add-a-in-loop-j-2 : goal.overflow_add-a-in-loop-j-2
-overflow_add-a-in-loop-j-2 c = omega (arith, c.requires.inside)
-
-pub is_zero-requires : goal.is_zero-requires
-is_zero-requires c = (omega (arith, c.row_span-k.ensures.1.within), omega (arith, c.requires.inside))
-
-pub returns-then-not-is_zero : goal.returns-then-not-is_zero
-returns-then-not-is_zero c =
+pub returns-then-not-all : goal.returns-then-not-all
+returns-then-not-all c =
+    let s : List ℕ = c.args.store.now in
+    let from : ℕ = c.args.at + c.loop-j.j * 255 + c.row_span-k.result.count in
+    let to : ℕ = c.args.at + c.loop-j.j * 255 + 239 in
     let e = c.row_span-k.ensures in
-    clearing_not _ _ _ _ _ _ _ c.loop-j.invariant c.loop-j-test.true _ _ e.0 e.1 (sym c.is_zero.ensures ∙ c.if-not-is_zero.true)
-
-pub overflow_add-j : goal.overflow_add-j
-overflow_add-j c = one_on _ _ _ c.ranges.count c.loop-j-test.true
-
-pub loop-j-smaller : goal.loop-j-smaller
-loop-j-smaller c = falls _ _ c.loop-j-test.true
+    let told = all_from_yields_List (λ x. eqb x 0) _ _ _ c.all.ensures.ran (YieldsList-from_slice (take (to - from) (drop from s)) cc) (λ x b q k. search (rules, tests)) in
+    let zero : all_zero (bytes_at s from (to - from)) ≡ false = sym (told ∙ zero_at s from to (omega (arith, e.1.within)) (omega (arith, c.requires.inside))) ∙ c.if-not-all.true in
+    clearing_not _ _ _ _ _ _ _ c.loop-j.invariant c.loop-j-test.true _ _ e.0 e.1 zero
 
 pub loop-j-preserved : goal.loop-j-preserved
 loop-j-preserved c =
+    let s : List ℕ = c.args.store.now in
+    let from : ℕ = c.args.at + c.loop-j.j * 255 + c.row_span-k.result.count in
+    let to : ℕ = c.args.at + c.loop-j.j * 255 + 239 in
     let e = c.row_span-k.ensures in
-    clearing_next _ _ _ _ _ _ _ c.loop-j.invariant c.loop-j-test.true _ _ e.0 e.1 (sym c.is_zero.ensures ∙ c.if-not-is_zero.false)
+    let told = all_from_yields_List (λ x. eqb x 0) _ _ _ c.all.ensures.ran (YieldsList-from_slice (take (to - from) (drop from s)) cc) (λ x b q k. search (rules, tests)) in
+    let zero : all_zero (bytes_at s from (to - from)) ≡ true = sym (told ∙ zero_at s from to (omega (arith, e.1.within)) (omega (arith, c.requires.inside))) ∙ c.if-not-all.false in
+    clearing_next _ _ _ _ _ _ _ c.loop-j.invariant c.loop-j-test.true _ _ e.0 e.1 zero
 
 pub returns : goal.returns
 returns c = clearing_end _ _ _ _ _ _ _ c.loop-j.invariant c.loop-j-test.false

@@ -6,14 +6,5 @@ use Rattle.losses.proofs.runs.note.Goals as goal
 pub returns-then-lost-ge16 : goal.returns-then-lost-ge16
 returns-then-lost-ge16 c = one_full _ _ _ c.requires.0 c.if-lost-ge16.true
 
-pub overflow_sub-at : goal.overflow_sub-at
-overflow_sub-at c = omega arith
-
-pub overflow_cast-at : goal.overflow_cast-at
-overflow_cast-at c = omega arith
-
-pub bounds-at-lost : goal.bounds-at-lost
-bounds-at-lost c = omega arith
-
 pub returns : goal.returns
 returns c = one_more _ _ _ c.requires.0 (omega arith)

@@ -2,37 +2,20 @@
 -- Assumes nothing.
 use mathlib.Core.Path.{◌≡◌, ap, subst, ◌∙◌}
 use Prim.Native.Nat.{ℕ, ◌+◌, ◌-◌, ◌*◌, ◌≤◌, ◌<◌}
-use native.Mathlib.Nat.{mul-le-mul}
 use native.Mathlib.Omega.{arith}
 use lib.ListN.{set}
 use Rattle.columns.proofs.Putting.{put_check, put-beyond, put-here}
 use Rattle.restoring.proofs.lost.put_byte.Goals as goal
 
--- the column's place in the file is no large number
-small : (c m : ℕ) → c < 239 → m ≤ 255 → c * m ≤ 239 * 255
-small c m h l = let b : c ≤ 239 = omega arith in mul-le-mul b l
-
-pub overflow_sub-c : goal.overflow_sub-c
-overflow_sub-c c = omega (arith, c.index-c.ensures.0, c.requires.0)
-
 pub returns-then-c-ge239 : goal.returns-then-c-ge239
 returns-then-c-ge239 c =
     put_check c.args.m c.args.n c.args.base c.args.out.now (254 - c.args.a) c.args.v (omega (arith, c.index-c.ensures.0, c.if-c-ge239.true))
-
-pub overflow_mul-to : goal.overflow_mul-to
-overflow_mul-to c = omega (arith, small (254 - c.index-c.result) c.args.m c.if-c-ge239.false c.requires.1)
-
-pub overflow_add-to : goal.overflow_add-to
-overflow_add-to c = omega (arith, small (254 - c.index-c.result) c.args.m c.if-c-ge239.false c.requires.1, c.requires.2)
 
 pub returns-then-n-to : goal.returns-then-n-to
 returns-then-n-to c =
     let e : c.index-c.result ≡ c.args.a = c.index-c.ensures.0 in
     put-beyond c.args.m c.args.n c.args.base c.args.out.now (254 - c.args.a) c.args.v (subst (λ (x : ℕ). 254 - x < 239) e c.if-c-ge239.false)
     (subst (λ (x : ℕ). c.args.n ≤ c.args.base + (254 - x) * c.args.m) e c.if-n-to.true)
-
-pub bounds-out-to : goal.bounds-out-to
-bounds-out-to c = omega (arith, c.requires.3, c.if-n-to.false)
 
 pub returns : goal.returns
 returns c =

@@ -2,33 +2,13 @@
 -- Assumes nothing.
 use native.Mathlib.Omega.{arith}
 use Rattle.layout.proofs.Spans.{start_is}
-use Rattle.columns.proofs.Standings.{start_few, base_few}
+use Rattle.columns.proofs.Standings.{base_few}
 use Rattle.columns.proofs.Recovering.{came_few, came_below, row-whole, row_done}
 use Rattle.restoring.proofs.lost.restore_row.Goals as goal
 
 pub returns-then-lost-eq0 : goal.returns-then-lost-eq0
 returns-then-lost-eq0 c =
     row-whole c.args.p c.args.store.now c.args.n c.requires.0 c.args.q c.requires.1 c.gather-came.result c.gather-came.ensures c.if-lost-eq0.true c.args.out.now
-
-pub overflow_cast-m : goal.overflow_cast-m
-overflow_cast-m c = omega arith
-
-pub nonzero_div-base : goal.nonzero_div-base
-nonzero_div-base c = omega (arith, c.requires.0.rows)
-
-pub overflow_mul-base : goal.overflow_mul-base
-overflow_mul-base c = omega arith
-
-pub overflow_mul-base-2 : goal.overflow_mul-base-2
-overflow_mul-base-2 c =
-    omega (arith, start_few c.args.p.rows c.args.n c.requires.0.rows c.args.q c.requires.1, c.requires.0.most)
-
-pub nonzero_rem-base : goal.nonzero_rem-base
-nonzero_rem-base c = omega (arith, c.requires.0.rows)
-
-pub overflow_add-base : goal.overflow_add-base
-overflow_add-base c =
-    omega (arith, base_few c.args.p.rows c.args.n c.requires.0.rows c.args.q c.requires.0.rows-most c.requires.1, c.requires.0.most)
 
 pub put_lost-requires : goal.put_lost-requires
 put_lost-requires c =

@@ -7,15 +7,6 @@ use Rattle.contents.specs.Contents.{slot_at}
 use Rattle.columns.proofs.Coming.{copied_none, copied_some}
 use Rattle.restoring.proofs.write.copy_chunk.Goals as goal
 
-pub overflow_cast-at : goal.overflow_cast-at
-overflow_cast-at c = omega arith
-
-pub overflow_cast-at-2 : goal.overflow_cast-at-2
-overflow_cast-at-2 c = omega arith
-
-pub overflow_add-at : goal.overflow_add-at
-overflow_add-at c = omega arith
-
 pub overflow_mul-at : goal.overflow_mul-at
 unfolding slot_at
 overflow_mul-at c =
@@ -32,38 +23,11 @@ pub returns-then-slot_length-eq0 : goal.returns-then-slot_length-eq0
 unfolding slot_at
 returns-then-slot_length-eq0 c = copied_none _ _ _ _ _ _ _ c.slot_length.ensures c.if-slot_length-eq0.true
 
-pub overflow_add-first : goal.overflow_add-first
-unfolding slot_at
-overflow_add-first c =
-    let within : c.args.p.start + c.args.c.slot * (c.args.p.slot + 2) + 2 + c.args.c.from + c.args.c.len ≤ length c.args.store.now = c.requires in
-    omega (arith, within)
-
-pub overflow_add-first-2 : goal.overflow_add-first-2
-unfolding slot_at
-overflow_add-first-2 c =
-    let within : c.args.p.start + c.args.c.slot * (c.args.p.slot + 2) + 2 + c.args.c.from + c.args.c.len ≤ length c.args.store.now = c.requires in
-    omega (arith, within)
-
-pub overflow_add-first-3 : goal.overflow_add-first-3
-unfolding slot_at
-overflow_add-first-3 c =
-    let within : c.args.p.start + c.args.c.slot * (c.args.p.slot + 2) + 2 + c.args.c.from + c.args.c.len ≤ length c.args.store.now = c.requires in
-    omega (arith, within)
-
-pub slice_bounds-copy_in-count : goal.slice_bounds-copy_in-count
-slice_bounds-copy_in-count c = omega arith
-
-pub slice_bounds-copy_in-start : goal.slice_bounds-copy_in-start
-slice_bounds-copy_in-start c = omega arith
-
 pub slice_bounds-copy_in-end : goal.slice_bounds-copy_in-end
 unfolding slot_at
 slice_bounds-copy_in-end c =
     let within : c.args.p.start + c.args.c.slot * (c.args.p.slot + 2) + 2 + c.args.c.from + c.args.c.len ≤ length c.args.store.now = c.requires in
     omega (arith, within)
-
-pub shape_of-out : goal.shape_of-out
-shape_of-out c = omega arith
 
 pub returns : goal.returns
 unfolding slot_at

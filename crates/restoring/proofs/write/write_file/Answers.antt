@@ -12,10 +12,6 @@ returns-then-seen-p c =
     known_written c.args.p c.args.store.now c.args.n c.requires.0 _ _ c.survey.ensures c.unwrap-seen.ensures c.if-seen-p.true
     c.args.out.now _ c.write_known.ensures c.requires.1
 
-pub restore_rows-requires : goal.restore_rows-requires
-restore_rows-requires c =
-    (c.requires.0, omega (arith, c.write_known.ensures.long, c.requires.1))
-
 pub returns : goal.returns
 returns c =
     both-written c.args.p c.args.store.now c.args.n c.requires.0 c.args.out.now _ _ c.write_known.ensures
