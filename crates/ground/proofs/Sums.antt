@@ -1,24 +1,14 @@
 -- The laws of the sum of two polynomials over the bits, and of a bit times a polynomial.
 -- Assumes nothing.
 use mathlib.Core.Path.{◌≡◌, refl, sym, ap, ap₂, ◌∙◌}
-use Prim.Native.Nat.{ℕ, zero, suc, ◌+◌, ◌*◌, ◌/◌, ◌%◌, ◌^◌, ◌<◌}
+use Prim.Native.Nat.{ℕ, zero, suc, ◌*◌, ◌/◌, ◌%◌, ◌^◌, ◌<◌}
 use native.Mathlib.Nat.{add-zero, mod-lt, zero-lt-suc}
 use native.Mathlib.Omega.{arith}
-use lib.Arith.{bin_ind}
 use lib.Pow.{pow_pos}
-use lib.Bits.{bit_xor, differ, xor_step, xor_comm, xor_self, xor_zero_r, xor_block, xor_shr, xor_mod, xor_lt}
+use lib.Bits.{bit_xor, differ, xor_assoc, xor_comm, xor_self, xor_zero_r, xor_block, xor_shr, xor_mod, xor_lt}
 use Rattle.ground.specs.Bits.{sum, keep}
 
 -- of two bits
-bit_assoc : (x y z : ℕ) → x < 2 → y < 2 → z < 2 → differ (differ x y) z ≡ differ x (differ y z)
-bit_assoc zero y z hx hy hz = refl
-bit_assoc (suc zero) zero z hx hy hz = refl
-bit_assoc (suc zero) (suc zero) zero hx hy hz = refl
-bit_assoc (suc zero) (suc zero) (suc zero) hx hy hz = refl
-bit_assoc (suc zero) (suc zero) (suc (suc z)) hx hy hz = omega arith
-bit_assoc (suc zero) (suc (suc y)) z hx hy hz = omega arith
-bit_assoc (suc (suc x)) y z hx hy hz = omega arith
-
 bit-xor : (x y : ℕ) → x < 2 → y < 2 → bit_xor x y ≡ differ x y
 bit-xor zero y hx hy = refl
 bit-xor (suc zero) zero hx hy = refl
@@ -31,19 +21,6 @@ odd_lt a = mod-lt a (zero-lt-suc 1)
 
 xor_odd : (a b : ℕ) → bit_xor a b % 2 ≡ differ (a % 2) (b % 2)
 xor_odd a b = xor_mod a b 1 ∙ bit-xor (a % 2) (b % 2) (odd_lt a) (odd_lt b)
-
-xor_half : (a b : ℕ) → bit_xor a b / 2 ≡ bit_xor (a / 2) (b / 2)
-xor_half a b = xor_shr a b 1
-
-xor_assoc : (a b c : ℕ) → bit_xor (bit_xor a b) c ≡ bit_xor a (bit_xor b c)
-xor_assoc =
-    bin_ind (λ (n : ℕ). (b c : ℕ) → bit_xor (bit_xor n b) c ≡ bit_xor n (bit_xor b c)) (λ b c. refl)
-    (λ n ih b c. xor_step (bit_xor n b) c
-    ∙ ap₂ (λ (x y : ℕ). x * 2 + y)
-    (ap (λ (x : ℕ). bit_xor x (c / 2)) (xor_half n b) ∙ ih (b / 2) (c / 2) ∙ ap (bit_xor (n / 2)) (sym (xor_half b c)))
-    (ap (λ (x : ℕ). differ x (c % 2)) (xor_odd n b) ∙ bit_assoc (n % 2) (b % 2) (c % 2) (odd_lt n) (odd_lt b) (odd_lt c)
-    ∙ ap (differ (n % 2)) (sym (xor_odd b c)))
-    ∙ sym (xor_step n (bit_xor b c)))
 
 pub sum_assoc : (a b c : ℕ) → sum (sum a b) c ≡ sum a (sum b c)
 unfolding sum
