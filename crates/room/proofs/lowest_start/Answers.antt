@@ -1,6 +1,4 @@
--- `room::lowest_start` meets its contract: 0 is the lowest start if it is free; if not, the lowest is the end of a place in use, and
--- the loop keeps the lowest free one of the ends that it passed, or a number past the end of the usable store.
--- Assumes nothing.
+-- What the search leaves of `lowest_start`, by the laws of `Named`, `Steps`, `Candidates` and `Facts`.
 use mathlib.Core.Path.{◌≡◌, sym}
 use native.Mathlib.Omega.{arith}
 use borrow.Author.Rules.{rules}
@@ -8,8 +6,7 @@ use lib.ListN.{length, get_or}
 use Rattle.places.specs.Places.{unused}
 use Rattle.places.proofs.Named.{not_in_use}
 use Rattle.places.proofs.Steps.{mapped_length}
-use Rattle.places.proofs.Candidates.{best_none, best_unused, best_lower, best_met, best_take, best_at, best_nowhere, lowest_zero, free_said}
-use Rattle.places.proofs.Facts.{usable-limit}
+use Rattle.places.proofs.Candidates.{best_unused, best_lower, best_met, best_take, best_at, best_nowhere, lowest_zero, free_said}
 use Rattle.room.proofs.lowest_start.Goals.{then-p-ne0+then-start-best+then-is_free-2, then-p-ne0+then-start-best+else-is_free-2, then-p-ne0+else-start-best, else-p-ne0}
 use Rattle.room.proofs.lowest_start.Goals as goal
 
@@ -17,27 +14,6 @@ pub returns-then-is_free : goal.returns-then-is_free
 returns-then-is_free c =
     let a = c.args in
     sym (lowest_zero a.n a.size a.held.places (free_said _ _ _ 0 _ c.usable-end.ensures c.is_free.ensures c.if-is_free.true))
-
-pub overflow_add-best : goal.overflow_add-best
-overflow_add-best c =
-    omega (arith, c.usable-end.ensures, usable-limit c.args.n)
-
-pub loop-i-init : goal.loop-i-init
-loop-i-init c =
-    let a = c.args in
-    rw c.usable-end.ensures (best_none a.n a.size a.held.places)
-
-pub offset_bounds-held-i : goal.offset_bounds-held-i
-offset_bounds-held-i c = omega arith
-
-pub bounds-held-i : goal.bounds-held-i
-bounds-held-i c = omega arith
-
-pub overflow_add-i : goal.overflow_add-i
-overflow_add-i c = omega arith
-
-pub loop-i-smaller : goal.loop-i-smaller
-loop-i-smaller c = omega arith
 
 pub loop-i-preserved : goal.loop-i-preserved
 loop-i-preserved c =

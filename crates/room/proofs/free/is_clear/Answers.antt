@@ -1,6 +1,5 @@
 -- `room::free::is_clear` meets its contract: it takes the definition's three tests in their order.
 -- Assumes nothing.
-use native.Mathlib.Omega.{arith}
 use borrow.Author.Tests.{eq-eqb, ne_eqb, le-leb, lt-leb}
 use Rattle.places.specs.Room.{clear}
 use Rattle.room.proofs.free.is_clear.Goals as goal
@@ -13,12 +12,6 @@ pub returns-then-end_of-s : goal.returns-then-end_of-s
 unfolding clear
 returns-then-end_of-s c =
     simp (ne_eqb _ _ c.if-p-eq0.false, le-leb _ _ (rw c.end_of.ensures at c.if-end_of-s.true))
-
-pub overflow_add-result : goal.overflow_add-result
-overflow_add-result c = omega arith
-
-pub overflow_cast-result : goal.overflow_cast-result
-overflow_cast-result c = omega arith
 
 pub returns : goal.returns
 unfolding clear

@@ -3,7 +3,6 @@
 -- Assumes nothing.
 use mathlib.Core.Path.{◌≡◌, sym, ◌∙◌}
 use mathlib.Core.Bool.{true}
-use native.Mathlib.Omega.{arith}
 use Rattle.places.specs.Places.{in_use, place_name}
 use Rattle.ground.proofs.Truth.{differ}
 use Rattle.places.proofs.Named.{use_not, in_use_lem, not_in_use, names-yes, names-name}
@@ -27,9 +26,6 @@ returns-then-holds c =
     let a = c.args in
     sym (agree_shared a.p a.q used_p used_q (sym (names-name a.q (place_name a.p) (sym c.holds.ensures ∙ c.if-holds.true))))
 
-pub overflow_cast-q : goal.overflow_cast-q
-overflow_cast-q c = omega arith
-
 pub returns-then-end_of-q : goal.returns-then-end_of-q
 returns-then-end_of-q c =
     let used_p : in_use c.args.p ≡ true = in_use_lem c.args.p c.if-p-eq0.false in
@@ -38,9 +34,6 @@ returns-then-end_of-q c =
     differ (sym (names-yes a.q (place_name a.p) (use_not a.p used_p) (sym e)) ∙ sym c.holds.ensures ∙ c.if-holds.false) in
     let a = c.args in
     sym (agree-before a.p a.q used_p used_q other (rw c.end_of.ensures at c.if-end_of-q.true))
-
-pub overflow_cast-result : goal.overflow_cast-result
-overflow_cast-result c = omega arith
 
 pub returns : goal.returns
 returns c =
