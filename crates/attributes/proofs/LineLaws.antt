@@ -9,7 +9,8 @@ use borrow.Author.Tests.{eqb-true, leb-true, eq-eqb, lt-ltb, le-leb}
 use lib.Dec.{eqb, leb, ltb}
 use lib.ListN.{length, get_or, take, drop, length-append, length-drop, get_or-append}
 use lib.Seq.{drop-drop, drop-append-add, get_or-append_seam, take_at}
-use Rattle.ground.proofs.Truth.{and_both, and_join}
+use Rattle.std.proofs.lemmas.Bool.{and_parts}
+use Rattle.ground.proofs.Truth.{and_join}
 use Rattle.slices.specs.Slices.{same}
 use Rattle.slices.proofs.SameLaws.{same_self}
 use Rattle.texts.specs.Breaks.{LF, CR, until_lf, unbroken}
@@ -123,7 +124,7 @@ first b s x m e = by (eqb b CR && starts_lf s) refl e
         goes (eqb-true b CR c) r (λ i. f i ∷ r) (cc) (cc)
 
     by : (c : Bool) → (eqb b CR && starts_lf s) ≡ c → cond c (plain s) (b ∷ plain s) ≡ x ∷ m → First b s x m
-    by true f e = let w = and_both (eqb b CR) (starts_lf s) f in gone w.0 s w.1 e
+    by true f e = let w = and_parts (eqb b CR) (starts_lf s) f in gone w.0 s w.1 e
     by false f e = stays (cc) (cc)
 
 none-plain : (l : List ℕ) → plain l ≡ [] → l ≡ []
@@ -138,7 +139,7 @@ none-plain (b ∷ s) e = absurd (by (eqb b CR && starts_lf s) refl e)
         omega arith
 
     by : (c : Bool) → (eqb b CR && starts_lf s) ≡ c → cond c (plain s) (b ∷ plain s) ≡ [] → ⊥
-    by true f e = ends s (and_both (eqb b CR) (starts_lf s) f).1 e
+    by true f e = ends s (and_parts (eqb b CR) (starts_lf s) f).1 e
     by false f e = let z : ◌≡◌ {A = ℕ} 0 1 = cc in omega arith
 
 -- p and the end of its line
@@ -229,7 +230,7 @@ lines_found t k [] at here u =
     let z : length (drop at t) ≡ 0 = ap length (none-plain (drop at t) here) in
     record { values = refl; within = λ i h. absurd (omega arith); end = omega (arith, length-drop at t) }
 lines_found t k (v ∷ vs) at here u =
-    let w = and_both (unbroken v) (all_unbroken vs) u in
+    let w = and_parts (unbroken v) (all_unbroken vs) u in
     let l = line-found t k at v (lines_text (suc k) vs) here w.0 in
     by l (lines_found t (suc k) vs (behind_line t at) l.follows w.1)
   where

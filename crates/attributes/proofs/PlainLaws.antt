@@ -9,7 +9,7 @@ use borrow.Author.Tests.{eqb-true, leb-true, ltb-true}
 use lib.Dec.{eqb, leb, ltb}
 use lib.ListN.{length, get_or, take, drop, take-append-drop}
 use lib.Seq.{drop-drop, take-suc}
-use Rattle.ground.proofs.Truth.{and_both}
+use Rattle.std.proofs.lemmas.Bool.{and_parts}
 use Rattle.slices.specs.Slices.{same}
 use Rattle.slices.proofs.SameLaws.{same_equal}
 use Rattle.texts.specs.Breaks.{LF, CR, until_lf, unbroken}
@@ -30,7 +30,7 @@ plain-behind (b ∷ v) s u =
 pub lines_own : (k : ℕ) (vs : List (List ℕ)) → all_unbroken vs ≡ true → plain (lines_text k vs) ≡ lines_text k vs
 lines_own k [] u = refl
 lines_own k (v ∷ vs) u =
-    let w = and_both (unbroken v) (all_unbroken vs) u in
+    let w = and_parts (unbroken v) (all_unbroken vs) u in
     plain-behind (label k) (v ++ (LF ∷ lines_text (suc k) vs)) (label-unbroken k)
     ∙ ap (λ (l : List ℕ). label k ++ l)
     (plain-behind v (LF ∷ lines_text (suc k) vs) w.0 ∙ ap (λ (l : List ℕ). v ++ (LF ∷ l)) (lines_own (suc k) vs w.1))
@@ -45,11 +45,11 @@ module _ (t : List ℕ) (k at : ℕ) (line : is_line t k at ≡ true) where
 
   labelled : drop at t ≡ label k ++ s
   labelled =
-      let e : take 3 (drop at t) ≡ label k = same_equal (take 3 (drop at t)) (label k) (and_both (same (take 3 (drop at t)) (label k)) (ltb (until_lf s) (length s)) line).0 in
+      let e : take 3 (drop at t) ≡ label k = same_equal (take 3 (drop at t)) (label k) (and_parts (same (take 3 (drop at t)) (label k)) (ltb (until_lf s) (length s)) line).0 in
       sym (take-append-drop 3 (drop at t)) ∙ ap₂ ◌++◌ e (drop-drop 3 at t)
 
   ended : until_lf s < length s
-  ended = ltb-true (until_lf s) (length s) (and_both (same (take 3 (drop at t)) (label k)) (ltb (until_lf s) (length s)) line).1
+  ended = ltb-true (until_lf s) (length s) (and_parts (same (take 3 (drop at t)) (label k)) (ltb (until_lf s) (length s)) line).1
 
   parted : s ≡ take (until_lf s) s ++ (LF ∷ rest)
   parted =
@@ -94,7 +94,7 @@ lines_plain t k (suc n) at e u = by (is_line t k at) refl e u (lines_plain t (su
         → plain (drop (behind_line t at) t) ≡ lines_text (suc k) (values_in t more.parts) ++ plain (drop more.next t))
         → plain (drop at t) ≡ lines_text k (values_in t (all c).parts) ++ plain (drop (all c).next t)
     by true l e u again =
-        let p = and_both (unbroken (part_of t (value_at t at))) (all_unbroken (values_in t more.parts)) u in
+        let p = and_parts (unbroken (part_of t (value_at t at))) (all_unbroken (values_in t more.parts)) u in
         line_plain t k at l p.0
         ∙ ap (λ (x : List ℕ). label k ++ (part_of t (value_at t at) ++ (LF ∷ x))) (again (omega arith) p.1)
         ∙ ap (λ (x : List ℕ). label k ++ x) (sym (append_assoc (part_of t (value_at t at)) (LF ∷ lines_text (suc k) (values_in t more.parts)) (plain (drop more.next t))))

@@ -9,8 +9,9 @@ use native.Mathlib.Omega.{arith}
 use borrow.Author.Tests.{eqb-true, eqb-false, leb-true, eq-eqb, ne_eqb, le-leb}
 use lib.Dec.{eqb, leb}
 use lib.ListN.{length, get_or}
+use Rattle.std.proofs.lemmas.Bool.{and_parts, or_cases}
 use Rattle.ground.specs.Ranges.{between}
-use Rattle.ground.proofs.Truth.{and_both, and_join, either, or_left, or_right}
+use Rattle.ground.proofs.Truth.{and_join, or_left, or_right}
 use Rattle.ground.proofs.RangeLaws.{between_bounds, bounds_between}
 use Rattle.slices.proofs.SameLaws.{same_equal}
 use Rattle.texts.specs.Utf8.{well_formed}
@@ -58,7 +59,7 @@ lowest_not (false ∷ bs) (suc i) e = absurd (omega arith)
 pub both-all : (xs ys : List Bool) (i : ℕ) → get_or (both xs ys) i false ≡ true → (get_or xs i false ≡ true) × (get_or ys i false ≡ true)
 both-all [] ys i e = absurd (true≢false (sym e))
 both-all (x ∷ xs) [] i e = absurd (true≢false (sym e))
-both-all (x ∷ xs) (y ∷ ys) zero e = and_both x y e
+both-all (x ∷ xs) (y ∷ ys) zero e = and_parts x y e
 both-all (x ∷ xs) (y ∷ ys) (suc i) e = both-all xs ys i e
 
 -- it is where the first of them stands that does not hold
@@ -86,14 +87,14 @@ not_given_lem t e =
     }
 
 time_fact : (t : Time) → time_fits t ≡ true → (t ≡ no_time) ⊎ RealTime t
-time_fact t e = by (either (not_given t) (real t) e)
+time_fact t e = by (or_cases (not_given t) (real t) e)
   where
     by : (not_given t ≡ true) ⊎ (real t ≡ true) → (t ≡ no_time) ⊎ RealTime t
     by (inl g) = inl (not_given_lem t g)
     by (inr r) = inr (real-range t r)
 
 order_fact : (a b : Time) → ordered a b ≡ true → (a ≡ no_time) ⊎ ((b ≡ no_time) ⊎ (not_after a b ≡ true))
-order_fact a b e = by (either (not_given a) (not_given b || not_after a b) e)
+order_fact a b e = by (or_cases (not_given a) (not_given b || not_after a b) e)
   where
     then : (not_given b ≡ true) ⊎ (not_after a b ≡ true) → (b ≡ no_time) ⊎ (not_after a b ≡ true)
     then (inl g) = inl (not_given_lem b g)
@@ -101,7 +102,7 @@ order_fact a b e = by (either (not_given a) (not_given b || not_after a b) e)
 
     by : (not_given a ≡ true) ⊎ ((not_given b || not_after a b) ≡ true) → (a ≡ no_time) ⊎ ((b ≡ no_time) ⊎ (not_after a b ≡ true))
     by (inl g) = inl (not_given_lem a g)
-    by (inr r) = inr (then (either (not_given b) (not_after a b) r))
+    by (inr r) = inr (then (or_cases (not_given b) (not_after a b) r))
 
 kind_fact : (c : Content) (mode : ℕ) → fits_mode c mode ≡ true → ((c ≡ File) × (mode ≡ 1)) ⊎ ((c ≡ Stream) × (mode ≡ 0))
 kind_fact File mode e = inl (refl, eqb-true mode 1 e)
@@ -142,7 +143,7 @@ module _ (a : Attributes) (kept : (i : ℕ) → i < 15 → get_or (rules_of a) i
     mode = (between_bounds 0 1 a.mode (kept 1 (omega arith))).1;
     resource = between_bounds 1 65535 a.resource (kept 2 (omega arith));
     update = (between_bounds 0 15 a.update (kept 3 (omega arith))).1;
-    name = let b = and_both (leb 1 (length a.name)) (is_text a.name) (kept 4 (omega arith)) in (leb-true 1 (length a.name) b.0, b.1);
+    name = let b = and_parts (leb 1 (length a.name)) (is_text a.name) (kept 4 (omega arith)) in (leb-true 1 (length a.name) b.0, b.1);
     kind = kind_fact (content_of a.kind) a.mode (kept 5 (omega arith));
     title = kept 6 (omega arith);
     summary = kept 7 (omega arith);
@@ -151,8 +152,8 @@ module _ (a : Attributes) (kept : (i : ℕ) → i < 15 → get_or (rules_of a) i
     path = kept 10 (omega arith);
     size = size_fact a.mode a.size (between_bounds 0 1 a.mode (kept 1 (omega arith))).1 (kept 11 (omega arith));
     begins = time_fact a.begins (kept 12 (omega arith));
-    ends = time_fact a.ends (and_both (time_fits a.ends) (ordered a.begins a.ends) (kept 13 (omega arith))).0;
-    order = order_fact a.begins a.ends (and_both (time_fits a.ends) (ordered a.begins a.ends) (kept 13 (omega arith))).1;
+    ends = time_fact a.ends (and_parts (time_fits a.ends) (ordered a.begins a.ends) (kept 13 (omega arith))).0;
+    order = order_fact a.begins a.ends (and_parts (time_fits a.ends) (ordered a.begins a.ends) (kept 13 (omega arith))).1;
     delete = (between_bounds 0 1 a.delete (kept 14 (omega arith))).1;
   }
 
@@ -233,7 +234,7 @@ time_unbroken t = by (not_given t)
     by false = unbroken_by (time_text t) (λ i h. let b = time_bytes t i (omega (arith, time_long t)) in omega arith)
 
 text_unbroken : (v : List ℕ) → is_text v ≡ true → unbroken v ≡ true
-text_unbroken v e = (and_both (unbroken v) (well_formed v) e).0
+text_unbroken v e = (and_parts (unbroken v) (well_formed v) e).0
 
 pub values-unbroken : (a : Attributes) → InRange a → all_unbroken (values a) ≡ true
 unfolding values

@@ -6,8 +6,9 @@ use Prim.Native.Nat.{ℕ, ◌≤◌}
 use native.Mathlib.Omega.{arith}
 use borrow.Author.Tests.{leb-true, le-leb}
 use lib.Dec.{eqb, leb}
+use Rattle.std.proofs.lemmas.Bool.{and_parts}
 use Rattle.ground.specs.Ranges.{between}
-use Rattle.ground.proofs.Truth.{and_both, and_join}
+use Rattle.ground.proofs.Truth.{and_join}
 use Rattle.ground.proofs.RangeLaws.{between_bounds, bounds_between}
 use Rattle.calendar.specs.declared.Time.{Time}
 use Rattle.calendar.specs.Calendar.{leap, days_in, real}
@@ -26,11 +27,11 @@ days_most y m = by (eqb m 2) (leap y) (eqb m 4 || (eqb m 6 || (eqb m 9 || eqb m 
 pub real-range : (t : Time) → real t ≡ true → RealTime t
 unfolding real
 real-range t e =
-    let w = and_both (between 1 9999 t.year) _ e in
-    let x = and_both (between 1 12 t.month) _ w.1 in
-    let y = and_both (between 1 (days_in t.year t.month) t.day) _ x.1 in
-    let z = and_both (leb t.hour 23) _ y.1 in
-    let q = and_both (leb t.minute 59) (leb t.second 59) z.1 in
+    let w = and_parts (between 1 9999 t.year) _ e in
+    let x = and_parts (between 1 12 t.month) _ w.1 in
+    let y = and_parts (between 1 (days_in t.year t.month) t.day) _ x.1 in
+    let z = and_parts (leb t.hour 23) _ y.1 in
+    let q = and_parts (leb t.minute 59) (leb t.second 59) z.1 in
     let year = between_bounds 1 9999 t.year w.0 in
     let month = between_bounds 1 12 t.month x.0 in
     let day = between_bounds 1 (days_in t.year t.month) t.day y.0 in

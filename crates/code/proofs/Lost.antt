@@ -9,7 +9,7 @@ use native.Mathlib.Omega.{arith}
 use lib.Dec.{eqb}
 use lib.ListN.{length, get_or}
 use borrow.Author.Tests.{eqb-false}
-use Rattle.ground.proofs.Truth.{fails}
+use Rattle.std.proofs.lemmas.Bool.{false_from_ne_true}
 use Rattle.code.specs.Code.{distance}
 use Rattle.code.specs.Restore.{lost_of}
 
@@ -71,7 +71,7 @@ lost_once f zero one = zero-le
 lost_once f (suc n) one = by (f n) refl (lost_once f n (λ c d b h. one c d b (le_trans h (le-suc n))))
   where
     by : (b : Bool) → f n ≡ b → lost_of f n ≤ 1 → more b (lost_of f n) ≤ 1
-    by true p h = let z : lost_of f n ≡ 0 = lost-none f n (λ c l. fails (f c) (λ q. one c n l (le_refl (suc n)) q p)) in omega arith
+    by true p h = let z : lost_of f n ≡ 0 = lost-none f n (λ c l. false_from_ne_true (f c) (λ q. one c n l (le_refl (suc n)) q p)) in omega arith
     by false p h = h
 
 -- rows that agree wherever nothing is lost

@@ -11,8 +11,9 @@ use native.Mathlib.Omega.{arith}
 use lib.Dec.{eqb}
 use lib.ListN.{length, get_or}
 use borrow.Author.Tests.{eqb-true, eq-eqb}
+use Rattle.std.proofs.lemmas.Bool.{or_parts}
 use Rattle.ground.proofs.Numbers.{below_suc}
-use Rattle.ground.proofs.Truth.{differ, neither}
+use Rattle.ground.proofs.Truth.{differ}
 use Rattle.code.specs.Code.{Bytes, Coded, distance}
 use Rattle.code.specs.Search.{Repaired, remainder, all_zero, seek}
 use Rattle.code.specs.Search.Repaired.{found, none}
@@ -151,6 +152,6 @@ pub wrong_is_found : WrongIsFound
 wrong_is_found lost wrong r s coded few agrees c l known wrong-there =
     restore_none lost r (λ t f.
     let same : t ≡ s = only_one (λ k. lost k || wrong k) s t s few
-    (record { coded = f.coded; known = λ k h e. f.known k h (neither (lost k) (wrong k) e).0 ∙ agrees k h e })
+    (record { coded = f.coded; known = λ k h e. f.known k h (or_parts (lost k) (wrong k) e).0 ∙ agrees k h e })
     (record { coded = coded; known = λ k h e. refl }) in
     wrong-there (sym (f.known c l known) ∙ ap (λ (x : List ℕ). get_or x c 0) same))

@@ -12,9 +12,9 @@ use lib.Arith.{digits_div, digits_mod}
 use lib.Dec.{eqb}
 use lib.ListN.{length, get_or, take, drop}
 use lib.Seq.{sets}
+use Rattle.std.proofs.lemmas.Bool.{cases_eq}
 use Rattle.ground.proofs.Listed.{get_or-listed, get_or-listed_0, ceil_upper, le_or_lt}
 use Rattle.ground.proofs.Truth.{differ}
-use Rattle.ground.proofs.Numbers.{same_or_not}
 use Rattle.code.specs.Search.{Repaired}
 use Rattle.code.specs.Search.Repaired.{found, none}
 use Rattle.code.specs.Restore.{Fits}
@@ -190,7 +190,7 @@ module _ (p : Place) (s : List ℕ) (n : ℕ) (w : Writable p s n) where
           (λ i h x. (x.0, omega (arith, many, x.1))))
 
       pub chunk_done : Nearer (aim_of p s) n (KnownIn f (f + len)) before after
-      chunk_done = ⊎_elim empty_chunk filled_chunk (same_or_not here 0)
+      chunk_done = ⊎_elim empty_chunk filled_chunk (cases_eq here 0)
 
 -- ---- the pass: what came of the first f bytes is written
 

@@ -9,8 +9,8 @@ use native.Mathlib.Omega.{arith}
 use borrow.Author.Tests.{le-leb, lt-leb, leb-true, eqb-true}
 use lib.Dec.{eqb, leb}
 use lib.ListN.{length}
+use Rattle.std.proofs.lemmas.Bool.{and_parts}
 use Rattle.ground.specs.Lists.{ceil}
-use Rattle.ground.proofs.Truth.{and_both}
 use Rattle.layout.specs.Layout.{tables_of}
 use Rattle.places.specs.declared.Place.{Place}
 use Rattle.places.specs.Room.{lowest_from}
@@ -72,8 +72,8 @@ module _ (p : Place) (n : ℕ) where
   pub serves-known : length_serves p n ≡ true → Served
   unfolding length_serves
   serves-known t =
-      let a = and_both (leb 1 n) (leb n 16777216 && eqb (ceil (sent_length p.rows n) p.slot) p.count) t in
-      let b = and_both (leb n 16777216) (eqb (ceil (sent_length p.rows n) p.slot) p.count) a.1 in
+      let a = and_parts (leb 1 n) (leb n 16777216 && eqb (ceil (sent_length p.rows n) p.slot) p.count) t in
+      let b = and_parts (leb n 16777216) (eqb (ceil (sent_length p.rows n) p.slot) p.count) a.1 in
       record {
         least = leb-true 1 n a.0;
         most = leb-true n 16777216 b.0;

@@ -3,6 +3,7 @@
 use mathlib.Core.Path.{◌≡◌, refl, sym, ap, ap₂, subst, ◌∙◌}
 use mathlib.Core.Logic.{⊎_elim}
 use mathlib.Core.Bool.{cond}
+use Rattle.std.proofs.lemmas.Bool.{cases_eq}
 use Rattle.std.proofs.Common.{Some, None}
 use Rattle.std.proofs.lemmas.Option.{none-some, same_Some}
 use mathlib.Core.List.{List, ◌∷◌}
@@ -13,7 +14,6 @@ use lib.Seq.{ext_get_or, get_or-set_same, get_or-set_other, get_or-take}
 use Rattle.ground.specs.Bits.{sum}
 use Rattle.ground.proofs.Sums.{zero_sum, sum_cancel}
 use Rattle.ground.proofs.Listed.{get_or-listed_0}
-use Rattle.ground.proofs.Numbers.{same_or_not}
 use Rattle.field.specs.Field.{product, expo}
 use Rattle.field.proofs.Laws.{power_zero, product_one}
 use Rattle.code.specs.Code.{Bytes}
@@ -77,7 +77,7 @@ module _ (row at s : List ℕ) (long : length row ≡ 255) (l : Lacking row at 1
       (λ (e : i ≡ c → ⊥).
       get_or-set_other row c i v 0 e
       ∙ sym (l.fits.known i b (not_among at 1 i (λ k h d. e (let z : k ≡ 0 = omega arith in let d' : get_or at 0 0 ≡ 254 - i = ap (λ (x : ℕ). get_or at x 0) (sym z) ∙ d in omega (arith, below))))))
-      (same_or_not i c))
+      (cases_eq i c))
 
   pub one_lost : value row 1 ≡ get_or s c 0
   one_lost =

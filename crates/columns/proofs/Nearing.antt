@@ -7,9 +7,9 @@ use Prim.Native.Nat.{ℕ, ◌+◌, ◌-◌, ◌<◌, ◌≤◌}
 use native.Mathlib.Omega.{arith}
 use lib.ListN.{length, get_or, set, drop, length-set, length-append, length-drop, get_or-append}
 use lib.Seq.{sets, get_or-set_same, get_or-set_other, get_or-append-add, get_or-drop, ext_get_or, length-sets}
+use Rattle.std.proofs.lemmas.Bool.{cases_eq}
 use Rattle.ground.specs.Lists.{listed}
 use Rattle.ground.proofs.Listed.{length-listed, get_or-listed, get_or-listed_0, le_or_lt}
-use Rattle.ground.proofs.Numbers.{same_or_not}
 use Rattle.contents.proofs.Bytes.{sets_below, sets-above, sets_hit}
 use Rattle.columns.specs.InnerBytes.{Nearer}
 
@@ -36,7 +36,7 @@ module _ (aim : ℕ → ℕ) (n : ℕ) where
   nearer_set l p v h f e = record {
     long = length-set l p v;
     done = λ i b d. here i d;
-    kept = λ i b d. ⊎_elim (λ (x : i ≡ p). here i x) (λ (x : i ≡ p → ⊥). get_or-set_other l p i v 0 x ∙ d) (same_or_not i p);
+    kept = λ i b d. ⊎_elim (λ (x : i ≡ p). here i x) (λ (x : i ≡ p → ⊥). get_or-set_other l p i v 0 x ∙ d) (cases_eq i p);
     beyond = λ i b. get_or-set_other l p i v 0 (λ x. omega arith);
   }
     where

@@ -9,9 +9,9 @@ use native.Mathlib.Omega.{arith}
 use borrow.Author.Tests.{eq-eqb, eqb-true, eqb-false, lt-ltb, le-ltb}
 use lib.Dec.{eqb, ltb}
 use lib.ListN.{length, get_or, take, drop}
+use Rattle.std.proofs.lemmas.Bool.{cases_lt}
 use Rattle.std.specs.List.{list_all}
 use Rattle.ground.proofs.Listed.{length-listed, get_or-listed, get_or-listed_0}
-use Rattle.ground.proofs.Numbers.{lt_or_ge}
 use Rattle.ground.proofs.Truth.{differ}
 use Rattle.layout.specs.Spread.{row_start}
 use Rattle.contents.specs.Contents.{bytes_at}
@@ -97,7 +97,7 @@ module _ (m n q : ℕ) (row : List ℕ) where
       all_zero_lem (beyond_in m n q row) (λ k l.
       let h : k < 239 = omega (arith, length-beyond) in
       ⊎_elim (λ (b : row_start m q + k * m < n). beyond-before k h b) (λ (b : n ≤ row_start m q + k * m). beyond-behind k h b ∙ all k h b)
-      (lt_or_ge (row_start m q + k * m) n))
+      (cases_lt (row_start m q + k * m) n))
 
   module _ (from : ℕ) (c : Columns m n (row_start m q) from) where
     -- no column stands there
@@ -113,7 +113,7 @@ module _ (m n q : ℕ) (row : List ℕ) where
         (λ (b : from ≤ k).
         let z : from + (k - from) ≡ k = omega arith in
         ap (λ (x : ℕ). get_or row x 0) (sym z) ∙ sym (get_or-listed (λ i. get_or row i 0) (239 - from) from (k - from) 0 (omega arith))
-        ∙ zero_all (bytes_at row from (239 - from)) e (k - from)) (lt_or_ge k from)))
+        ∙ zero_all (bytes_at row from (239 - from)) e (k - from)) (cases_lt k from)))
         (λ e. all_zero_lem (bytes_at row from (239 - from)) (λ i l.
         let h : i < 239 - from = omega (arith, length-bytes row from (239 - from)) in
         get_or-listed (λ i. get_or row i 0) (239 - from) from i 0 h

@@ -9,8 +9,8 @@ use borrow.Author.Tests.{leb-true, le-leb, lt-leb}
 use lib.Dec.{leb, ltb}
 use lib.ListN.{length, get_or, length-append}
 use lib.Seq.{sets}
+use Rattle.std.proofs.lemmas.Bool.{and_parts}
 use Rattle.decimal.specs.Decimal.{digits}
-use Rattle.ground.proofs.Truth.{and_both}
 use Rattle.refusals.specs.declared.Refusal.TheVariants.{Line, Output}
 use Rattle.attributes.specs.declared.Part.{Part}
 use Rattle.attributes.specs.declared.Description.{Description}
@@ -28,7 +28,7 @@ use Rattle.std.specs.Prelude.{Ok, Err}
 
 inside-lies : (t : List ℕ) (p : Part) → inside t p ≡ true → Lies t p
 inside-lies t p e =
-    let b = and_both (leb p.at (length t)) (leb p.length (length t - p.at)) e in
+    let b = and_parts (leb p.at (length t)) (leb p.length (length t - p.at)) e in
     omega (arith, leb-true p.at (length t) b.0, leb-true p.length (length t - p.at) b.1)
 
 mapped : (f : Piece → Bool) (ps : List Piece) (k : ℕ) → get_or (map f ps) k false ≡ true → f (get_or ps k (own [])) ≡ true

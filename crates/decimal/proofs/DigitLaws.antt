@@ -10,8 +10,7 @@ use native.Mathlib.Numerals.{add-one}
 use native.Mathlib.Omega.{arith}
 use borrow.Author.Tests.{lt-ltb, le-ltb}
 use lib.ListN.{length, get_or, length-append, get_or-append}
-use Rattle.ground.proofs.Numbers.{lt_or_ge}
-use Rattle.ground.proofs.Truth.{and_both}
+use Rattle.std.proofs.lemmas.Bool.{and_parts, cases_lt}
 use Rattle.ground.proofs.RangeLaws.{between_bounds, bounds_between}
 use Rattle.ground.specs.Ranges.{is_digit}
 use Rattle.decimal.specs.Decimal.{all_digits, digits_by, digits}
@@ -31,14 +30,14 @@ length_more k n h = ap length (by_more k n h) ∙ length-append (digits_by k (n 
 
 by_long : (k n : ℕ) → length (digits_by k n) ≤ k
 by_long zero n = omega arith
-by_long (suc k) n = by (by_long k (n / 10)) (lt_or_ge n 10)
+by_long (suc k) n = by (by_long k (n / 10)) (cases_lt n 10)
   where
     by : length (digits_by k (n / 10)) ≤ k → (n < 10) ⊎ (10 ≤ n) → length (digits_by (suc k) n) ≤ suc k
     by ih (inl h) = omega (arith, ap length (by_one k n h))
     by ih (inr h) = omega (arith, length_more k n h)
 
 by_some : (k n : ℕ) → 1 ≤ length (digits_by (suc k) n)
-by_some k n = ⊎_elim (λ h. omega (arith, ap length (by_one k n h))) (λ h. omega (arith, length_more k n h)) (lt_or_ge n 10)
+by_some k n = ⊎_elim (λ h. omega (arith, ap length (by_one k n h))) (λ h. omega (arith, length_more k n h)) (cases_lt n 10)
 
 pub digits_long : (n : ℕ) → length (digits n) ≤ 8
 unfolding digits
@@ -90,17 +89,17 @@ digit_range b e = between_bounds 48 57 b e
 all-last : (s : List ℕ) (b : ℕ) → all_digits s ≡ true → is_digit b ≡ true → all_digits (s ++ (b ∷ [])) ≡ true
 all-last [] b a e = rw e
 all-last (x ∷ s) b a e =
-    let p = and_both (is_digit x) (all_digits s) a in
+    let p = and_parts (is_digit x) (all_digits s) a in
     λ i. p.0 i && all-last s b p.1 e i
 
 pub all-range : (s : List ℕ) (i : ℕ) → all_digits s ≡ true → i < length s → (48 ≤ get_or s i 0) × (get_or s i 0 ≤ 57)
 all-range [] i a h = absurd (omega arith)
-all-range (x ∷ s) zero a h = digit_range x (and_both (is_digit x) (all_digits s) a).0
-all-range (x ∷ s) (suc i) a h = all-range s i (and_both (is_digit x) (all_digits s) a).1 (omega arith)
+all-range (x ∷ s) zero a h = digit_range x (and_parts (is_digit x) (all_digits s) a).0
+all-range (x ∷ s) (suc i) a h = all-range s i (and_parts (is_digit x) (all_digits s) a).1 (omega arith)
 
 by_all : (k n : ℕ) → all_digits (digits_by k n) ≡ true
 by_all zero n = refl
-by_all (suc k) n = by (by_all k (n / 10)) (lt_or_ge n 10)
+by_all (suc k) n = by (by_all k (n / 10)) (cases_lt n 10)
   where
     by : all_digits (digits_by k (n / 10)) ≡ true → (n < 10) ⊎ (10 ≤ n) → all_digits (digits_by (suc k) n) ≡ true
     by ih (inl h) = ap all_digits (by_one k n h) ∙ all-last [] (n + 48) refl (digit_yes (n + 48) (omega arith) (omega arith))
@@ -117,7 +116,7 @@ digits-bytes n i h = (all-range (digits n) i (digits-all n) h).0
 
 by_first : (k n : ℕ) → 0 < n → n < 10 ^ k → get_or (digits_by k n) 0 0 ≡ 48 → ⊥
 by_first zero n z h e = omega arith
-by_first (suc k) n z h e = by (by_first k (n / 10)) (lt_or_ge n 10)
+by_first (suc k) n z h e = by (by_first k (n / 10)) (cases_lt n 10)
   where
     by : (0 < n / 10 → n / 10 < 10 ^ k → get_or (digits_by k (n / 10)) 0 0 ≡ 48 → ⊥) → (n < 10) ⊎ (10 ≤ n) → ⊥
     by ih (inl s) = omega (arith, ap (λ (l : List ℕ). get_or l 0 0) (by_one k n s))
@@ -132,4 +131,4 @@ by_first (suc k) n z h e = by (by_first k (n / 10)) (lt_or_ge n 10)
 -- a single digit, or the first is not 0
 pub digits-first : (n : ℕ) → n < 100000000 → (length (digits n) ≡ 1) ⊎ (get_or (digits n) 0 0 ≡ 48 → ⊥)
 unfolding digits
-digits-first n h = ⊎_elim (λ s. inl (ap length (by_one 7 n s))) (λ s. inr (by_first 8 n (omega arith) h)) (lt_or_ge n 10)
+digits-first n h = ⊎_elim (λ s. inl (ap length (by_one 7 n s))) (λ s. inr (by_first 8 n (omega arith) h)) (cases_lt n 10)

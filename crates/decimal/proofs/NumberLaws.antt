@@ -10,9 +10,8 @@ use native.Mathlib.Omega.{arith}
 use borrow.Author.Tests.{le-leb, leb-true, eq-eqb, ne_eqb, eqb-true, eqb-false, not-true}
 use lib.Dec.{leb, eqb}
 use lib.ListN.{length, get_or}
-use Rattle.ground.proofs.Numbers.{lt_or_ge}
+use Rattle.std.proofs.lemmas.Bool.{and_parts, cases_lt}
 use Rattle.ground.specs.Ranges.{between, is_digit}
-use Rattle.ground.proofs.Truth.{and_both}
 use Rattle.decimal.specs.Decimal.{all_digits, is_number, value_from, number_in, digits_by, digits}
 use Rattle.decimal.proofs.DigitLaws.{by_one, by_more, digit_range, digits_long, digits-some, digits-all, digits-first}
 
@@ -34,9 +33,9 @@ number-yes v n = λ i. (le-leb 1 (length v) n.some i && le-leb (length v) 8 n.mo
 pub number-parts : (v : List ℕ) → is_number v ≡ true → Number v
 unfolding is_number
 number-parts v e =
-    let p = and_both (between 1 8 (length v)) (all_digits v && (eqb (length v) 1 || not (eqb (get_or v 0 0) 48))) e in
-    let q = and_both (leb 1 (length v)) (leb (length v) 8) p.0 in
-    let r = and_both (all_digits v) (eqb (length v) 1 || not (eqb (get_or v 0 0) 48)) p.1 in
+    let p = and_parts (between 1 8 (length v)) (all_digits v && (eqb (length v) 1 || not (eqb (get_or v 0 0) 48))) e in
+    let q = and_parts (leb 1 (length v)) (leb (length v) 8) p.0 in
+    let r = and_parts (all_digits v) (eqb (length v) 1 || not (eqb (get_or v 0 0) 48)) p.1 in
     record { some = leb-true 1 (length v) q.0; most = leb-true (length v) 8 q.1; every = r.0; first = by (eqb (length v) 1) refl r.1 }
   where
     by : (t : Bool) → eqb (length v) 1 ≡ t → (t || not (eqb (get_or v 0 0) 48)) ≡ true → (length v ≡ 1) ⊎ (get_or v 0 0 ≡ 48 → ⊥)
@@ -66,7 +65,7 @@ value-last (x ∷ s) n b = value-last s (n * 10 + (x - 48)) b
 
 by_value : (k n : ℕ) → n < 10 ^ k → value_from 0 (digits_by k n) ≡ n
 by_value zero n h = omega arith
-by_value (suc k) n h = by (by_value k (n / 10) (omega (arith, pow-suc 10 k))) (lt_or_ge n 10)
+by_value (suc k) n h = by (by_value k (n / 10) (omega (arith, pow-suc 10 k))) (cases_lt n 10)
   where
     by : value_from 0 (digits_by k (n / 10)) ≡ n / 10 → (n < 10) ⊎ (10 ≤ n) → value_from 0 (digits_by (suc k) n) ≡ n
     by ih (inl s) = omega (arith, ap (value_from 0) (by_one k n s))
@@ -87,7 +86,7 @@ by_back [] k n h a =
     let e : 0 + k ≡ k = omega arith in
     ap (λ (x : ℕ). digits_by x n) e ∙ sym (append-nil (digits_by k n))
 by_back (b ∷ s) k n h a =
-    let p = and_both (is_digit b) (all_digits s) a in
+    let p = and_parts (is_digit b) (all_digits s) a in
     let r = digit_range b p.0 in
     let m : suc (length s) + k ≡ length s + suc k = omega arith in
     let x : ℕ = n * 10 + (b - 48) in
@@ -102,15 +101,15 @@ by_number : (m : ℕ) (v : List ℕ) → 1 ≤ length v → length v ≤ m → a
 by_number m [] o h a f = absurd (omega arith)
 by_number zero (b ∷ s) o h a f = absurd (omega arith)
 by_number (suc m) (b ∷ []) o h a f =
-    let r = digit_range b (and_both (is_digit b) true a).0 in
+    let r = digit_range b (and_parts (is_digit b) true a).0 in
     let e : 0 * 10 + (b - 48) + 48 ≡ b = omega arith in
     by_one m (0 * 10 + (b - 48)) (omega arith) ∙ ap (λ (x : ℕ). x ∷ []) e
 by_number (suc m) (b ∷ c ∷ s) o h a (inl f) = absurd (omega arith)
 by_number (suc m) (b ∷ c ∷ s) o h a (inr f) =
-    let p = and_both (is_digit b) (all_digits (c ∷ s)) a in
+    let p = and_parts (is_digit b) (all_digits (c ∷ s)) a in
     let r = digit_range b p.0 in
     let x : ℕ = 0 * 10 + (b - 48) in
-    let g : 1 ≤ x = ⊎_elim (λ w. omega arith) (λ (w : x ≤ 0). absurd (f (omega arith))) (lt_or_ge 0 x) in
+    let g : 1 ≤ x = ⊎_elim (λ w. omega arith) (λ (w : x ≤ 0). absurd (f (omega arith))) (cases_lt 0 x) in
     let k : ℕ = m - suc (length s) in
     let e : suc m ≡ length (c ∷ s) + suc k = omega arith in
     let z : x + 48 ≡ b = omega arith in

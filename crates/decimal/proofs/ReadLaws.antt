@@ -11,8 +11,8 @@ use borrow.Author.Tests.{le-leb, lt-leb, leb-true, eq-eqb, ne_eqb}
 use lib.Dec.{leb, eqb}
 use lib.ListN.{length, get_or, drop, drop_of_length-le}
 use lib.Seq.{drop-cons}
+use Rattle.std.proofs.lemmas.Bool.{and_parts}
 use Rattle.ground.specs.Ranges.{between, is_digit}
-use Rattle.ground.proofs.Truth.{and_both}
 use Rattle.decimal.specs.Decimal.{all_digits, is_number, value_from, number_in}
 use Rattle.decimal.proofs.DigitLaws.{digit_yes}
 use Rattle.decimal.proofs.NumberLaws.{number-value, number-none}
@@ -50,8 +50,8 @@ pub record Reading (v : List ℕ) (value i : ℕ) : Type 0 where
 
 pub reading_begin : (v : List ℕ) → (between 1 8 (length v) && (eqb (length v) 1 || not (eqb (get_or v 0 0) 48))) ≡ true → Reading v 0 0
 reading_begin v e =
-    let p = and_both (between 1 8 (length v)) (eqb (length v) 1 || not (eqb (get_or v 0 0) 48)) e in
-    let q = and_both (leb 1 (length v)) (leb (length v) 8) p.0 in
+    let p = and_parts (between 1 8 (length v)) (eqb (length v) 1 || not (eqb (get_or v 0 0) 48)) e in
+    let q = and_parts (leb 1 (length v)) (leb (length v) 8) p.0 in
     record { counted = e; most = leb-true (length v) 8 q.1; every = refl; same = refl; small = omega arith }
 
 module _ (v : List ℕ) (value i : ℕ) (r : Reading v value i) where
@@ -59,7 +59,7 @@ module _ (v : List ℕ) (value i : ℕ) (r : Reading v value i) where
   says : (t : Bool) → all_digits v ≡ t → is_number v ≡ t
   unfolding is_number
   says t e =
-      let p = and_both (between 1 8 (length v)) (eqb (length v) 1 || not (eqb (get_or v 0 0) 48)) r.counted in
+      let p = and_parts (between 1 8 (length v)) (eqb (length v) 1 || not (eqb (get_or v 0 0) 48)) r.counted in
       rw (p.0, p.1, e) (and-true t)
 
   pub reading_end : length v ≤ i → value ≡ number_in v

@@ -8,7 +8,7 @@ use native.Mathlib.Nat.{zero-add, zero-sub, sub-zero, suc-sub-suc}
 use native.Mathlib.Omega.{arith}
 use lib.ListN.{length, set, drop, replicate, length-append}
 use lib.Seq.{sets, set_comm}
-use Rattle.ground.proofs.Numbers.{lt_or_ge}
+use Rattle.std.proofs.lemmas.Bool.{cases_lt}
 use Rattle.ground.proofs.Writing.{sets-append, sets-front}
 use Rattle.decimal.specs.Decimal.{digits_by, digits}
 use Rattle.decimal.proofs.DigitLaws.{by_one, by_more, digits_long}
@@ -71,7 +71,7 @@ module _ (n : ℕ) (bytes : List ℕ) (rest i : ℕ) (w : Writing n bytes rest i
       }
 
   pub writing_more : 0 < i → Writing n (set bytes (i - 1) (rest % 10 + 48)) (rest / 10) (i - 1)
-  writing_more h = by w.k refl (lt_or_ge rest 10)
+  writing_more h = by w.k refl (cases_lt rest 10)
     where
       by : (k : ℕ) → w.k ≡ k → (rest < 10) ⊎ (10 ≤ rest) → Writing n (set bytes (i - 1) (rest % 10 + 48)) (rest / 10) (i - 1)
       by zero e o = absurd (omega (arith, w.left, ap (λ (k : ℕ). length (digits_by k rest)) e))

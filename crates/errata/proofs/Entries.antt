@@ -13,9 +13,9 @@ use lib.Dec.{eqb, eqb→eq, ltb}
 use lib.ListN.{length, get_or}
 use lib.Pow.{pow-add}
 use lib.Seq.{ext_get_or}
+use Rattle.std.proofs.lemmas.Bool.{cases_lt, cases_eq}
 use Rattle.ground.specs.Bits.{sum}
 use Rattle.ground.proofs.Listed.{length-listed, get_or-listed_0}
-use Rattle.ground.proofs.Numbers.{lt_or_ge, same_or_not}
 use Rattle.ground.proofs.Sums.{sum_zero, zero_sum}
 use Rattle.ground.proofs.Sweep.{below}
 use Rattle.words.specs.Words.{byte_at}
@@ -37,7 +37,7 @@ list_at x k h = get_or-listed_0 (entry x) 16 k 0 h
 
 pub list-byte : (x : Sixteen) (k : ℕ) → get_or (list_of x) k 0 < 256
 list-byte x k =
-    ⊎_elim (λ (h : k < 16). rw (list_at x k h) (entry_small x k)) (λ (h : 16 ≤ k). rw (beyond (list_of x) k (omega (arith, list_length x))) (omega arith)) (lt_or_ge k 16)
+    ⊎_elim (λ (h : k < 16). rw (list_at x k h) (entry_small x k)) (λ (h : 16 ≤ k). rw (beyond (list_of x) k (omega (arith, list_length x))) (omega arith)) (cases_lt k 16)
 
 pub list_is : (l : List ℕ) (x : Sixteen) → length l ≡ 16 → ((k : ℕ) → k < 16 → get_or l k 0 ≡ entry x k) → l ≡ list_of x
 list_is l x long e =
@@ -47,7 +47,7 @@ list_is l x long e =
 
 -- an entry by the word that it stands in
 pub entry_either : (x : Sixteen) (v : ℕ) (k : ℕ) → (k < 8 → byte_at x.low k ≡ v) → (8 ≤ k → byte_at x.high (k - 8) ≡ v) → entry x k ≡ v
-entry_either x v k low high = ⊎_elim (λ (h : k < 8). entry-low x k h ∙ low h) (λ (h : 8 ≤ k). entry-high x k h ∙ high h) (lt_or_ge k 8)
+entry_either x v k low high = ⊎_elim (λ (h : k < 8). entry-low x k h ∙ low h) (λ (h : 8 ≤ k). entry-high x k h ∙ high h) (cases_lt k 8)
 
 pub entry-sum : (a b c d k : ℕ)
     → entry (record { low = bit_xor a b; high = bit_xor c d }) k ≡ sum (entry (record { low = a; high = c }) k) (entry (record { low = b; high = d }) k)
@@ -119,8 +119,8 @@ entry_down x k fit h =
     ∙ sym (entry-high x (suc k) (omega arith)))
     (λ (m : 8 ≤ k).
     entry-high _ k m ∙ byte_down x.high (k - 8) ∙ ap (byte_at x.high) (let z : suc (k - 8) ≡ suc k - 8 = omega arith in z) ∙ sym (entry-high x (suc k) (omega arith)))
-    (lt_or_ge k 8))
-    (lt_or_ge k 7)
+    (cases_lt k 8))
+    (cases_lt k 7)
 
 -- a word again
 pub down_word : (a b : ℕ) → a < 2 ^ 64 → bit_xor (a / 2 ^ 8) (b * 2 ^ 56 % 2 ^ 64) < 2 ^ 64
@@ -144,7 +144,7 @@ entry_unit_high j k h g l =
     same : 8 ≤ k → eqb (j - 8) (k - 8) ≡ eqb j k
     same b =
         ⊎_elim (λ (e : j ≡ k). eq-eqb (j - 8) (k - 8) (omega arith) ∙ sym (eq-eqb j k e)) (λ (n : j ≡ k → ⊥). ne_eqb (j - 8) (k - 8) (λ e. n (omega arith)) ∙ sym (ne_eqb j k n))
-        (same_or_not j k)
+        (cases_eq j k)
 
 -- ---- a byte more at the low end of a word
 

@@ -5,6 +5,7 @@ use mathlib.Core.Path.{◌≡◌, refl, sym, ap, subst, ◌∙◌}
 use mathlib.Core.Logic.{⊎_elim}
 use mathlib.Core.Bool.{Bool, true}
 use mathlib.Core.List.{List, map}
+use Rattle.std.proofs.lemmas.Bool.{cases_lt}
 use Rattle.std.proofs.Common.{Option, Some, None, IsSome}
 use Rattle.std.proofs.lemmas.Option.{none-some, same_Some}
 use Prim.Native.Nat.{ℕ, ◌-◌, ◌≤◌, ◌<◌}
@@ -14,7 +15,6 @@ use lib.Seq.{length-take-le, get_or-take}
 use Rattle.ground.specs.Bits.{sum}
 use Rattle.ground.specs.Lists.{listed}
 use Rattle.ground.proofs.Listed.{length-listed, get_or-listed_0}
-use Rattle.ground.proofs.Numbers.{lt_or_ge}
 use Rattle.field.specs.Field.{power}
 use Rattle.code.specs.Code.{Bytes, add}
 use Rattle.code.specs.Search.{Repaired, remainder}
@@ -154,7 +154,7 @@ module _ (rest at : List ℕ) (long : length rest ≡ 16) (bytes : Bytes rest) (
   sums_byte : (j : ℕ) → get_or sums j 0 < 256
   sums_byte j =
       ⊎_elim (λ (h : j < 16). rw (sum_is j h) (value-byte rest (power j)))
-      (λ (g : 16 ≤ j). rw (beyond sums j (omega (arith, length-listed (λ j. value rest (power j)) 16 0))) (omega arith)) (lt_or_ge j 16)
+      (λ (g : 16 ≤ j). rw (beyond sums j (omega (arith, length-listed (λ j. value rest (power j)) 16 0))) (omega arith)) (cases_lt j 16)
 
   weighed : Weighed rest sums 16 at (solved at 16 (falling-placed at 16 falling) sums sums_byte)
   weighed =

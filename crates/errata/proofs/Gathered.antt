@@ -11,9 +11,10 @@ use native.Mathlib.Omega.{arith}
 use lib.Dec.{eqb}
 use lib.ListN.{length, get_or}
 use borrow.Author.Tests.{eq-eqb, ne_eqb}
+use Rattle.std.proofs.lemmas.Bool.{cases_lt, cases_eq}
 use Rattle.ground.specs.Bits.{sum}
 use Rattle.ground.proofs.Sums.{sum_comm, sum_self, zero_sum}
-use Rattle.ground.proofs.Numbers.{same_or_not, lt_or_ge, below_suc}
+use Rattle.ground.proofs.Numbers.{below_suc}
 use Rattle.field.specs.Field.{product, expo, power, Inverse}
 use Rattle.field.proofs.Laws.{ring, sum-byte, product-byte, product_comm, product_assoc, product-left_comm, product-sum-left, zero_product, product_zero, power-byte, zero_divisor}
 use Rattle.code.proofs.Lists.{sum-again}
@@ -75,7 +76,7 @@ module _ (a c : ℕ → ℕ) (k : ℕ) where
       (λ (q : i ≡ j). rw (sym q) (others-more i i n ∙ ap (λ (x : ℕ). product x (others_of a c i k i)) (sum_self (power (a i))) ∙ zero_product (others_of a c i k i)))
       (λ (q : i < j).
       ⊎_elim (λ (z : j ≡ k). rw z (others-here i) ∙ others_zero j i n q)
-      (λ (z : j ≡ k → ⊥). others-more j i z ∙ ap (product (sum (power (a i)) (power (a j)))) (others_zero j i n q) ∙ product_zero (sum (power (a i)) (power (a j)))) (same_or_not j k))
+      (λ (z : j ≡ k → ⊥). others-more j i z ∙ ap (product (sum (power (a i)) (power (a j)))) (others_zero j i n q) ∙ product_zero (sum (power (a i)) (power (a j)))) (cases_eq j k))
       (below_suc h)
 
   -- at place k itself
@@ -88,7 +89,7 @@ module _ (a c : ℕ → ℕ) (k : ℕ) where
       ⊎_elim
       (λ (q : j ≡ k). rw (eq-eqb j k q) (others_gaps bytes j ∙ ap (product (c k)) (sym (product_comm 1 g ∙ one_product g (gaps_byte a j k)))))
       (λ (q : j ≡ k → ⊥). rw (ne_eqb j k q) (ap (product y) (others_gaps bytes j) ∙ product-left_comm y (c k) g))
-      (same_or_not j k)
+      (cases_eq j k)
 
   -- ---- what is gathered, of syndromes whose first n are shares
 
@@ -134,7 +135,7 @@ module _ (at : List ℕ) (n : ℕ) (placed : Placed n at) where
   gap_apart : (k j : ℕ) → k < n → j < n → j ≢ k → sum (power (get_or at k 0)) (power (get_or at j 0)) ≢ 0
   gap_apart k j h b d z =
       ⊎_elim (λ (q : j < k). locators_apart placed j k q h z)
-      (λ (q : k ≤ j). locators_apart placed k j (omega arith) b (sum_comm (power (get_or at j 0)) (power (get_or at k 0)) ∙ z)) (lt_or_ge j k)
+      (λ (q : k ≤ j). locators_apart placed k j (omega arith) b (sum_comm (power (get_or at j 0)) (power (get_or at k 0)) ∙ z)) (cases_lt j k)
 
   gaps_some : (k j : ℕ) → k < n → j ≤ n → gaps_of (entries at) j k ≢ 0
   unfolding gaps_of
@@ -148,7 +149,7 @@ module _ (at : List ℕ) (n : ℕ) (placed : Placed n at) where
       (λ (q : j ≡ k). rw (eq-eqb j k q) (λ z. was (sym (product_comm 1 g ∙ one_product g small) ∙ z)))
       (λ (q : j ≡ k → ⊥). rw (ne_eqb j k q) (λ z. ⊎_elim (gap_apart k j h (omega arith) q) was
       (zero_divisor y g (sum-byte (power (get_or at k 0)) (power (get_or at j 0)) (power-byte (get_or at k 0)) (power-byte (get_or at j 0))) small z)))
-      (same_or_not j k)
+      (cases_eq j k)
 
   pub gathered-solves : (s : List ℕ) → ((j : ℕ) → get_or s j 0 < 256) → (c : List ℕ) → length c ≡ 16
       → ((k : ℕ) → k < n → (i : ℕ) × Inverse (gaps_of (entries at) n k) i × (get_or c k 0 ≡ product (gathered_of (entries at) (entries s) n k) i))

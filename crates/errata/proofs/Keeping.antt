@@ -9,9 +9,10 @@ use native.Mathlib.Numerals.{add-one}
 use native.Mathlib.Omega.{arith}
 use lib.ListN.{length, get_or, set, length-set}
 use lib.Seq.{get_or-set_same, get_or-set_other, set-get_or}
+use Rattle.std.proofs.lemmas.Bool.{cases_lt, cases_eq}
 use Rattle.ground.specs.Bits.{sum}
 use Rattle.ground.proofs.Sums.{sum_zero}
-use Rattle.ground.proofs.Numbers.{same_or_not, below_suc, lt_or_ge}
+use Rattle.ground.proofs.Numbers.{below_suc}
 use Rattle.ground.proofs.Listed.{zeros_at}
 use Rattle.errata.specs.declared.Errata.{Errata}
 use Rattle.errata.proofs.Listing.{beyond}
@@ -43,7 +44,7 @@ mended_sixteen row at values n k long e =
     let d : 16 + (n - 16) ≡ n = omega arith in
     ap (mended_by row (entries at) (entries values)) (e ∙ min-eq_right h) ∙ sym (mended_further row (entries at) (entries values) 16 (n - 16) (λ k b. beyond values k (omega arith)))
     ∙ ap (mended_by row (entries at) (entries values)) d)
-    (lt_or_ge n 16)
+    (cases_lt n 16)
 
 mended_ext : (row : List ℕ) (a b c d : ℕ → ℕ) (n : ℕ) → ((k : ℕ) → k < n → (a k ≡ b k) × (c k ≡ d k)) → mended_by row a c n ≡ mended_by row b d n
 unfolding mended_by
@@ -181,7 +182,7 @@ module _ {at c : List ℕ} {n k : ℕ} {e : Errata} (was : Keeping at c n k e) (
   unfolding a v
   keeping_more {r} put =
       ⊎_elim (λ (z : v ≡ 0). subst (Keeping at c n (k + 1)) (sym (put.nothing z)) (keeping_less z))
-      (λ (nz : v ≡ 0 → ⊥). subst (Keeping at c n (k + 1)) (sym (put.more nz)) (keeping_added nz)) (same_or_not v 0)
+      (λ (nz : v ≡ 0 → ⊥). subst (Keeping at c n (k + 1)) (sym (put.more nz)) (keeping_added nz)) (cases_eq v 0)
 
 pub keeping_end : {at c : List ℕ} {n k : ℕ} {e : Errata} → Keeping at c n k e → n ≤ k → Kept at c n e
 keeping_end {at} {c} {n} {k} {e} was h =

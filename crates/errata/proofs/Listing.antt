@@ -4,6 +4,7 @@ use mathlib.Core.Path.{◌≡◌, refl, sym, ap, subst, ◌∙◌}
 use mathlib.Core.Logic.{◌≢◌, ◌⊎◌, inl, inr, ⊎_elim}
 use mathlib.Core.Bool.{Bool, true, false, not}
 use mathlib.Core.List.{List, [], ◌∷◌, map}
+use Rattle.std.proofs.lemmas.Bool.{cases_lt}
 use Rattle.std.proofs.Common.{Some}
 use Prim.Native.Nat.{ℕ, zero, suc, ◌-◌, ◌≤◌, ◌<◌}
 use native.Mathlib.Nat.{le_refl, not-suc-le-zero, le_of_suc-le-suc}
@@ -15,7 +16,7 @@ use lib.Seq.{get_or-set_same, get_or-set_other, ext_get_or}
 use Rattle.ground.specs.Bits.{sum}
 use Rattle.ground.proofs.Listed.{length-listed, get_or-listed_0}
 use Rattle.ground.proofs.Sums.{sum_self}
-use Rattle.ground.proofs.Numbers.{lt_or_ge, below_suc}
+use Rattle.ground.proofs.Numbers.{below_suc}
 use Rattle.code.specs.Search.Repaired.{found}
 use Rattle.code.proofs.Lists.{sum-again}
 use Rattle.errata.specs.declared.Errata.{Errata}
@@ -63,7 +64,7 @@ pub all-padded : (n : ℕ) (d l : List ℕ) → length d ≡ 16 → length l ≡
 all-padded n d l long many front behind =
     ext_get_or 0 d (padded l) (long ∙ sym (length-listed (λ k. get_or l k 0) 16 0))
     (λ k h.
-    ⊎_elim (λ (b : k < n). front k b) (λ (b : n ≤ k). behind k b ∙ sym (beyond l k (omega arith))) (lt_or_ge k n)
+    ⊎_elim (λ (b : k < n). front k b) (λ (b : n ≤ k). behind k b ∙ sym (beyond l k (omega arith))) (cases_lt k n)
     ∙ sym (get_or-listed_0 (λ k. get_or l k 0) 16 k 0 (subst (λ (m : ℕ). k < m) long h)))
 
 -- ---- the list

@@ -11,6 +11,7 @@ use native.Mathlib.Numerals.{add-one}
 use native.Mathlib.Omega.{arith}
 use lib.ListN.{length, get_or, set, length-set}
 use lib.Seq.{get_or-set_same, get_or-set_other, ext_get_or}
+use Rattle.std.proofs.lemmas.Bool.{cases_eq}
 use Rattle.ground.specs.Bits.{sum}
 use Rattle.ground.proofs.Sums.{sum_assoc, sum_self, sum_zero, sum_cancel}
 use Rattle.field.specs.Field.{product, expo, power}
@@ -29,7 +30,7 @@ use Rattle.code.specs.Total.{total}
 use Rattle.errata.specs.InnerSums.{run_of}
 use Rattle.errata.specs.InnerNull.{Annihilated}
 use Rattle.errata.specs.InnerErrata.{entries, share_of, Syndromes, Placed, Rooted, Solved, mended_by, Gives, Nearing, Far}
-use Rattle.ground.proofs.Numbers.{same_or_not, below_suc}
+use Rattle.ground.proofs.Numbers.{below_suc}
 use Rattle.code.proofs.Totals.{total_ext, total_first}
 
 -- α^(a · j) either way round
@@ -65,7 +66,7 @@ module _ (row : List ℕ) (long : length row ≡ 255) (a c : ℕ → ℕ) where
       let size : length l ≡ 255 = mended-length k in
       let byte : v < 256 = sum-byte (get_or l p 0) (c k) (mended-byte br bc k p) (bc k) in
       ⊎_elim (λ (e : i ≡ p). rw e (rw (get_or-set_same l p v 0 (omega arith)) byte)) (λ (e : i ≡ p → ⊥). rw (get_or-set_other l p i v 0 e) (mended-byte br bc k i))
-      (same_or_not i p)
+      (cases_eq i p)
 
   -- the syndromes take what the values add
   pub mended-value : (n : ℕ) → ((k : ℕ) → k < n → a k < 255) → (j : ℕ) → value (mended_by row a c n) (power j) ≡ sum (value row (power j)) (share_of a c n j)
@@ -131,7 +132,7 @@ patched_at r a s long (suc n) i h =
     (λ (e : i ≡ p → ⊥). get_or-set_other l p i (get_or s p 0) 0 e
     ∙ patched_at r a s long n i
     (λ off. h (λ k b. ⊎_elim (λ (q : k ≡ n). λ z. e (sym z ∙ ap (λ (x : ℕ). 254 - a x) q)) (λ (q : k < n). off k q) (below_suc b))))
-    (same_or_not i p)
+    (cases_eq i p)
 
 pub places-distance : (r : List ℕ) (a : ℕ → ℕ) (s : List ℕ) (n : ℕ) → length r ≡ 255 → length s ≡ 255
     → ((i : ℕ) → i < 255 → ((k : ℕ) → k < n → 254 - a k ≢ i) → get_or r i 0 ≡ get_or s i 0) → distance r s ≤ n

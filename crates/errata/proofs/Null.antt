@@ -13,6 +13,7 @@ use borrow.Author.Tests.{eq-eqb, ne_eqb}
 use lib.Dec.{eqb}
 use lib.ListN.{length, get_or, set, replicate, length-set, get_or-eq_default}
 use lib.Seq.{get_or-set_same, get_or-set_other}
+use Rattle.std.proofs.lemmas.Bool.{cases_lt, cases_eq}
 use Rattle.ground.specs.Bits.{sum}
 use Rattle.ground.proofs.Sums.{sum_self, sum_zero, zero_sum}
 use Rattle.field.specs.Field.{product}
@@ -20,7 +21,7 @@ use Rattle.field.proofs.Laws.{product-byte, product_comm, product_zero, product_
 use Rattle.code.specs.Total.{total}
 use Rattle.errata.specs.InnerSums.{run_of}
 use Rattle.errata.specs.InnerNull.{Short, Passed}
-use Rattle.ground.proofs.Numbers.{lt_or_ge, same_or_not, below_suc}
+use Rattle.ground.proofs.Numbers.{below_suc}
 use Rattle.ground.proofs.Listed.{zeros_at}
 use Rattle.code.proofs.Totals.{total_ext, total-more, total_first, total-sum, total-product, total-byte}
 
@@ -181,7 +182,7 @@ module _ {s : List ℕ} {n : ℕ} {vectors : ℕ → List ℕ} {runs : ℕ → �
       record {
         sized = length-set pivots i p ∙ long;
         count = filled-set pivots i p (omega arith) free some ∙ ap suc basis.count ∙ sym (add-one n);
-        kept = λ k b nz. ⊎_elim (here k) (other k b nz) (same_or_not k i);
+        kept = λ k b nz. ⊎_elim (here k) (other k b nz) (cases_eq k i);
       }
     where
       here : (k : ℕ) → k ≡ i → Kept s (n + 1) k (vectors' k) (runs' k) (get_or (set pivots i p) k 0)
@@ -251,7 +252,7 @@ reducing_shifted s l i v r t w long inside red sh run last =
         let e : suc (m - 1) ≡ m = omega arith in
         ap (λ (x : ℕ). get_or r x 0) (sym e) ∙ sh.next (m - 1) (omega arith) ∙ red.short.above (m - 1) (omega arith))
         (λ (b : 9 ≤ m). get_or-eq_default r 0 (let n : length r ≡ 9 = sh.sized in omega arith))
-        (lt_or_ge m 9)
+        (cases_lt m 9)
 
 -- ---- the first vector is 1, and its runs are the syndromes
 

@@ -13,7 +13,8 @@ use borrow.Author.Tests.{ltb-true, lt-ltb, leb-true, le-leb, eqb-true, eqb-false
 use borrow.Author.Count.{below_more}
 use lib.Dec.{eqb, leb, ltb}
 use lib.ListN.{get_or}
-use Rattle.ground.proofs.Truth.{and_both, and_join, either, neither, fails}
+use Rattle.std.proofs.lemmas.Bool.{and_parts, or_cases, or_parts, false_from_ne_true}
+use Rattle.ground.proofs.Truth.{and_join}
 use Rattle.ground.proofs.Numbers.{below_suc}
 use Rattle.code.specs.Restore.{lost_of}
 use Rattle.code.proofs.Lost.{lost-none, lost_ext, lost_either, lost_once}
@@ -26,7 +27,7 @@ falls_each : (at : List ℕ) (n : ℕ) → falls_to at n ≡ true → (k : ℕ) 
 unfolding falls_to
 falls_each at zero t k h = absurd (not-suc-le-zero h)
 falls_each at (suc n) t k h =
-    let b = and_both (ltb (get_or at n 0) (entry_before at n)) (falls_to at n) t in
+    let b = and_parts (ltb (get_or at n 0) (entry_before at n)) (falls_to at n) t in
     ⊎_elim (λ (e : k ≡ n). subst (λ (x : ℕ). get_or at x 0 < entry_before at x) (sym e) (ltb-true (get_or at n 0) (entry_before at n) b.0))
     (λ (l : k < n). falls_each at n b.1 k l) (below_suc h)
 
@@ -39,11 +40,11 @@ each_falls at (suc n) all =
 module _ (at : List ℕ) (n : ℕ) (falling : falling_to at n ≡ true) where
   pub falling-few : n ≤ 16
   unfolding falling_to
-  falling-few = leb-true n 16 (and_both (leb n 16) (falls_to at n) falling).0
+  falling-few = leb-true n 16 (and_parts (leb n 16) (falls_to at n) falling).0
 
   falling_each : (k : ℕ) → k < n → get_or at k 0 < entry_before at k
   unfolding falling_to
-  falling_each = falls_each at n (and_both (leb n 16) (falls_to at n) falling).1
+  falling_each = falls_each at n (and_parts (leb n 16) (falls_to at n) falling).1
 
   pub falling-below : (k : ℕ) → k < n → get_or at k 0 < 255
   falling-below zero h = falling_each 0 h
@@ -86,10 +87,10 @@ descending_end {at} {n} {k} d h =
 -- one that is not below the one before it
 pub descending_not : {at : List ℕ} {n k last : ℕ} → Descending at n k last → k < n → last ≤ get_or at k 0 → false ≡ falling_to at n
 descending_not {at} {n} {k} {last} d h b =
-    sym (fails (falling_to at n) (λ t. omega (arith, falling_each at n t k h, d.was)))
+    sym (false_from_ne_true (falling_to at n) (λ t. omega (arith, falling_each at n t k h, d.was)))
 
 pub too_many : (at : List ℕ) (n : ℕ) → 16 < n → false ≡ falling_to at n
-too_many at n h = sym (fails (falling_to at n) (λ t. omega (arith, falling-few at n t)))
+too_many at n h = sym (false_from_ne_true (falling_to at n) (λ t. omega (arith, falling-few at n t)))
 
 -- ---- the columns
 
@@ -99,19 +100,19 @@ among_one at zero c t = let z : ◌≡◌ {A = ℕ} 0 1 = cc in absurd (omega ar
 among_one at (suc n) c t =
     ⊎_elim (λ (e : eqb (get_or at n 0) (254 - c) ≡ true). (n, le_refl (suc n), eqb-true (get_or at n 0) (254 - c) e))
     (λ (e : among at n c ≡ true). let k = among_one at n c e in (k.0, le_trans k.1 (le-suc n), k.2))
-    (either (eqb (get_or at n 0) (254 - c)) (among at n c) t)
+    (or_cases (eqb (get_or at n 0) (254 - c)) (among at n c) t)
 
 pub among_none : (at : List ℕ) (n c : ℕ) → among at n c ≡ false → (k : ℕ) → k < n → get_or at k 0 ≢ 254 - c
 unfolding among
 among_none at zero c t k h = absurd (not-suc-le-zero h)
 among_none at (suc n) c t k h =
-    let b = neither (eqb (get_or at n 0) (254 - c)) (among at n c) t in
+    let b = or_parts (eqb (get_or at n 0) (254 - c)) (among at n c) t in
     ⊎_elim (λ (e : k ≡ n). λ q. eqb-false (get_or at n 0) (254 - c) b.0 (ap (λ (x : ℕ). get_or at x 0) (sym e) ∙ q))
     (λ (l : k < n). among_none at n c b.1 k l) (below_suc h)
 
 -- a column that is none of the places is not lost
 pub not_among : (at : List ℕ) (n c : ℕ) → ((k : ℕ) → k < n → get_or at k 0 ≢ 254 - c) → among at n c ≡ false
-not_among at n c off = fails (among at n c) (λ t. let k = among_one at n c t in off k.0 k.1 k.2)
+not_among at n c off = false_from_ne_true (among at n c) (λ t. let k = among_one at n c t in off k.0 k.1 k.2)
 
 -- one place is one column
 place_once : (a : ℕ) → lost_of (λ c. eqb a (254 - c)) 255 ≤ 1

@@ -8,7 +8,8 @@ use Prim.Native.Nat.{ℕ, zero, suc, ◌≤◌, ◌<◌}
 use native.Mathlib.Nat.{le_refl, not-suc-le-zero, le_of_suc-le-suc}
 use native.Mathlib.Omega.{arith}
 use lib.ListN.{length, get_or}
-use Rattle.ground.proofs.Numbers.{lt_or_ge, same_or_not, below_suc}
+use Rattle.std.proofs.lemmas.Bool.{cases_lt, cases_eq}
+use Rattle.ground.proofs.Numbers.{below_suc}
 use Rattle.roots.specs.Roots.{passing}
 use Rattle.roots.proofs.Bound.{chosen}
 
@@ -47,10 +48,10 @@ passing_rises f =
 
 rises_le : {f : ℕ → Bool} {n : ℕ} {u : ℕ → ℕ} → Rises f n u → (k i : ℕ) → k ≤ i → i < n → u k ≤ u i
 rises_le {f} {n} {u} x k i h b =
-    ⊎_elim (λ (e : k ≡ i). subst (λ (j : ℕ). u k ≤ u j) e (le_refl (u k))) (λ (e : k ≡ i → ⊥). let l : u k < u i = x.rising k i (strict e) b in omega arith) (same_or_not k i)
+    ⊎_elim (λ (e : k ≡ i). subst (λ (j : ℕ). u k ≤ u j) e (le_refl (u k))) (λ (e : k ≡ i → ⊥). let l : u k < u i = x.rising k i (strict e) b in omega arith) (cases_eq k i)
   where
     strict : (k ≡ i → ⊥) → k < i
-    strict e = ⊎_elim (λ (l : k < i). l) (λ (g : i ≤ k). absurd (e (omega arith))) (lt_or_ge k i)
+    strict e = ⊎_elim (λ (l : k < i). l) (λ (g : i ≤ k). absurd (e (omega arith))) (cases_lt k i)
 
 module _ {f : ℕ → Bool} {m p : ℕ} {u w : ℕ → ℕ} (x : Rises f m u) (y : Rises f p w) where
   -- entry k of one stands in the other, not before entry k since those before agree; and the other way round
@@ -64,10 +65,10 @@ module _ {f : ℕ → Bool} {m p : ℕ} {u w : ℕ → ℕ} (x : Rises f m u) (y
     agree : (k < p) × (u k ≡ w k)
     agree =
         let i = y.all (u k) (x.below k l) (x.passes k l) in
-        let g : k ≤ i.0 = ⊎_elim (λ (j : i.0 < k). absurd (early i.0 j i.2)) (λ (g : k ≤ i.0). g) (lt_or_ge i.0 k) in
+        let g : k ≤ i.0 = ⊎_elim (λ (j : i.0 < k). absurd (early i.0 j i.2)) (λ (g : k ≤ i.0). g) (cases_lt i.0 k) in
         let s : k < p = omega (arith, i.1) in
         let j = x.all (w k) (y.below k s) (y.passes k s) in
-        let o : k ≤ j.0 = ⊎_elim (λ (c : j.0 < k). absurd (late s j.0 c j.2)) (λ (g : k ≤ j.0). g) (lt_or_ge j.0 k) in
+        let o : k ≤ j.0 = ⊎_elim (λ (c : j.0 < k). absurd (late s j.0 c j.2)) (λ (g : k ≤ j.0). g) (cases_lt j.0 k) in
         (s, omega (arith, rises_le y k i.0 g i.1, rises_le x k j.0 o j.1, i.2, j.2))
 
   up_to : (b k : ℕ) → k < b → k < m → (k < p) × (u k ≡ w k)
@@ -80,7 +81,7 @@ module _ {f : ℕ → Bool} {m p : ℕ} {u w : ℕ → ℕ} (x : Rises f m u) (y
 pub rises_many : {f : ℕ → Bool} {m p : ℕ} {u w : ℕ → ℕ} → Rises f m u → Rises f p w → m ≡ p
 rises_many {f} {m} {p} x y =
     ⊎_elim (λ (h : m < p). absurd (omega (arith, (rises_same y x m h).0)))
-    (λ (g : p ≤ m). ⊎_elim (λ (h : p < m). absurd (omega (arith, (rises_same x y p h).0))) (λ (h : m ≤ p). let e : m ≡ p = omega arith in e) (lt_or_ge p m)) (lt_or_ge m p)
+    (λ (g : p ≤ m). ⊎_elim (λ (h : p < m). absurd (omega (arith, (rises_same x y p h).0))) (λ (h : m ≤ p). let e : m ≡ p = omega arith in e) (cases_lt p m)) (cases_lt m p)
 
 -- ---- whether one of n places is a
 
@@ -91,7 +92,7 @@ somewhere u a (suc n) =
     (λ (e : u n ≡ a → ⊥).
     ⊎_elim (λ (s : (k : ℕ) × (k < n) × (u k ≡ a)). inl (s.0, later s.1, s.2))
     (λ (o : (k : ℕ) → k < n → u k ≢ a). inr (λ k h. ⊎_elim (λ (q : k ≡ n). λ z. e (ap u (sym q) ∙ z)) (λ (l : k < n). o k l) (below_suc h))) (somewhere u a n))
-    (same_or_not (u n) a)
+    (cases_eq (u n) a)
   where
     later : {k : ℕ} → k < n → k < suc n
     later h = omega arith

@@ -7,10 +7,10 @@ use Prim.Native.Nat.{ℕ, zero, suc, ◌+◌, ◌-◌, ◌≤◌, ◌<◌}
 use native.Mathlib.Nat.{le_refl}
 use native.Mathlib.Omega.{arith}
 use lib.ListN.{get_or}
+use Rattle.std.proofs.lemmas.Bool.{cases_lt, cases_eq}
 use Rattle.ground.specs.Bits.{sum}
 use Rattle.ground.specs.Lists.{listed}
 use Rattle.ground.proofs.Listed.{length-listed, get_or-listed_0}
-use Rattle.ground.proofs.Numbers.{lt_or_ge, same_or_not}
 use Rattle.field.specs.Field.{product, expo, power}
 use Rattle.field.proofs.Laws.{sum-byte, product-byte, product_assoc, product_comm, power-byte, has_inverse}
 use Rattle.code.proofs.Weights.{one_product}
@@ -52,8 +52,8 @@ module _ (at : List ℕ) (n : ℕ) (placed : Placed n at) (s : ℕ → ℕ) (k :
       (λ (b : i < n).
       let q = quotient (was.values i) (gap i) (was.bytes i) (sum-byte (power (get_or at i 0)) (power (get_or at k 0)) (power-byte (get_or at i 0)) (power-byte (get_or at k 0))) (locators_apart placed k i l b) in
       (q.0, q.1, λ l b. q.2))
-      (λ (g : n ≤ i). (0, omega arith, λ l b. absurd (omega arith))) (lt_or_ge i n))
-      (λ (g : i ≤ k). (0, omega arith, λ l b. absurd (omega arith))) (lt_or_ge k i)
+      (λ (g : n ≤ i). (0, omega arith, λ l b. absurd (omega arith))) (cases_lt i n))
+      (λ (g : i ≤ k). (0, omega arith, λ l b. absurd (omega arith))) (cases_lt k i)
 
   head : ℕ
   head = sum (was.values k) (total (n - suc k) (λ i. (divided (suc k + i)).0))
@@ -69,7 +69,7 @@ module _ (at : List ℕ) (n : ℕ) (placed : Placed n at) (s : ℕ → ℕ) (k :
       ⊎_elim (λ (l : i < k). (was.values i, was.bytes i, (λ b. refl), (λ e. absurd (omega arith)), λ g. absurd (omega arith)))
       (λ (l : k ≤ i).
       ⊎_elim (λ (e : i ≡ k). (head, head_byte, (λ b. absurd (omega arith)), (λ q. refl), λ g. absurd (omega arith)))
-      (λ (e : i ≡ k → ⊥). ((divided i).0, (divided i).1, (λ b. absurd (omega arith)), (λ q. absurd (e q)), λ g. refl)) (same_or_not i k)) (lt_or_ge i k)
+      (λ (e : i ≡ k → ⊥). ((divided i).0, (divided i).1, (λ b. absurd (omega arith)), (λ q. absurd (e q)), λ g. refl)) (cases_eq i k)) (cases_lt i k)
 
   head_next : (next k).0 ≡ sum (shifts_of (entries at) s k 0) (total (n - suc k) (λ i. (next (suc k + i)).0))
   unfolding head
@@ -114,7 +114,7 @@ module _ (at : List ℕ) (n : ℕ) (placed : Placed n at) (s : List ℕ) (bytes 
   unfolding solved
   solved_byte k =
       ⊎_elim (λ (h : k < 16). rw (get_or-listed_0 all-values 16 k 0 h) (whole.bytes k))
-      (λ (g : 16 ≤ k). rw (beyond (listed all-values 16 0) k (omega (arith, length-listed all-values 16 0))) (omega arith)) (lt_or_ge k 16)
+      (λ (g : 16 ≤ k). rw (beyond (listed all-values 16 0) k (omega (arith, length-listed all-values 16 0))) (omega arith)) (cases_lt k 16)
 
   pub solved_solves : Solved at n s solved
   unfolding solved shifts_of share_of

@@ -8,9 +8,10 @@ use Prim.Native.Nat.{ℕ, zero, suc, ◌+◌, ◌-◌, ◌≤◌, ◌<◌}
 use native.Mathlib.Nat.{le_refl, add-zero}
 use native.Mathlib.Omega.{arith}
 use lib.ListN.{get_or}
+use Rattle.std.proofs.lemmas.Bool.{cases_lt}
 use Rattle.ground.specs.Bits.{sum}
 use Rattle.ground.proofs.Sums.{sum_comm, sum_self}
-use Rattle.ground.proofs.Numbers.{lt_or_ge, below_suc}
+use Rattle.ground.proofs.Numbers.{below_suc}
 use Rattle.field.specs.Field.{product, expo, power}
 use Rattle.field.proofs.Laws.{ring, zero_product, product_zero}
 use Rattle.code.proofs.Weights.{expo-suc}
@@ -130,7 +131,7 @@ module _ (at : List ℕ) (n : ℕ) (s c : List ℕ) (solved : Solved at n s c)
       ap (share_of (entries at) (entries c) n) (sym e)
       ∙ shifts_last (entries at) (share_of (entries at) (entries c) n) (entries s) n (m - n) (λ i l. below m i (omega arith) (omega arith))
       (shares_end (entries at) (entries c) n (m - n) ∙ sym (tail (m - n) (omega arith)))
-      ∙ ap (entries s) e) (lt_or_ge m n)))
+      ∙ ap (entries s) e) (cases_lt m n)))
       (λ (q : j < m). below m j (omega arith) q)
       (below_suc h)
 

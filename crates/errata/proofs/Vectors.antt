@@ -10,9 +10,10 @@ use native.Mathlib.Omega.{arith}
 use lib.Bits.{bit_xor}
 use lib.ListN.{length, get_or, set, replicate, length-set, get_or-eq_default}
 use lib.Seq.{ext_get_or, get_or-set_same, get_or-set_other}
+use Rattle.std.proofs.lemmas.Bool.{cases_lt}
 use Rattle.ground.specs.Bits.{sum}
 use Rattle.ground.proofs.Sums.{zero_sum}
-use Rattle.ground.proofs.Numbers.{lt_or_ge, below_suc}
+use Rattle.ground.proofs.Numbers.{below_suc}
 use Rattle.ground.proofs.Listed.{length-listed, get_or-listed_0, zeros_at}
 use Rattle.words.specs.Words.{byte_at}
 use Rattle.field.specs.declared.Sixteen.{Sixteen}
@@ -68,10 +69,10 @@ entries_blended p d a a' b b' r r' k low high h =
     (λ (m : 8 ≤ k).
     entry-high (in_two r r') k m ∙ high.entry (k - 8) (omega arith)
     ∙ sym (ap₂ (λ (x y : ℕ). sum (product p x) (product d y)) (entry-high (in_two a a') k m) (entry-high (in_two b b') k m)))
-    (lt_or_ge k 8)
+    (cases_lt k 8)
 
 nine_mixed : (p d a a' b b' r r' : ℕ) → Blended p d a b r → Blended p d a' b' r' → Mixed p d (nine a a') (nine b b') (nine r r')
-nine_mixed p d a a' b b' r r' low high = record { sized = nine-sized r r'; entry = λ m. ⊎_elim (front m) (behind m) (lt_or_ge m 9) }
+nine_mixed p d a a' b b' r r' low high = record { sized = nine-sized r r'; entry = λ m. ⊎_elim (front m) (behind m) (cases_lt m 9) }
   where
     front : (m : ℕ) → m < 9 → get_or (nine r r') m 0 ≡ sum (product p (get_or (nine a a') m 0)) (product d (get_or (nine b b') m 0))
     front m h =

@@ -7,8 +7,8 @@ use native.Mathlib.Nat.{div-one, mod-eq_of_lt}
 use native.Mathlib.Omega.{arith}
 use lib.Dec.{lit<}
 use lib.Pow.{shr-shr}
+use Rattle.std.proofs.lemmas.Bool.{cases_lt}
 use Rattle.ground.specs.Bits.{sum, keep}
-use Rattle.ground.proofs.Numbers.{lt_or_ge}
 use Rattle.ground.proofs.Sums.{sum_zero, zero_sum, sum_assoc}
 use Rattle.words.specs.Words.{byte_at}
 use Rattle.field.specs.declared.Sixteen.{Sixteen}
@@ -100,7 +100,7 @@ both_words a b r hl hh low high =
           ⊎_elim
           (λ (l : k < 8). entry-low r k l ∙ low k l ∙ ap₂ product (sym (entry-low a k l)) (sym (entry-low b k l)))
           (λ (l : 8 ≤ k). entry-high r k l ∙ high (k - 8) (omega arith) ∙ ap₂ product (sym (entry-high a k l)) (sym (entry-high b k l)))
-          (lt_or_ge k 8);
+          (cases_lt k 8);
     }
 
 -- ---- the first of sixteen

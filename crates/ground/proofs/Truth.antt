@@ -7,20 +7,8 @@ use mathlib.Core.Bool.{Bool, true, false, not, ◌&&◌, ◌||◌, true≢false}
 pub differ : {Q : Type 0} → true ≡ false → Q
 differ e = absurd (true≢false e)
 
-pub and_both : (a b : Bool) → (a && b) ≡ true → (a ≡ true) × (b ≡ true)
-and_both true b e = (refl, e)
-and_both false b e = differ (sym e)
-
 pub and_join : {a b : Bool} → a ≡ true → b ≡ true → (a && b) ≡ true
 and_join p q = rw (p, q)
-
-pub either : (a b : Bool) → (a || b) ≡ true → (a ≡ true) ⊎ (b ≡ true)
-either true b e = inl refl
-either false b e = inr e
-
-pub neither : (a b : Bool) → (a || b) ≡ false → (a ≡ false) × (b ≡ false)
-neither true b e = differ e
-neither false b e = (refl, e)
 
 pub or_left : {a : Bool} (b : Bool) → a ≡ true → (a || b) ≡ true
 or_left b p = rw p
@@ -34,8 +22,3 @@ not_yes p = rw p
 
 pub not_no : {a : Bool} → a ≡ true → not a ≡ false
 not_no p = rw p
-
--- a test that does not pass fails
-pub fails : (a : Bool) → (a ≡ true → ⊥) → a ≡ false
-fails true h = absurd (h refl)
-fails false h = refl

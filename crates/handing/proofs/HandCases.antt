@@ -8,8 +8,8 @@ use native.Mathlib.Omega.{arith}
 use borrow.Author.Tests.{lt-leb, le-leb, leb-true, eq-eqb, ne_eqb, eqb-true, eqb-false}
 use lib.Dec.{eqb, leb}
 use lib.ListN.{length, get_or, drop}
+use Rattle.std.proofs.lemmas.Bool.{and_parts}
 use Rattle.ground.proofs.Listed.{length-listed}
-use Rattle.ground.proofs.Truth.{and_both}
 use Rattle.settings.proofs.Laws.{by_one}
 use Rattle.refusals.specs.declared.Refusal.{Refusal}
 use Rattle.refusals.specs.declared.Refusal.TheVariants.{Unknown, Slot, Missing, Shape, Size, Output}
@@ -158,8 +158,8 @@ module _ (p : Place) (s : List ℕ) where
   pub usable-known : usable_in p (length s) ≡ true → Usable p s
   unfolding usable_in
   usable-known e =
-      let a = and_both (leb (end_of p) (length s)) _ e in
-      let b = and_both (eqb p.order 0) _ a.1 in
+      let a = and_parts (leb (end_of p) (length s)) _ e in
+      let b = and_parts (eqb p.order 0) _ a.1 in
       record { ends = leb-true (end_of p) (length s) a.0; by_rows = eqb-true p.order 0 b.0; rows = rows_told p _ _ refl refl b.1 }
 
   module _ (n : ℕ) (out : List ℕ) where

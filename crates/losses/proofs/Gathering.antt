@@ -5,6 +5,7 @@ use mathlib.Core.Logic.{⊎_elim}
 use mathlib.Core.Bool.{Bool, false}
 use mathlib.Core.List.{List}
 use Prim.Native.Nat.{ℕ, ◌+◌, ◌-◌, ◌*◌, ◌/◌, ◌%◌, ◌^◌, ◌≤◌, ◌<◌}
+use Rattle.std.proofs.lemmas.Bool.{cases_lt}
 use Rattle.std.proofs.Common.{min}
 use native.Mathlib.Nat.{suc-mul, mul-le-mul, mul-le-mul_right, mod-lt, div-add-mod', div-le_self}
 use native.Mathlib.Omega.{arith}
@@ -12,7 +13,6 @@ use lib.ListN.{length, get_or, replicate}
 use lib.Seq.{ext_get_or}
 use Rattle.ground.specs.Lists.{listed}
 use Rattle.ground.proofs.Listed.{length-listed, get_or-listed_0, zeros_at}
-use Rattle.ground.proofs.Numbers.{lt_or_ge}
 use Rattle.code.specs.Restore.{lost_of}
 use Rattle.code.proofs.Lost.{lost-all}
 use Rattle.roots.specs.Roots.{passing}
@@ -76,7 +76,7 @@ module _ {p : Place} {s : List ℕ} {first k c lost : ℕ} {row at : List ℕ} (
     more r h =
         ⊎_elim (λ (l : c < r). l)
         (λ (l : r ≤ c). absurd (omega (arith, mul-le-mul_right p.rows l, least.above (first + c * p.rows) begins-before below_last)))
-        (lt_or_ge c r)
+        (cases_lt c r)
 
     -- and its columns stand in slot k
     stand : {d r : ℕ} → Reached first p.rows end d r → (x : ℕ) → d ≤ x → x < r → first + x * p.rows < k * p.slot + p.slot
@@ -120,14 +120,14 @@ module _ {p : Place} {s : List ℕ} {first k c lost : ℕ} {row at : List ℕ} (
             let a : stop ≤ y = omega (arith, copied.reached.behind, mul-le-mul_right p.rows h) in
             let z : y < first + 255 * p.rows = omega (arith, reached.before x h l, least.right) in
             byte-none held first x (later x (omega (arith, copied.reached.on))) (stand reached x h l)
-            (⊎_elim (λ (i : y < k * p.slot + n). absurd (omega (arith, short.above y i z))) (λ (i : k * p.slot + n ≤ y). i) (lt_or_ge y (k * p.slot + n)))
+            (⊎_elim (λ (i : y < k * p.slot + n). absurd (omega (arith, short.above y i z))) (λ (i : k * p.slot + n ≤ y). i) (cases_lt y (k * p.slot + n)))
 
         came : (x : ℕ) → c ≤ x → x < r → gone_in p s first x ≡ false
         came x h l =
             ⊎_elim
             (λ (i : x < d). gone_not held first x (later x h) (omega (arith, inside x h i, held.fits)) e)
             (λ (i : d ≤ x). gone_not held first x (later x h) (stand reached x i l) e)
-            (lt_or_ge x d)
+            (cases_lt x d)
 
     -- where it is copied from lies in the store
     pub run_inside : (n ≡ 0 → ⊥) → {stop : ℕ} → Least (k * p.slot + n) (first + 255 * p.rows) stop → p.start + 2 * k + 2 + stop ≤ length s

@@ -10,7 +10,7 @@ use native.Mathlib.Numerals.{add-one}
 use native.Mathlib.Omega.{arith}
 use lib.ListN.{length, get_or, set, replicate, length-set, length-append, get_or-replicate, get_or-append}
 use lib.Seq.{get_or-set_same, get_or-set_other, get_or-append_seam}
-use Rattle.ground.proofs.Numbers.{lt_or_ge, same_or_not}
+use Rattle.std.proofs.lemmas.Bool.{cases_lt, cases_eq}
 use Rattle.roots.specs.Roots.{passing}
 use Rattle.roots.proofs.Passing.{single, passing-more, passing-append, passing-none}
 use Rattle.losses.specs.InnerRuns.{Told, One}
@@ -64,8 +64,8 @@ module _ {g : ℕ → Bool} {c lost : ℕ} {at : List ℕ} (was : Told g c lost 
         (λ k h. ⊎_elim
         (λ (e : k ≡ lost). ap (λ (i : ℕ). get_or (set at lost (254 - c)) i 0) e ∙ get_or-set_same at lost (254 - c) 0 (omega (arith, was.sized)) ∙ this k e)
         (λ (d : k ≡ lost → ⊥). get_or-set_other at lost k (254 - c) 0 d ∙ was.entry k h
-        ∙ ⊎_elim (λ (b : k < lost). earlier k b) (λ (b : lost ≤ k). later k (omega arith)) (lt_or_ge k lost))
-        (same_or_not k lost))
+        ∙ ⊎_elim (λ (b : k < lost). earlier k b) (λ (b : lost ≤ k). later k (omega arith)) (cases_lt k lost))
+        (cases_eq k lost))
 
   -- columns that came
   pub told_came : (r : ℕ) → c ≤ r → ((x : ℕ) → c ≤ x → x < r → g x ≡ false) → Told g r lost at

@@ -8,7 +8,7 @@ use native.Mathlib.Omega.{arith}
 use borrow.Author.Tests.{leb-true, eqb-false, not-true}
 use lib.Dec.{eqb, leb}
 use lib.ListN.{length, replicate}
-use Rattle.ground.proofs.Truth.{and_both}
+use Rattle.std.proofs.lemmas.Bool.{and_parts}
 use Rattle.code.specs.Restore.{lost_of}
 use Rattle.places.specs.declared.Place.{Place}
 use Rattle.places.specs.Places.{end_of}
@@ -24,8 +24,8 @@ module _ (p : Place) (size : ℕ) where
   pub tabled_facts : tabled p size ≡ true → Tabled p size
   unfolding tabled
   tabled_facts t =
-      let a = and_both (leb (end_of p) size) (not (eqb p.rows 0) && not (eqb p.slot 0)) t in
-      let b = and_both (not (eqb p.rows 0)) (not (eqb p.slot 0)) a.1 in
+      let a = and_parts (leb (end_of p) size) (not (eqb p.rows 0) && not (eqb p.slot 0)) t in
+      let b = and_parts (not (eqb p.rows 0)) (not (eqb p.slot 0)) a.1 in
       record { ends = leb-true (end_of p) size a.0; rows = some p.rows b.0; slot = some p.slot b.1 }
 
 module _ (p : Place) (s : List ℕ) (q : ℕ) where

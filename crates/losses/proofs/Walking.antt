@@ -9,9 +9,9 @@ use native.Mathlib.Nat.{mul-le-mul, mul-le-mul_right, add-mul, one-mul}
 use native.Mathlib.Omega.{arith}
 use lib.ListN.{length, get_or, set, length-set}
 use lib.Seq.{get_or-set_same, get_or-set_other}
+use Rattle.std.proofs.lemmas.Bool.{cases_lt, cases_eq}
 use Rattle.ground.specs.Lists.{ceil}
 use Rattle.ground.proofs.Listed.{ceil_upper, ceil-below}
-use Rattle.ground.proofs.Numbers.{lt_or_ge, same_or_not}
 use Rattle.losses.specs.InnerRuns.{Part, Told, Walk, Reached, Copied, One, Noted}
 
 pub next-times : (x m : ℕ) → (x + 1) * m ≡ x * m + m
@@ -40,7 +40,7 @@ module _ {first m end c : ℕ} (w : Walk first m end c) where
     going_below h =
         ⊎_elim (λ (l : x < 255). l)
         (λ (l : 255 ≤ x). let t : 255 * m ≤ x * m = mul-le-mul_right m l in absurd (omega (arith, w.last)))
-        (lt_or_ge x 255)
+        (cases_lt x 255)
 
     pub going_next : x < 255 → first + x * m < end → Going first m end c (x + 1)
     going_next l h =
@@ -48,8 +48,8 @@ module _ {first m end c : ℕ} (w : Walk first m end c) where
           within = omega arith;
           before = λ y a b. ⊎_elim
               (λ (e : y ≡ x). rw e h)
-              (λ (d : y ≡ x → ⊥). v.before y a (let l : y < x = ⊎_elim (λ (k : y < x). k) (λ (k : x ≤ y). absurd (d (omega arith))) (lt_or_ge y x) in l))
-              (same_or_not y x);
+              (λ (d : y ≡ x → ⊥). v.before y a (let l : y < x = ⊎_elim (λ (k : y < x). k) (λ (k : x ≤ y). absurd (d (omega arith))) (cases_lt y x) in l))
+              (cases_eq y x);
         }
 
 -- ---- columns that are passed over
@@ -63,8 +63,8 @@ module _ {first m end c : ℕ} (w : Walk first m end c) where
       let u : end - first ≤ r * m = rw e (ceil_upper (end - first) m w.some) in
       let below : (x : ℕ) → x < r → x * m < end - first = λ x l. ceil-below (end - first) m x w.some (rw (← e) l) in
       record {
-        on = ⊎_elim (λ (l : r < c). let t : r * m ≤ c * m = mul-le-mul_right m (omega arith) in absurd (omega arith)) (λ (l : c ≤ r). l) (lt_or_ge r c);
-        within = ⊎_elim (λ (l : 255 < r). absurd (omega (arith, below 255 l, w.last))) (λ (l : r ≤ 255). l) (lt_or_ge 255 r);
+        on = ⊎_elim (λ (l : r < c). let t : r * m ≤ c * m = mul-le-mul_right m (omega arith) in absurd (omega arith)) (λ (l : c ≤ r). l) (cases_lt r c);
+        within = ⊎_elim (λ (l : 255 < r). absurd (omega (arith, below 255 l, w.last))) (λ (l : r ≤ 255). l) (cases_lt 255 r);
         before = λ x a l. omega (arith, below x l);
         behind = omega arith;
       }
@@ -77,8 +77,8 @@ part-more {f} {row} {c} was h b e =
       sized = length-set row c b ∙ was.sized;
       done = λ x l. ⊎_elim
           (λ (z : x ≡ c). ap (λ (i : ℕ). get_or (set row c b) i 0) z ∙ get_or-set_same row c b 0 (omega (arith, was.sized)) ∙ sym (ap f z ∙ e))
-          (λ (z : x ≡ c → ⊥). get_or-set_other row c x b 0 z ∙ ⊎_elim (λ (k : x < c). was.done x k) (λ (k : c ≤ x). absurd (z (omega arith))) (lt_or_ge x c))
-          (same_or_not x c);
+          (λ (z : x ≡ c → ⊥). get_or-set_other row c x b 0 z ∙ ⊎_elim (λ (k : x < c). was.done x k) (λ (k : c ≤ x). absurd (z (omega arith))) (cases_lt x c))
+          (cases_eq x c);
       ahead = λ x l. get_or-set_other row c x b 0 (λ z. let y : x ≡ c = z in omega arith) ∙ was.ahead x (omega arith);
     }
 
@@ -87,7 +87,7 @@ pub part_zero : {f : ℕ → ℕ} {row : List ℕ} {c : ℕ} → Part f row c �
 part_zero {f} {row} {c} was r l z =
     record {
       sized = was.sized;
-      done = λ x h. ⊎_elim (λ (k : x < c). was.done x k) (λ (k : c ≤ x). was.ahead x k ∙ sym (z x k h)) (lt_or_ge x c);
+      done = λ x h. ⊎_elim (λ (k : x < c). was.done x k) (λ (k : c ≤ x). was.ahead x k ∙ sym (z x k h)) (cases_lt x c);
       ahead = λ x h. was.ahead x (omega arith);
     }
 

@@ -10,6 +10,7 @@ use borrow.Author.Tests.{leb-true}
 use lib.Dec.{leb}
 use lib.ListN.{length, get_or, set, replicate}
 use lib.Seq.{get_or-set_same, get_or-set_other}
+use Rattle.std.proofs.lemmas.Bool.{and_parts}
 use Rattle.refusals.specs.declared.Refusal.{Refusal}
 use Rattle.refusals.specs.declared.Refusal.TheVariants.{Held, Full, Room}
 use Rattle.settings.specs.declared.Settings.{Settings}
@@ -21,7 +22,6 @@ use Rattle.places.proofs.Facts.{usable-limit, usable-within}
 use Rattle.places.proofs.Holders.{unused-at, unused-none, named_new, named_other}
 use Rattle.places.proofs.Named.{names-yes}
 use Rattle.places.proofs.Opened.{placed_end, opened-good}
-use Rattle.ground.proofs.Truth.{and_both}
 use Rattle.places.proofs.Starts.{Free, free_is, clear_apart, lowest-free, lowest-least, lowest-none, none-lowest}
 use Rattle.contents.specs.Slots.{cleared}
 use Rattle.contents.specs.Contents.{holding, contents}
@@ -35,7 +35,7 @@ use Rattle.std.specs.Prelude.{Some, None}
 -- settings that fit name a resource
 resource_used : (g : Settings) → settings_fit g ≡ true → g.resource ≡ 0 → ⊥
 unfolding settings_fit
-resource_used g f z = omega (arith, leb-true 1 g.resource (and_both (leb 1 g.resource) _ f).0)
+resource_used g f z = omega (arith, leb-true 1 g.resource (and_parts (leb 1 g.resource) _ f).0)
 
 -- ---- an accepted open: place i of the record, from a start on
 

@@ -7,9 +7,10 @@ use Prim.Native.Nat.{ℕ, ◌<◌, ◌≤◌}
 use native.Mathlib.Omega.{arith}
 use borrow.Author.Tests.{le-leb, lt-leb, leb-true, leb-false, not-true, not-false}
 use lib.Dec.{leb}
+use Rattle.std.proofs.lemmas.Bool.{or_cases, or_parts}
 use Rattle.places.specs.declared.Place.{Place}
 use Rattle.places.specs.Places.{in_use, place_name, same_name, end_of, meets, agree}
-use Rattle.ground.proofs.Truth.{differ, either, neither, or_right}
+use Rattle.ground.proofs.Truth.{differ, or_right}
 use Rattle.places.proofs.Named.{same_name_lem, other_name, same-name_sym}
 
 pub agree_sym : (p q : Place) → agree p q ≡ agree q p
@@ -42,8 +43,8 @@ module _ (p q : Place) where
     unfolding meets
     agree-apart e =
         ⊎_map (leb-true (end_of p) q.start) (leb-true (end_of q) p.start)
-        (either (leb (end_of p) q.start) (leb (end_of q) p.start)
-        (not-false _ (neither (same_name (place_name p) (place_name q)) (meets p q) (not-true _ (sym agree_used ∙ e))).1))
+        (or_cases (leb (end_of p) q.start) (leb (end_of q) p.start)
+        (not-false _ (or_parts (same_name (place_name p) (place_name q)) (meets p q) (not-true _ (sym agree_used ∙ e))).1))
 
     module _ (d : place_name p ≡ place_name q → ⊥) where
       agree-bytes : agree p q ≡ (leb (end_of p) q.start || leb (end_of q) p.start)
@@ -78,7 +79,7 @@ shared_meets p q b s =
 pub meets_shared : (p q : Place) → p.start < end_of p → q.start < end_of q → meets p q ≡ true → Shared p q p.start ⊎ Shared p q q.start
 unfolding meets
 meets_shared p q hp hq m =
-    let n = neither (leb (end_of p) q.start) (leb (end_of q) p.start) (not-true _ m) in
+    let n = or_parts (leb (end_of p) q.start) (leb (end_of q) p.start) (not-true _ m) in
     let a = leb-false (end_of p) q.start n.0 in
     let b = leb-false (end_of q) p.start n.1 in
     by hp hq a b (leb p.start q.start) refl

@@ -10,10 +10,11 @@ use borrow.Author.Count.{below_more}
 use borrow.Author.Tests.{le-leb, leb-false, not-false}
 use lib.Dec.{leb}
 use lib.ListN.{length, get_or}
+use Rattle.std.proofs.lemmas.Bool.{or_parts, false_from_ne_true}
 use Rattle.places.specs.declared.Place.{Place}
 use Rattle.places.specs.Places.{unused, in_use, usable, end_of, all}
 use Rattle.places.specs.Room.{clear, free, lowest_start}
-use Rattle.ground.proofs.Truth.{differ, neither, fails}
+use Rattle.ground.proofs.Truth.{differ}
 use Rattle.places.proofs.Starts.{clear_apart, free_is, free-lowest, none-lowest}
 use Rattle.std.specs.Prelude.{Some, None}
 
@@ -21,8 +22,8 @@ use Rattle.std.specs.Prelude.{Some, None}
 clear_edge : (t size : ℕ) (p : Place) → clear (suc t) size p ≡ true → clear t size p ≡ false → (in_use p ≡ true) × (end_of p ≡ suc t)
 unfolding clear
 clear_edge t size p a b =
-    let x = neither (not (in_use p)) (leb (end_of p) t || leb (t + size) p.start) b in
-    let y = neither (leb (end_of p) t) (leb (t + size) p.start) x.1 in
+    let x = or_parts (not (in_use p)) (leb (end_of p) t || leb (t + size) p.start) b in
+    let y = or_parts (leb (end_of p) t) (leb (t + size) p.start) x.1 in
     let u = not-false (in_use p) x.0 in
     let near : suc t + size ≤ p.start → ⊥ = λ h. omega (arith, leb-false (t + size) p.start y.1) in
     (u, ⊎_elim (λ h. omega (arith, leb-false (end_of p) t y.0)) (λ h. absurd (near h)) (clear_apart (suc t) size p u a))
@@ -92,7 +93,7 @@ module _ (n size : ℕ) (ps : List Place) where
 
       pub best_nowhere : usable n < b → lowest_start n size ps ≡ None
       best_nowhere l =
-          none-lowest n size ps (λ s. fails (free n size ps s) (λ f. absurd (omega (arith, lowest s f, (free_is n size ps s f).ends))))
+          none-lowest n size ps (λ s. false_from_ne_true (free n size ps s) (λ f. absurd (omega (arith, lowest s f, (free_is n size ps s f).ends))))
 
 -- the start 0 is the lowest if it is free
 pub lowest_zero : (n size : ℕ) (ps : List Place) → free n size ps 0 ≡ true → lowest_start n size ps ≡ Some 0

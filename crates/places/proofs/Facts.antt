@@ -10,11 +10,11 @@ use native.Mathlib.Omega.{arith}
 use borrow.Author.Tests.{le-leb, leb-true, leb-false, eq-eqb, eqb-true, eqb-false}
 use lib.Dec.{eqb, leb}
 use lib.ListN.{length, get_or}
+use Rattle.std.proofs.lemmas.Bool.{and_parts}
 use Rattle.settings.specs.Settings.{settings_fit, rows_held}
 use Rattle.settings.proofs.Laws.{SettingsFacts, settings_facts}
 use Rattle.places.specs.declared.Place.{Place}
 use Rattle.places.specs.Places.{unused, in_use, Name, place_name, names, usable, end_of, settings_in, count_fits, ranges_fit, fits, good, place_named}
-use Rattle.ground.proofs.Truth.{and_both}
 use Rattle.places.proofs.Searches.{first_is}
 use Rattle.places.proofs.Named.{names_in_use, names-name}
 use Rattle.places.proofs.Agreeing.{agree-apart, agree-other}
@@ -75,10 +75,10 @@ held-without p h z = h ∙ rw (eq-eqb p.protection 0 z)
 pub place_facts : (n : ℕ) (p : Place) → fits n p ≡ true → in_use p ≡ true → PlaceFacts n p
 unfolding ranges_fit
 place_facts n p f u =
-    let w = and_both (ranges_fit p) (leb (end_of p) (usable n)) (sym (fits_used n p u) ∙ f) in
-    let r = and_both (settings_fit (settings_in p)) _ w.0 in
-    let t = and_both (eqb p.rows (rows_held (settings_in p))) (count_fits p.count) r.1 in
-    let k = and_both (leb 1 p.count) (leb p.count 1048575) t.1 in
+    let w = and_parts (ranges_fit p) (leb (end_of p) (usable n)) (sym (fits_used n p u) ∙ f) in
+    let r = and_parts (settings_fit (settings_in p)) _ w.0 in
+    let t = and_parts (eqb p.rows (rows_held (settings_in p))) (count_fits p.count) r.1 in
+    let k = and_parts (leb 1 p.count) (leb p.count 1048575) t.1 in
     let s = settings_facts (settings_in p) r.0 in
     let m = held-without p (eqb-true p.rows (rows_held (settings_in p)) t.0) in
     let z : end_of p ≤ usable n = leb-true (end_of p) (usable n) w.1 in

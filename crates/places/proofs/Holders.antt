@@ -8,9 +8,9 @@ use native.Mathlib.Omega.{arith}
 use borrow.Author.Tests.{not-true, not-false}
 use lib.ListN.{length, get_or, set, length-set}
 use lib.Seq.{get_or-set_same, get_or-set_other}
+use Rattle.std.proofs.lemmas.Bool.{false_from_ne_true}
 use Rattle.places.specs.declared.Place.{Place}
 use Rattle.places.specs.Places.{unused, in_use, Name, place_name, names, good, place_named, first_unused}
-use Rattle.ground.proofs.Truth.{fails}
 use Rattle.places.proofs.Searches.{first_is, none_passes, first-none, first-only, first-set}
 use Rattle.places.proofs.Named.{names-no, names-unused, names_one}
 use Rattle.places.proofs.Keeping.{at_set}
@@ -75,7 +75,7 @@ module _ (ps : List Place) where
       (λ k h.
       let hk : k < length ps = omega (arith, length-set ps i unused) in
       at_set ps i unused (λ q. names q x ≡ false) k hk (λ z. refl)
-      (λ d. fails (names (get_or ps k unused) x) (λ t. d (one_holder n ps g k i hk r.0 x t r.1))))
+      (λ d. false_from_ne_true (names (get_or ps k unused) x) (λ t. d (one_holder n ps g k i hk r.0 x t r.1))))
 
   -- every other is found where it was
   pub named-left : (x y : Name) (i : ℕ) → place_named ps x ≡ Some i → (y ≡ x → ⊥) → place_named (set ps i unused) y ≡ place_named ps y

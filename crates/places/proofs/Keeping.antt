@@ -9,9 +9,10 @@ use borrow.Author.Tests.{eqb-true, eqb-false, ltb-true, ltb-false}
 use lib.Dec.{eqb, leb, ltb}
 use lib.ListN.{length, get_or, drop, set, length-set}
 use lib.Seq.{get_or-set_same, get_or-set_other}
+use Rattle.std.proofs.lemmas.Bool.{and_parts}
 use Rattle.places.specs.declared.Place.{Place}
 use Rattle.places.specs.Places.{unused, fresh_record, in_use, usable, end_of, all, ranges_fit, agree, fits, good}
-use Rattle.ground.proofs.Truth.{and_both, and_join}
+use Rattle.ground.proofs.Truth.{and_join}
 use Rattle.places.proofs.Steps.{all-at, all_of, good-yes}
 use Rattle.places.proofs.Agreeing.{agree_sym, agree_left}
 
@@ -32,18 +33,18 @@ module _ (n : ℕ) where
   pub good-at : (ps : List Place) (i : ℕ) → good n ps ≡ true → i < length ps → fits n (get_or ps i unused) ≡ true
   unfolding good
   good-at [] i g h = absurd (omega arith)
-  good-at (p ∷ ps) zero g h = (and_both (fits n p) (all (agree p) ps && good n ps) g).0
+  good-at (p ∷ ps) zero g h = (and_parts (fits n p) (all (agree p) ps && good n ps) g).0
   good-at (p ∷ ps) (suc i) g h =
-      good-at ps i (and_both (all (agree p) ps) (good n ps) (and_both (fits n p) _ g).1).1 (omega arith)
+      good-at ps i (and_parts (all (agree p) ps) (good n ps) (and_parts (fits n p) _ g).1).1 (omega arith)
 
   good-later : (ps : List Place) (i j : ℕ) → good n ps ≡ true → i < j → j < length ps → agree (get_or ps i unused) (get_or ps j unused) ≡ true
   unfolding good
   good-later [] i j g l h = absurd (omega arith)
   good-later (p ∷ ps) i zero g l h = absurd (omega arith)
   good-later (p ∷ ps) zero (suc j) g l h =
-      all-at (agree p) ps j (and_both (all (agree p) ps) (good n ps) (and_both (fits n p) _ g).1).0 (omega arith)
+      all-at (agree p) ps j (and_parts (all (agree p) ps) (good n ps) (and_parts (fits n p) _ g).1).0 (omega arith)
   good-later (p ∷ ps) (suc i) (suc j) g l h =
-      good-later ps i j (and_both (all (agree p) ps) (good n ps) (and_both (fits n p) _ g).1).1 (omega arith) (omega arith)
+      good-later ps i j (and_parts (all (agree p) ps) (good n ps) (and_parts (fits n p) _ g).1).1 (omega arith) (omega arith)
 
   -- of each two
   pub good_pair : (ps : List Place) (i j : ℕ) → good n ps ≡ true → i < length ps → j < length ps → (i ≡ j → ⊥) → agree (get_or ps i unused) (get_or ps j unused) ≡ true

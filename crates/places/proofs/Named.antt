@@ -4,9 +4,10 @@ use mathlib.Core.Path.{◌≡◌, refl, sym, ap, ◌∙◌}
 use mathlib.Core.Bool.{Bool, true, false}
 use borrow.Author.Tests.{eq-eqb, ne_eqb, eqb-true, eqb-false, not-true}
 use lib.Dec.{eqb}
+use Rattle.std.proofs.lemmas.Bool.{and_parts, false_from_ne_true}
 use Rattle.places.specs.declared.Place.{Place}
 use Rattle.places.specs.Places.{in_use, Name, place_name, same_name, names}
-use Rattle.ground.proofs.Truth.{differ, and_both, and_join, not_yes, not_no, fails}
+use Rattle.ground.proofs.Truth.{differ, and_join, not_yes, not_no}
 
 -- ---- names are the same exactly if both parts are
 
@@ -17,13 +18,13 @@ same_name_lem x y e = and_join (eq-eqb _ _ (ap (λ (n : Name). n.resource) e)) (
 pub name-same : (x y : Name) → same_name x y ≡ true → x ≡ y
 unfolding same_name
 name-same x y e =
-    let b = and_both (eqb x.resource y.resource) (eqb x.kind y.kind) e in
+    let b = and_parts (eqb x.resource y.resource) (eqb x.kind y.kind) e in
     let r : x.resource ≡ y.resource = eqb-true _ _ b.0 in
     let k : x.kind ≡ y.kind = eqb-true _ _ b.1 in
     λ i. record { resource = r i; kind = k i }
 
 pub other_name : (x y : Name) → (x ≡ y → ⊥) → same_name x y ≡ false
-other_name x y h = fails (same_name x y) (λ e. h (name-same x y e))
+other_name x y h = false_from_ne_true (same_name x y) (λ e. h (name-same x y e))
 
 pub name-other : (x y : Name) → same_name x y ≡ false → x ≡ y → ⊥
 name-other x y e z = differ (sym (same_name_lem x y z) ∙ e)
@@ -52,13 +53,13 @@ pub names-yes : (p : Place) (x : Name) → (x.resource ≡ 0 → ⊥) → place_
 names-yes p x h e = and_join (in_use_lem p (λ z. h (sym (ap (λ (n : Name). n.resource) e) ∙ z))) (same_name_lem _ _ e)
 
 pub names-name : (p : Place) (x : Name) → names p x ≡ true → place_name p ≡ x
-names-name p x e = name-same _ _ (and_both (in_use p) _ e).1
+names-name p x e = name-same _ _ (and_parts (in_use p) _ e).1
 
 pub names_in_use : (p : Place) (x : Name) → names p x ≡ true → in_use p ≡ true
-names_in_use p x e = (and_both (in_use p) _ e).0
+names_in_use p x e = (and_parts (in_use p) _ e).0
 
 pub names-no : (p : Place) (x : Name) → (place_name p ≡ x → ⊥) → names p x ≡ false
-names-no p x h = fails (names p x) (λ e. h (names-name p x e))
+names-no p x h = false_from_ne_true (names p x) (λ e. h (names-name p x e))
 
 pub names-unused : (p : Place) (x : Name) → in_use p ≡ false → names p x ≡ false
 names-unused p x u = rw u

@@ -9,13 +9,14 @@ use native.Mathlib.Omega.{arith}
 use borrow.Author.Tests.{le-leb, eq-eqb}
 use lib.Dec.{eqb, leb}
 use lib.ListN.{get_or, set, get_or-replicate}
+use Rattle.std.proofs.lemmas.Bool.{false_from_ne_true}
 use Rattle.settings.specs.declared.Settings.{Settings}
 use Rattle.settings.specs.Settings.{settings_fit}
 use Rattle.settings.proofs.Laws.{settings_facts}
 use Rattle.places.specs.declared.Place.{Place}
 use Rattle.places.specs.Places.{unused, fresh_record, in_use, place_name, settings_name, names, usable, cover_of, end_of, settings_in, place_of, count_fits, ranges_fit, fits, agree, good, place_named}
 use Rattle.places.specs.Room.{clear, free, lowest_start}
-use Rattle.ground.proofs.Truth.{differ, and_join, or_right, fails}
+use Rattle.ground.proofs.Truth.{differ, and_join, or_right}
 use Rattle.places.proofs.Named.{in_use_lem, names-yes}
 use Rattle.places.proofs.Agreeing.{agree_right, agree-before, agree-behind}
 use Rattle.places.proofs.Keeping.{good-set}
@@ -99,4 +100,4 @@ fresh-lowest n size h =
 pub fresh-nowhere : (n size : ℕ) → usable n < size → lowest_start n size fresh_record.places ≡ None
 fresh-nowhere n size h =
     none-lowest n size fresh_record.places
-    (λ s. fails (free n size fresh_record.places s) (λ f. absurd (omega (arith, (free_is n size fresh_record.places s f).ends))))
+    (λ s. false_from_ne_true (free n size fresh_record.places s) (λ f. absurd (omega (arith, (free_is n size fresh_record.places s f).ends))))

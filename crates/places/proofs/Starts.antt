@@ -9,10 +9,11 @@ use native.Mathlib.Omega.{arith}
 use borrow.Author.Tests.{le-leb, leb-true}
 use lib.Dec.{leb}
 use lib.ListN.{length, get_or}
+use Rattle.std.proofs.lemmas.Bool.{and_parts, or_cases, false_from_ne_true}
 use Rattle.places.specs.declared.Place.{Place}
 use Rattle.places.specs.Places.{unused, in_use, usable, end_of, all}
 use Rattle.places.specs.Room.{clear, free, lowest_from, lowest_start}
-use Rattle.ground.proofs.Truth.{differ, and_both, and_join, either, fails}
+use Rattle.ground.proofs.Truth.{differ, and_join}
 use Rattle.places.proofs.Steps.{all-at, all_of}
 use Rattle.std.specs.Prelude.{Some, None}
 
@@ -56,7 +57,7 @@ module _ (f : ℕ → Bool) where
       by : (lowest_from f (suc s) m ≡ None → (k : ℕ) → suc s ≤ k → k < suc s + m → f k ≡ false) → (x : Bool) → f s ≡ x → cond x (Some s) (lowest_from f (suc s) m) ≡ None → f k ≡ false
       by ih true t e = let z : ◌≡◌ {A = ℕ} 0 1 = cc in absurd (omega arith)
       by ih false t e =
-          fails (f k) (λ g. let ne : s ≡ k → ⊥ = λ z. differ (sym g ∙ at z t) in differ (sym g ∙ ih e k (omega arith) (omega arith)))
+          false_from_ne_true (f k) (λ g. let ne : s ≡ k → ⊥ = λ z. differ (sym g ∙ at z t) in differ (sym g ∙ ih e k (omega arith) (omega arith)))
 
   is_least : (s m b : ℕ) → Least s m b → lowest_from f s m ≡ Some b
   unfolding lowest_from
@@ -84,7 +85,7 @@ module _ (f : ℕ → Bool) where
 pub clear_apart : (s size : ℕ) (p : Place) → in_use p ≡ true → clear s size p ≡ true → (end_of p ≤ s) ⊎ (s + size ≤ p.start)
 unfolding clear
 clear_apart s size p u c =
-    ⊎_map (leb-true (end_of p) s) (leb-true (s + size) p.start) (either (leb (end_of p) s) (leb (s + size) p.start) (simp u at c))
+    ⊎_map (leb-true (end_of p) s) (leb-true (s + size) p.start) (or_cases (leb (end_of p) s) (leb (s + size) p.start) (simp u at c))
 
 module _ (n size : ℕ) (ps : List Place) where
   pub record Free (s : ℕ) : Type 0 where
@@ -94,7 +95,7 @@ module _ (n size : ℕ) (ps : List Place) where
   pub free_is : (s : ℕ) → free n size ps s ≡ true → Free s
   unfolding free
   free_is s e =
-      let b = and_both (leb (s + size) (usable n)) (all (clear s size) ps) e in
+      let b = and_parts (leb (s + size) (usable n)) (all (clear s size) ps) e in
       record { ends = leb-true (s + size) (usable n) b.0; clears = λ i h. all-at (clear s size) ps i b.1 h }
 
   pub is_free : (s : ℕ) → Free s → free n size ps s ≡ true
@@ -117,7 +118,7 @@ module _ (n size : ℕ) (ps : List Place) where
   pub lowest-none : lowest_start n size ps ≡ None → (s : ℕ) → free n size ps s ≡ false
   unfolding lowest_start
   lowest-none e s =
-      fails (free n size ps s)
+      false_from_ne_true (free n size ps s)
       (λ f. differ (sym f ∙ none-least (free n size ps) 0 (suc (usable n)) e s (omega arith) (omega (arith, (free_is s f).ends))))
 
   pub none-lowest : ((s : ℕ) → free n size ps s ≡ false) → lowest_start n size ps ≡ None

@@ -8,9 +8,10 @@ use native.Mathlib.Numerals.{add-one}
 use native.Mathlib.Omega.{arith}
 use lib.ListN.{length, get_or, drop, drop_of_length-le, length-map}
 use lib.Seq.{drop-cons}
+use Rattle.std.proofs.lemmas.Bool.{and_parts}
 use Rattle.places.specs.declared.Place.{Place}
 use Rattle.places.specs.Places.{unused, all, agree, fits, good, first_from}
-use Rattle.ground.proofs.Truth.{and_both, and_join}
+use Rattle.ground.proofs.Truth.{and_join}
 use Rattle.std.specs.Prelude.{Some, None}
 
 -- the length of an array of structs, from what owning it tells: `search (needs, mapped_length)`
@@ -42,8 +43,8 @@ module _ (f : Place → Bool) (ps : List Place) (i : ℕ) where
 -- all places pass exactly if each does
 pub all-at : (f : Place → Bool) (ps : List Place) (i : ℕ) → all f ps ≡ true → i < length ps → f (get_or ps i unused) ≡ true
 all-at f [] i a h = absurd (omega arith)
-all-at f (p ∷ ps) zero a h = (and_both (f p) (all f ps) a).0
-all-at f (p ∷ ps) (suc i) a h = all-at f ps i (and_both (f p) (all f ps) a).1 (omega arith)
+all-at f (p ∷ ps) zero a h = (and_parts (f p) (all f ps) a).0
+all-at f (p ∷ ps) (suc i) a h = all-at f ps i (and_parts (f p) (all f ps) a).1 (omega arith)
 
 pub all_of : (f : Place → Bool) (ps : List Place) → ((i : ℕ) → i < length ps → f (get_or ps i unused) ≡ true) → all f ps ≡ true
 all_of f [] e = refl

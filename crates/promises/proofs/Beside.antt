@@ -8,7 +8,8 @@ use native.Mathlib.Omega.{arith}
 use borrow.Author.Tests.{le-leb}
 use lib.Dec.{ltb}
 use lib.ListN.{length, get_or, set}
-use Rattle.ground.proofs.Truth.{differ, and_both, or_right, fails}
+use Rattle.std.proofs.lemmas.Bool.{and_parts, false_from_ne_true}
+use Rattle.ground.proofs.Truth.{differ, or_right}
 use Rattle.refusals.specs.declared.Refusal.TheVariants.{Unknown}
 use Rattle.refusals.specs.Told.{accepted_with, refused_as, verdict_told}
 use Rattle.settings.specs.declared.Settings.{Settings}
@@ -44,8 +45,8 @@ use Rattle.std.specs.Prelude.{Some, None}
 -- a packet names one resource and type alone
 one_name : (o r : Name) (q : List ℕ) → (o ≡ r → ⊥) → names o q ≡ true → names r q ≡ false
 one_name o r q d e =
-    fails (names r q)
-    (λ n. d (sym (name-same (name_in q) o (and_both (ltb 12 (length q)) _ e).1) ∙ name-same (name_in q) r (and_both (ltb 12 (length q)) _ n).1))
+    false_from_ne_true (names r q)
+    (λ n. d (sym (name-same (name_in q) o (and_parts (ltb 12 (length q)) _ e).1) ∙ name-same (name_in q) r (and_parts (ltb 12 (length q)) _ n).1))
 
 -- ---- side by side
 

@@ -8,10 +8,10 @@ use Prim.Native.Nat.{ℕ, ◌<◌}
 use native.Mathlib.Omega.{arith}
 use lib.Dec.{eqb, ltb}
 use lib.ListN.{length, get_or, replicate, get_or-replicate}
+use Rattle.std.proofs.lemmas.Bool.{and_parts, cases_eq}
 use Rattle.refusals.specs.declared.Refusal.TheVariants.{Size}
 use Rattle.refusals.specs.Told.{refused_as, verdict_told}
 use Rattle.refusals.proofs.Told.{verdict_accepted}
-use Rattle.ground.proofs.Numbers.{same_or_not}
 use Rattle.packet.specs.declared.Packet.{Packet}
 use Rattle.settings.specs.declared.Settings.{Settings}
 use Rattle.packet.specs.Packet.{read_by}
@@ -20,7 +20,6 @@ use Rattle.pack.specs.Pack.{count_of, payload_of}
 use Rattle.pack.proofs.Laws.{fields_of}
 use Rattle.places.specs.declared.Place.{Place}
 use Rattle.places.specs.Places.{settings_name, same_name, unused, good, place_named, place_of}
-use Rattle.ground.proofs.Truth.{and_both}
 use Rattle.places.proofs.Named.{name-same, other_name}
 use Rattle.contents.specs.Contents.{Slot as Content, wrong, holding, contents}
 use Rattle.contents.proofs.Places.{length-contents}
@@ -184,9 +183,9 @@ module _ (g : Settings) (file : List ℕ) (p : Protected g file) (i start : ℕ)
               sound = step-good (offering q) x c.sound;
               named = c.named;
               place = c.place;
-              slots = λ k l. ⊎_elim (λ z. inr (there k z)) (λ d. rw (leaves k d) (c.slots k l)) (same_or_not k n);
+              slots = λ k l. ⊎_elim (λ z. inr (there k z)) (λ d. rw (leaves k d) (c.slots k l)) (cases_eq k n);
             };
-            keeps = λ k h. ⊎_elim (there k) (λ d. leaves k d ∙ h) (same_or_not k n);
+            keeps = λ k h. ⊎_elim (there k) (λ d. leaves k d ∙ h) (cases_eq k n);
           }
 
     -- refused, or it brings what the file has there
@@ -224,7 +223,7 @@ module _ (g : Settings) (file : List ℕ) (p : Protected g file) (i start : ℕ)
       reading z (Err r) e = unmoved_go q x c (ap (λ (o : Offering). o.store) (offer_unread x.held x.store q c.sound r e))
 
       by : (t : Bool) → names (settings_name g) q ≡ t → GoesOn x (step (offering q) x).state
-      by true e = reading (name-same (name_in q) (settings_name g) (and_both (ltb 12 (length q)) _ e).1) (read_for x.held q) refl
+      by true e = reading (name-same (name_in q) (settings_name g) (and_parts (ltb 12 (length q)) _ e).1) (read_for x.held q) refl
       by false e = unnamed_go (offering q) x c e
 
   -- ---- any fair call

@@ -7,13 +7,14 @@ use Prim.Native.Nat.{ℕ}
 use native.Mathlib.Omega.{arith}
 use lib.Dec.{ltb}
 use lib.ListN.{length, get_or, set}
+use Rattle.std.proofs.lemmas.Bool.{and_parts}
 use Rattle.refusals.specs.declared.Refusal.{Refusal}
 use Rattle.refusals.specs.Told.{verdict_told}
 use Rattle.settings.specs.declared.Settings.{Settings}
 use Rattle.places.specs.declared.Place.{Place}
 use Rattle.places.specs.declared.Record.{Record}
 use Rattle.places.specs.Places.{Name, settings_name, unused, good, place_named, place_of}
-use Rattle.ground.proofs.Truth.{differ, and_both}
+use Rattle.ground.proofs.Truth.{differ}
 use Rattle.places.proofs.Named.{name-same}
 use Rattle.contents.specs.Contents.{contents}
 use Rattle.opening.specs.Open.{Kept as Record-kept}
@@ -120,7 +121,7 @@ module _ (r : Name) (h : Record) (s t : List ℕ) (l : Like r h s t) where
 
   like_offer : (q : List ℕ) → names r q ≡ true → (offer_of h s q).answer ≡ (offer_of h t q).answer
   like_offer q own =
-      let named : name_in q ≡ r = name-same (name_in q) r (and_both (ltb 12 (length q)) _ own).1 in
+      let named : name_in q ≡ r = name-same (name_in q) r (and_parts (ltb 12 (length q)) _ own).1 in
       alike_answer h s t q l.sized (λ i n. l.seen i (ap (place_named h.places) (sym named) ∙ n))
 
   offer-own_like : (q : List ℕ) → Like r h (offer_of h s q).store (offer_of h t q).store

@@ -8,17 +8,17 @@ use Prim.Native.Nat.{ℕ, ◌+◌, ◌%◌, ◌<◌, ◌≤◌}
 use native.Mathlib.Omega.{arith}
 use lib.Dec.{eqb}
 use lib.ListN.{length, get_or, get_or-eq_default}
+use Rattle.std.proofs.lemmas.Bool.{false_from_ne_true, cases_lt, cases_eq}
 use Rattle.refusals.specs.declared.Refusal.{Refusal}
 use Rattle.refusals.specs.declared.Refusal.TheVariants.{Slot, Conflict}
 use Rattle.refusals.specs.Told.{refused_as}
 use Rattle.refusals.proofs.Told.{number_not_0}
-use Rattle.ground.proofs.Numbers.{lt_or_ge, same_or_not}
 use Rattle.slices.specs.Slices.{same}
 use Rattle.slices.proofs.SameLaws.{same_equal}
 use Rattle.packet.specs.declared.Packet.{Packet}
 use Rattle.places.specs.declared.Place.{Place}
 use Rattle.places.specs.Places.{Name, unused, in_use, names as holds, good, end_of, in_rows, place_named}
-use Rattle.ground.proofs.Truth.{differ, fails}
+use Rattle.ground.proofs.Truth.{differ}
 use Rattle.places.proofs.Searches.{first-only}
 use Rattle.places.proofs.Named.{names_in_use}
 use Rattle.places.proofs.Facts.{named_facts, good-apart, one_holder}
@@ -53,7 +53,7 @@ use Rattle.std.specs.Prelude.{Err}
 
 -- a place in use is one of the record's
 pub used_within : (x : State) (i : ℕ) → in_use (place_at x i) ≡ true → i < length x.held.places
-used_within x i u = ⊎_elim (λ l. l) (λ h. absurd (beyond h)) (lt_or_ge i (length x.held.places))
+used_within x i u = ⊎_elim (λ l. l) (λ h. absurd (beyond h)) (cases_lt i (length x.held.places))
   where
     beyond : length x.held.places ≤ i → ⊥
     beyond h = differ (sym u ∙ ap in_use (get_or-eq_default x.held.places unused h))
@@ -63,7 +63,7 @@ module _ (x : State) (r : Name) (i : ℕ) where
   held_found h =
       let within : i < length x.held.places = used_within x i (names_in_use (place_at x i) r h.named) in
       first-only (λ p. holds p r) x.held.places i within h.named
-      (λ k l d. fails (holds (place_at x k) r) (λ e. d (one_holder (length x.store) x.held.places h.sound k i l within r e h.named)))
+      (λ k l d. false_from_ne_true (holds (place_at x k) r) (λ e. d (one_holder (length x.store) x.held.places h.sound k i l within r e h.named)))
 
   pub found-held : good (length x.store) x.held.places ≡ true → place_named x.held.places r ≡ Some i → Held x r i
   found-held g e = record { sound = g; named = (found-names x.held.places r i e).1 }
@@ -132,7 +132,7 @@ module _ (x : State) (i n : ℕ) (b : List ℕ) (u : in_use (place_at x i) ≡ t
   others_stay = record {
     same-held = refl;
     sized = length-stored x.store (slot_at (place_at x i) n) b;
-    slots = λ j k v l d. ⊎_elim (own j k d) (λ o. other-slots j k (λ z. o (sym z)) v l) (same_or_not j i);
+    slots = λ j k v l d. ⊎_elim (own j k d) (λ o. other-slots j k (λ z. o (sym z)) v l) (cases_eq j i);
   }
     where
       own : (j k : ℕ) → ((j ≡ i) × (k ≡ n) → ⊥) → j ≡ i → slot_of (place_at x j) after k ≡ slot_of (place_at x j) x.store k

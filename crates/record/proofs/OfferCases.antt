@@ -9,8 +9,9 @@ use borrow.Author.Tests.{lt-ltb, le-ltb, ltb-false, le-leb, leb-true, eq-eqb, ne
 use lib.Dec.{eqb, leb, ltb}
 use lib.ListN.{length, get_or, take, drop, replicate, length-drop, length-replicate}
 use lib.Seq.{sets, take_at, length-take-le}
+use Rattle.std.proofs.lemmas.Bool.{and_parts}
 use Rattle.ground.proofs.Writing.{sets-front}
-use Rattle.ground.proofs.Truth.{and_both, and_join}
+use Rattle.ground.proofs.Truth.{and_join}
 use Rattle.slices.specs.Slices.{same}
 use Rattle.refusals.specs.declared.Refusal.{Refusal}
 use Rattle.refusals.specs.declared.Refusal.TheVariants.{Unknown, Other, Edition, Wide, Crc, Slot, Conflict}
@@ -62,7 +63,7 @@ module _ (p : Place) (s : List ℕ) (k : ℕ) (b : List ℕ) (m : ℕ) (a : Bool
 
     pub put-room : r ≡ true → (at + (p.slot + 2) ≤ length s) × (length b ≤ p.slot)
     put-room e =
-        let w = and_both (leb (at + (p.slot + 2)) (length s)) (leb (length b) p.slot) (sym t ∙ e) in
+        let w = and_parts (leb (at + (p.slot + 2)) (length s)) (leb (length b) p.slot) (sym t ∙ e) in
         (leb-true _ _ w.0, leb-true _ _ w.1)
 
   -- a slot that is there

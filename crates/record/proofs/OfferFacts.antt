@@ -9,6 +9,7 @@ use native.Mathlib.Omega.{arith}
 use borrow.Author.Tests.{eq-eqb, ne_eqb, eqb-true, eqb-false, leb-false, ltb-false, not-true, not-false}
 use lib.Dec.{eqb, ltb}
 use lib.ListN.{length, get_or}
+use Rattle.std.proofs.lemmas.Bool.{and_parts, or_parts}
 use Rattle.refusals.specs.declared.Refusal.{Refusal}
 use Rattle.refusals.specs.declared.Refusal.TheVariants.{Short, Mark, Length, «Type», Protection, Number, Rows, Resource}
 use Rattle.packet.specs.declared.Packet.{Packet}
@@ -17,7 +18,6 @@ use Rattle.packet.proofs.Laws.{resource_in_lem, kind_in_lem}
 use Rattle.places.specs.declared.Place.{Place}
 use Rattle.places.specs.declared.Record.{Record}
 use Rattle.places.specs.Places.{Name, unused, names, place_named}
-use Rattle.ground.proofs.Truth.{neither, and_both}
 use Rattle.settings.specs.Settings.{row_wise}
 use Rattle.places.proofs.Named.{names-name}
 use Rattle.places.proofs.Facts.{PlaceFacts}
@@ -68,7 +68,7 @@ read_known rows q f e =
     let c = passed (not (eqb (fields_in q).length (length q))) Length _ f b.1 in
     let j = judged-read rows (fields_in q) f (length q) c.1 in
     let g : fields_in q ≡ f = j.0 in
-    let p = neither (ltb 1 f.protection) _ (sym (ap bad_protection g) ∙ j.1) in
+    let p = or_parts (ltb 1 f.protection) _ (sym (ap bad_protection g) ∙ j.1) in
     record {
       fields = sym g;
       least = ltb-false _ _ a.0;
@@ -119,9 +119,9 @@ module _ (p : Place) (f : Packet) where
   pub same-file : differs p f ≡ false → SameFile p f
   unfolding differs
   same-file e =
-      let b = neither (not (eqb f.update p.update)) _ e in
-      let c = neither (not (eqb f.count p.count)) _ b.1 in
-      let d = neither (not (eqb f.protection p.protection)) _ c.1 in
+      let b = or_parts (not (eqb f.update p.update)) _ e in
+      let c = or_parts (not (eqb f.count p.count)) _ b.1 in
+      let d = or_parts (not (eqb f.protection p.protection)) _ c.1 in
       record {
         update = eqb-true _ _ (not-false _ b.0);
         count = eqb-true _ _ (not-false _ c.0);
@@ -160,18 +160,18 @@ module _ (p : Place) (f : Packet) where
 
   pub rows-protected : f.protection < 2 → row_wise f.protection p.order ≡ true → f.protection ≡ 1
   rows-protected l w =
-      let z : f.protection ≡ 0 → ⊥ = eqb-false _ _ (not-true _ (and_both (not (eqb f.protection 0)) (eqb p.order 0) w).0) in
+      let z : f.protection ≡ 0 → ⊥ = eqb-false _ _ (not-true _ (and_parts (not (eqb f.protection 0)) (eqb p.order 0) w).0) in
       omega arith
 
   pub mends_rows : row_wise f.protection p.order ≡ true → mend_as p f ≡ 0 → ⊥
   mends_rows w e =
-      let z : f.protection ≡ 0 → ⊥ = eqb-false _ _ (not-true _ (and_both (not (eqb f.protection 0)) (eqb p.order 0) w).0) in
+      let z : f.protection ≡ 0 → ⊥ = eqb-false _ _ (not-true _ (and_parts (not (eqb f.protection 0)) (eqb p.order 0) w).0) in
       z (sym (rw w refl) ∙ e)
 
   -- there the packet's rows were judged as it was read
   pub rows-judged : row_wise f.protection p.order ≡ true → not (eqb p.order 1) ≡ true
   rows-judged w =
-      let o : p.order ≡ 0 = eqb-true _ _ (and_both (not (eqb f.protection 0)) (eqb p.order 0) w).1 in
+      let o : p.order ≡ 0 = eqb-true _ _ (and_parts (not (eqb f.protection 0)) (eqb p.order 0) w).1 in
       ap not (ne_eqb p.order 1 (λ x. omega arith))
 
 -- where a slot starts, as the code reckons it

@@ -12,6 +12,7 @@ use borrow.Author.Tests.{eqb-true, eq-eqb}
 use lib.Dec.{T}
 use lib.ListN.{length, get_or, take, length-map}
 use lib.Seq.{take_all}
+use Rattle.std.proofs.lemmas.Bool.{cases_eq}
 use Rattle.ground.specs.Lists.{listed}
 use Rattle.ground.proofs.Listed.{get_or-listed_0}
 use Rattle.field.specs.Field.{power}
@@ -19,7 +20,6 @@ use Rattle.field.proofs.Laws.{power-byte, power_injective}
 use Rattle.code.specs.Code.{Bytes}
 use Rattle.code.specs.Value.{eval}
 use Rattle.code.proofs.Roots.{Roots, Off, Different, roots_few}
-use Rattle.ground.proofs.Numbers.{same_or_not}
 use Rattle.roots.specs.Roots.{passing, is_root, root_list, roots_of}
 
 no_both : (b : Bool) → b ≡ false → b ≡ true → ⊥
@@ -52,7 +52,7 @@ module _ {f : ℕ → Bool} {n e : ℕ} {l : List ℕ} (was : Chosen f n (suc e)
   more-all m b h t = ⊎_elim
       (λ (q : m ≡ e). (zero, zero-lt-suc (length l), sym q))
       (λ (q : m ≡ e → ⊥). let r = was.all m (lt_of_le_of_ne b (λ z. q (sym z))) (omega arith) t in (suc r.0, suc-le-suc r.1, r.2))
-      (same_or_not m e)
+      (cases_eq m e)
 
   chosen_more : Chosen f (suc n) e (e ∷ l)
   chosen_more = record { from = more_from; below = more-below; rising = more-rising; all = more-all }

@@ -11,10 +11,10 @@ use borrow.Author.Tests.{eqb-true, eqb-false, ltb-true, ltb-false}
 use lib.Dec.{eqb, ltb}
 use lib.ListN.{length, get_or, take, set, length-set, length-append, replicate, get_or-replicate, get_or-append, get_or-eq_default}
 use lib.Seq.{take_all, take-append-le, length-take-le, get_or-append_seam, get_or-set_same, get_or-set_other}
+use Rattle.std.proofs.lemmas.Bool.{cases_lt, cases_eq}
 use Rattle.roots.specs.Roots.{passing}
 use Rattle.words.specs.Words.{byte_at}
 use Rattle.roots.specs.InnerWords.{Held}
-use Rattle.ground.proofs.Numbers.{lt_or_ge, same_or_not}
 use Rattle.roots.proofs.Passing.{single, passing-more, passing-none}
 
 pub held-nothing : (at : List ℕ) → at ≡ replicate 16 0 → Held [] 0 at
@@ -30,7 +30,7 @@ module _ {l : List ℕ} {n : ℕ} {at : List ℕ} (was : Held l n at) where
   pub held-full : (b : Bool) (e : ℕ) → 16 ≤ n → Held (l ++ single b e) n at
   held-full b e h =
       let c : length (take 16 l) ≡ n = sym was.count in
-      let long : 16 ≤ length l = ⊎_elim (λ (s : length l < 16). absurd (omega (arith, ap length (take_all 16 l (omega arith))))) (λ (s : 16 ≤ length l). s) (lt_or_ge (length l) 16) in
+      let long : 16 ≤ length l = ⊎_elim (λ (s : length l < 16). absurd (omega (arith, ap length (take_all 16 l (omega arith))))) (λ (s : 16 ≤ length l). s) (cases_lt (length l) 16) in
       record {
         sized = was.sized;
         count = was.count ∙ ap length (sym (take-append-le 16 l (single b e) long));
@@ -41,7 +41,7 @@ module _ {l : List ℕ} {n : ℕ} {at : List ℕ} (was : Held l n at) where
   pub held_more : (b : Bool) (e : ℕ) → b ≡ true → n < 16 → Held (l ++ single b e) (n + 1) (set at n e)
   held_more b e q h =
       let c : length (take 16 l) ≡ n = sym was.count in
-      let few : length l < 16 = ⊎_elim (λ (s : length l < 16). s) (λ (s : 16 ≤ length l). absurd (omega (arith, length-take-le 16 l s))) (lt_or_ge (length l) 16) in
+      let few : length l < 16 = ⊎_elim (λ (s : length l < 16). s) (λ (s : 16 ≤ length l). absurd (omega (arith, length-take-le 16 l s))) (cases_lt (length l) 16) in
       let size : length at ≡ 16 = was.sized in
       let m : length l ≡ n = ap length (sym (take_all 16 l (omega arith))) ∙ c in
       let long : length (l ++ (e ∷ [])) ≡ n + 1 = length-append l (e ∷ []) ∙ omega arith in
@@ -53,7 +53,7 @@ module _ {l : List ℕ} {n : ℕ} {at : List ℕ} (was : Held l n at) where
             (λ (z : k ≡ n). ap (λ (x : ℕ). get_or (set at n e) x 0) z ∙ get_or-set_same at n e 0 (omega arith)
             ∙ sym (ap (λ (x : ℕ). get_or (l ++ (e ∷ [])) x 0) (z ∙ sym m) ∙ get_or-append_seam l e [] 0))
             (λ (z : k ≡ n → ⊥). get_or-set_other at n k e 0 z ∙ was.entry k j ∙ other k z m long)
-            (same_or_not k n);
+            (cases_eq k n);
       })
     where
       other : (k : ℕ) → (k ≡ n → ⊥) → length l ≡ n → length (l ++ (e ∷ [])) ≡ n + 1 → get_or l k 0 ≡ get_or (l ++ (e ∷ [])) k 0
@@ -62,7 +62,7 @@ module _ {l : List ℕ} {n : ℕ} {at : List ℕ} (was : Held l n at) where
           (λ (s : n ≤ k).
           let d : k < n + 1 → ⊥ = λ b. z (omega arith) in
           get_or-eq_default l 0 {n = k} (omega arith) ∙ sym (get_or-eq_default (l ++ (e ∷ [])) 0 {n = k} (omega arith)))
-          (lt_or_ge k n)
+          (cases_lt k n)
 
 -- the tests, as the code makes them
 pub differs : (x y e : ℕ) → (x ≡ y → ⊥) → (eqb x y && ltb e 255) ≡ false

@@ -10,8 +10,9 @@ use lib.Bits.{bit_xor, xor_shifted}
 use lib.Dec.{eqb, eqb→eq}
 use lib.ListN.{length, get_or, set, length-set}
 use lib.Seq.{get_or-set_same, get_or-set_other}
+use Rattle.std.proofs.lemmas.Bool.{cases_lt}
 use Rattle.ground.specs.Bits.{sum}
-use Rattle.ground.proofs.Numbers.{lt_or_ge, below_suc}
+use Rattle.ground.proofs.Numbers.{below_suc}
 use Rattle.ground.proofs.Sums.{sum_comm}
 use Rattle.ground.proofs.Sweep.{below}
 use Rattle.field.specs.Field.{carryless, reduce, product, power}
@@ -98,7 +99,7 @@ twice_many {n} {at} {w} {v} {s} {t} {u} e is was value more =
           ∙ ap₂ sum (was.entry j k b g) (value k g)
           ∙ sym (product-sum-left j n (byte_at w k))
           ∙ ap (λ (i : ℕ). product i (byte_at w k)) (joined e n j is b ∙ r))
-          (lt_or_ge h n);
+          (cases_lt h n);
       front = λ j l. more.front j (omega arith) ∙ was.front j l;
     }
 

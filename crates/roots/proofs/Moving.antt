@@ -11,6 +11,7 @@ use native.Mathlib.Omega.{arith}
 use lib.ListN.{length, get_or, drop, set, length-set}
 use lib.Seq.{ext_get_or, get_or-set_same, get_or-set_other}
 use lib.Bits.{bit_xor}
+use Rattle.std.proofs.lemmas.Bool.{cases_lt}
 use Rattle.ground.specs.Bits.{sum}
 use Rattle.ground.proofs.Sums.{sum_zero}
 use Rattle.field.specs.Field.{product, expo, power}
@@ -20,7 +21,7 @@ use Rattle.code.specs.Value.{eval}
 use Rattle.code.proofs.Weights.{expo_zero, expo-suc, one_product}
 use Rattle.words.specs.Words.{byte_at}
 use Rattle.roots.specs.InnerWords.{Short, Moved}
-use Rattle.ground.proofs.Numbers.{lt_or_ge, below_suc}
+use Rattle.ground.proofs.Numbers.{below_suc}
 use Rattle.roots.proofs.Values.{Stretched, eval-drop, eval-above}
 
 -- the first i entries of t are those of v
@@ -131,5 +132,5 @@ moving_end {u} {t} {s} {i} {top} was h short =
           (λ (l : i ≤ m).
           let z : get_or u (suc m) 0 ≡ 0 = short.above (suc m) (omega arith) in
           was.kept m l ∙ z ∙ sym (ap (λ (c : ℕ). product c (power (8 * suc m))) z ∙ zero_product (power (8 * suc m))))
-          (lt_or_ge m i);
+          (cases_lt m i);
     }

@@ -8,7 +8,7 @@ use native.Mathlib.Nat.{eq-or-lt_of_le, zero-add}
 use native.Mathlib.Omega.{arith}
 use lib.Bits.{bit_xor}
 use lib.ListN.{get_or}
-use Rattle.ground.proofs.Numbers.{same_or_not}
+use Rattle.std.proofs.lemmas.Bool.{cases_eq}
 use Rattle.words.specs.Words.{byte_at}
 use Rattle.field.specs.Field.{power}
 use Rattle.field.proofs.Laws.{power-byte}
@@ -37,7 +37,7 @@ locating_more {at} {from} {w} {m} was some b e =
           let n : m ≤ k = behind k h q in
           let z : k - (m - 1) ≡ suc (k - m) = omega arith in
           ap (byte_at (bit_xor (w * 2 ^ 8 % 2 ^ 64) b)) z ∙ pushed_next w b (k - m) fit (omega arith) ∙ was.put k n l)
-          (same_or_not k (m - 1));
+          (cases_eq k (m - 1));
     }
   where
     behind : (k : ℕ) → m - 1 ≤ k → (k ≡ m - 1 → ⊥) → m ≤ k

@@ -11,8 +11,8 @@ use native.Mathlib.Omega.{arith}
 use borrow.Author.Tests.{eq-eqb, ne_eqb}
 use lib.Dec.{eqb}
 use lib.ListN.{get_or}
+use Rattle.std.proofs.lemmas.Bool.{cases_lt, cases_eq}
 use Rattle.ground.specs.Bits.{sum}
-use Rattle.ground.proofs.Numbers.{lt_or_ge, same_or_not}
 use Rattle.ground.proofs.Sums.{sum_self, sum_zero, zero_sum}
 use Rattle.field.specs.Field.{product, power, Inverse}
 use Rattle.field.specs.declared.Sixteen.{Sixteen}
@@ -57,7 +57,7 @@ module _ {at : List ℕ} {s left gathered gaps : Sixteen} {j : ℕ} (was : Turni
       ap₂ sum (gap_is k h) (unit k h)
       ∙ ⊎_elim
       (λ (e : j ≡ k). rw (eq-eqb j k e) (ap (λ (i : ℕ). sum (sum (power (get_or at i 0)) (power (get_or at j 0))) 1) (sym e) ∙ ap (λ (z : ℕ). sum z 1) (sum_self (power (get_or at j 0))) ∙ zero_sum 1))
-      (λ (n : j ≡ k → ⊥). rw (ne_eqb j k n) (sum_zero (sum (power (get_or at k 0)) (power (get_or at j 0))))) (same_or_not j k)
+      (λ (n : j ≡ k → ⊥). rw (ne_eqb j k n) (sum_zero (sum (power (get_or at k 0)) (power (get_or at j 0))))) (cases_eq j k)
 
   gaps_more : (u v g : Sixteen) → ((k : ℕ) → k < 16 → entry u k ≡ cond (eqb j k) 1 0) → ((k : ℕ) → entry v k ≡ sum (entry gap k) (entry u k)) → Products v gaps g
       → (k : ℕ) → k < 16 → entry g k ≡ gaps_of (entries at) (suc j) k
@@ -119,7 +119,7 @@ module _ {at : List ℕ} {s left gathered gaps : Sixteen} {n : ℕ} (was : Turni
   pub turned_solved : Solved at n given found
   turned_solved =
       gathered-solves at n placed given (list-byte s) found (list_length values)
-      (λ k h. ⊎_elim (λ (l : n < 2). one (omega arith) k h) (λ (l : 2 ≤ n). many l k (omega (arith, placed.few))) (lt_or_ge n 2))
+      (λ k h. ⊎_elim (λ (l : n < 2). one (omega arith) k h) (λ (l : 2 ≤ n). many l k (omega (arith, placed.few))) (cases_lt n 2))
 
   -- where nothing is left they give the others
   pub turned_gives : Empty left n → Gives given at found n

@@ -9,7 +9,7 @@ use native.Mathlib.Nat.{mul-le-mul}
 use native.Mathlib.Omega.{arith}
 use lib.Dec.{T, eqb, eqb→eq, ltb, ltb→lt}
 use lib.ListN.{length, get_or, get_or-eq_default}
-use Rattle.ground.proofs.Numbers.{lt_or_ge}
+use Rattle.std.proofs.lemmas.Bool.{cases_lt}
 use Rattle.ground.proofs.Sweep.{all, below, every, at}
 use Rattle.field.specs.Field.{power}
 use Rattle.field.specs.declared.Sixteen.{Sixteen}
@@ -29,7 +29,7 @@ module _ (t : List ℕ) (long : length t ≡ 32) (words : T (every (λ i w. ltb 
   word : (i : ℕ) → get_or t i 0 < 2 ^ 64
   word i =
       ⊎_elim (λ (h : i < 32). ltb→lt (get_or t i 0) (2 ^ 64) (at (λ i w. ltb w (2 ^ 64)) t words i (omega arith)))
-      (λ (h : 32 ≤ i). rw (get_or-eq_default t 0 {n = i} (omega arith)) (omega arith)) (lt_or_ge i 32)
+      (λ (h : 32 ≤ i). rw (get_or-eq_default t 0 {n = i} (omega arith)) (omega arith)) (cases_lt i 32)
 
   found : (m j : ℕ) → m < 16 → j < 16 → entry (pair t m) j ≡ power ((15 - m) * j)
   found m j hm hj =

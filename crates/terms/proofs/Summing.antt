@@ -10,8 +10,8 @@ use native.Mathlib.Numerals.{add-one}
 use native.Mathlib.Omega.{arith}
 use lib.Bits.{bit_xor, bit_and, and_le_r, xor_lt}
 use lib.ListN.{length, get_or}
+use Rattle.std.proofs.lemmas.Bool.{cases_lt}
 use Rattle.ground.specs.Bits.{sum, keep}
-use Rattle.ground.proofs.Numbers.{lt_or_ge}
 use Rattle.ground.proofs.Sums.{sum_assoc, sum_comm, sum_zero}
 use Rattle.words.specs.Words.{byte_at}
 use Rattle.field.specs.Field.{product, power}
@@ -107,7 +107,7 @@ coming_start rest =
     }
   where
     nothing : (j : ℕ) → entry (record { low = 0; high = 0 }) j ≡ 0
-    nothing j = ⊎_elim (λ (h : j < 8). entry-low _ j h ∙ byte_zero j) (λ (h : 8 ≤ j). entry-high _ j h ∙ byte_zero (j - 8)) (lt_or_ge j 8)
+    nothing j = ⊎_elim (λ (h : j < 8). entry-low _ j h ∙ byte_zero j) (λ (h : 8 ≤ j). entry-high _ j h ∙ byte_zero (j - 8)) (cases_lt j 8)
 
 pub coming_more : {rest : List ℕ} {s : Sixteen} {i : ℕ} → Coming rest s i → 0 < i → i ≤ 8 → (r : Sixteen) → InWords r → ((j : ℕ) → j < 16 → entry r j ≡ turned rest (i - 1) (entry s j) j)
     → Coming rest r (i - 1)
@@ -147,7 +147,7 @@ adding_sum a b c d e j small fc fd =
     (λ (h : 8 ≤ j).
     entry-high _ j h ∙ byte-sum b (bit_and all d) (j - 8)
     ∙ ap₂ sum (sym (entry-high (record { low = a; high = b }) j h)) (word_kept e d (j - 8) small fd ∙ ap (keep e) (sym (entry-high (record { low = c; high = d }) j h))))
-    (lt_or_ge j 8)
+    (cases_lt j 8)
 
 pub adding_start : (rest : List ℕ) (s : Sixteen) (i : ℕ) {low high : ℕ} → Doubled s.low low → Doubled s.high high → Adding rest s i low high 0
 unfolding added total
@@ -160,7 +160,7 @@ adding_start rest s i {low} {high} l h =
     doubled : (j : ℕ) → j < 16 → entry (record { low = low; high = high }) j ≡ product 2 (entry s j)
     doubled j b =
         ⊎_elim (λ (g : j < 8). entry-low _ j g ∙ l.entry j g ∙ ap (product 2) (sym (entry-low s j g)))
-        (λ (g : 8 ≤ j). entry-high _ j g ∙ h.entry (j - 8) (omega arith) ∙ ap (product 2) (sym (entry-high s j g))) (lt_or_ge j 8)
+        (λ (g : 8 ≤ j). entry-high _ j g ∙ h.entry (j - 8) (omega arith) ∙ ap (product 2) (sym (entry-high s j g))) (cases_lt j 8)
 
 pub adding_more : {rest : List ℕ} {s : Sixteen} {i low high m : ℕ} → Adding rest s i low high m → m < 16 → {t : List ℕ} → Points t → (b : ℕ) → b ≡ get_or rest m 0
     → Adding rest s i (bit_xor low (bit_and (b / 2 ^ i % 2 * 0xFFFFFFFFFFFFFFFF) (get_or t (2 * m) 0))) (bit_xor high (bit_and (b / 2 ^ i % 2 * 0xFFFFFFFFFFFFFFFF) (get_or t (2 * m + 1) 0))) (m + 1)

@@ -9,6 +9,7 @@ use native.Mathlib.Omega.{arith}
 use borrow.Author.Tests.{eqb-true}
 use lib.Dec.{eqb}
 use lib.ListN.{length, get_or}
+use Rattle.std.proofs.lemmas.Bool.{and_parts}
 use Rattle.ground.specs.Ranges.{is_digit}
 use Rattle.ground.specs.Lists.{listed}
 use Rattle.ground.proofs.Listed.{listed-whole}
@@ -16,7 +17,7 @@ use Rattle.calendar.specs.declared.Time.{Time}
 use Rattle.calendar.specs.Calendar.{days_in, real}
 use Rattle.calendar.specs.Range.{RealTime}
 use Rattle.times.specs.Written.{two, time_text, form, formed, two_at, time_at, wrong_time, time_in}
-use Rattle.ground.proofs.Truth.{and_both, and_join}
+use Rattle.ground.proofs.Truth.{and_join}
 use Rattle.ground.proofs.RangeLaws.{between_bounds, bounds_between}
 use Rattle.calendar.proofs.RangeLaws.{days_most, real-range}
 
@@ -102,15 +103,15 @@ pub formed-long : (fs v : List ℕ) → formed fs v ≡ true → length v ≡ le
 formed-long [] [] e = refl
 formed-long [] (b ∷ v) e = absurd (true≢false (sym e))
 formed-long (f ∷ fs) [] e = absurd (true≢false (sym e))
-formed-long (f ∷ fs) (b ∷ v) e = ap suc (formed-long fs v (and_both (cond (eqb f 0) (is_digit b) (eqb b f)) _ e).1)
+formed-long (f ∷ fs) (b ∷ v) e = ap suc (formed-long fs v (and_parts (cond (eqb f 0) (is_digit b) (eqb b f)) _ e).1)
 
 formed-at : (fs v : List ℕ) → formed fs v ≡ true → (i : ℕ) → i < length fs
     → cond (eqb (get_or fs i 0) 0) (is_digit (get_or v i 0)) (eqb (get_or v i 0) (get_or fs i 0)) ≡ true
 formed-at [] [] e i h = absurd (omega arith)
 formed-at [] (b ∷ v) e i h = absurd (omega arith)
 formed-at (f ∷ fs) [] e i h = absurd (true≢false (sym e))
-formed-at (f ∷ fs) (b ∷ v) e zero h = (and_both (cond (eqb f 0) (is_digit b) (eqb b f)) _ e).0
-formed-at (f ∷ fs) (b ∷ v) e (suc i) h = formed-at fs v (and_both (cond (eqb f 0) (is_digit b) (eqb b f)) _ e).1 i (omega arith)
+formed-at (f ∷ fs) (b ∷ v) e zero h = (and_parts (cond (eqb f 0) (is_digit b) (eqb b f)) _ e).0
+formed-at (f ∷ fs) (b ∷ v) e (suc i) h = formed-at fs v (and_parts (cond (eqb f 0) (is_digit b) (eqb b f)) _ e).1 i (omega arith)
 
 two_back : (a b : ℕ) → is_digit a ≡ true → is_digit b ≡ true → two ((a - 48) * 10 + (b - 48)) ≡ a ∷ b ∷ []
 two_back a b d e =
@@ -177,7 +178,7 @@ unfolding time_in
 reading v = by (formed form v && real (time_at v)) refl
   where
     by : (b : Bool) → (formed form v && real (time_at v)) ≡ b → Reading v (cond b (time_at v) wrong_time)
-    by true e = let w = and_both (formed form v) (real (time_at v)) e in written w.0 w.1
+    by true e = let w = and_parts (formed form v) (real (time_at v)) e in written w.0 w.1
     by false e = wrong
 
 pub written_time : (v : List ℕ) → real (time_in v) ≡ true → time_text (time_in v) ≡ v

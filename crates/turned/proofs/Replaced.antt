@@ -6,7 +6,7 @@ use mathlib.Core.List.{List, [], ◌∷◌, ◌++◌, flatten}
 use Prim.Native.Nat.{ℕ, ◌≤◌, ◌<◌}
 use native.Mathlib.Omega.{arith}
 use lib.ListN.{length, get_or}
-use Rattle.ground.proofs.Numbers.{same_or_not}
+use Rattle.std.proofs.lemmas.Bool.{cases_eq}
 use Rattle.slices.proofs.SameLaws.{same_differs}
 use Rattle.refusals.specs.declared.Refusal.TheVariants.{Conflict}
 use Rattle.refusals.specs.Told.{Told}
@@ -158,7 +158,7 @@ accepted y e (Accepts.stored i n b m c empty now others) = not_empty i n b m c e
 accepted y e (Accepts.again i n b m c held same) = changed (sym e ∙ ap (λ (x : State). x.store) same)
 
 pub replacing-turned : (a : Told) → OffersBySlots (replacing a) → RefusalsChangeNothing (replacing a) → ⊥
-replacing-turned a offers refusals = ⊎_elim taken turned (same_or_not a.number 0)
+replacing-turned a offers refusals = ⊎_elim taken turned (cases_eq a.number 0)
   where
     number : (replacing a (offering later) full).answer.told.number ≡ a.number
     number = ap (λ (o : Outcome). o.answer.told.number) (replacing_said a)
