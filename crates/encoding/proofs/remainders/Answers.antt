@@ -1,4 +1,4 @@
--- From no row to the last of fifteen at most.
+-- One row more at each turn, to the last of fifteen at most.
 -- Assumes nothing.
 use mathlib.Core.Path.{◌≡◌, refl, sym, ap, ◌∙◌}
 use mathlib.Core.List.{List}

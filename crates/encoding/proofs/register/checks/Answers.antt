@@ -1,4 +1,4 @@
--- From the first seven bytes to the last eight.
+-- Behind the last eight bytes nothing is left to feed, so that the register holds what the whole gives.
 -- Assumes nothing.
 use Rattle.encoding.proofs.Feeding.{feeding_done}
 use Rattle.encoding.proofs.register.checks.Goals as goal

@@ -1,4 +1,4 @@
--- Both registers at once, and then both are written.
+-- At the end nothing is left to feed to either register, and both are written.
 -- Assumes nothing.
 use mathlib.Core.Path.{ap, ap₂, ◌∙◌}
 use mathlib.Core.List.{List}

@@ -1,4 +1,4 @@
--- From the lowest half byte to the highest.
+-- One half byte more at each turn, to the highest.
 -- Assumes nothing.
 use mathlib.Core.Path.{refl, sym, ◌∙◌}
 use Prim.Native.Nat.{ℕ}
