@@ -4,11 +4,8 @@ use mathlib.Core.Path.{◌≡◌, refl}
 use Prim.Native.Nat.{ℕ, ◌+◌, ◌*◌, ◌/◌}
 use lib.ListN.{length}
 use native.Mathlib.Omega.{arith}
-use Rattle.encoding.proofs.Checking.{checking_start, checking_more, checking_two, checking_done}
+use Rattle.encoding.proofs.Checking.{checking_more, checking_two, checking_done}
 use Rattle.encoding.proofs.put_checks.Goals as goal
-
-pub loop-i-init : goal.loop-i-init
-loop-i-init c = checking_start _ _
 
 pub loop-i-preserved : goal.loop-i-preserved
 loop-i-preserved c =

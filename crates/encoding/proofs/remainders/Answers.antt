@@ -1,11 +1,11 @@
--- From no row to the last of fifteen at most.
+-- One row more at each turn, to the last of fifteen at most.
 -- Assumes nothing.
 use mathlib.Core.Path.{◌≡◌, refl, sym, ap, ◌∙◌}
 use mathlib.Core.List.{List}
 use Prim.Native.Nat.{ℕ, ◌+◌, ◌*◌}
 use native.Mathlib.Omega.{arith}
 use lib.Seq.{sets}
-use Rattle.ground.proofs.Pieces.{pieces, pieces_one, laid_start, laid_more, laid_done}
+use Rattle.ground.proofs.Pieces.{pieces, pieces_one, laid_more, laid_done}
 use Rattle.encoding.specs.Encode.{rest_of, rows_in, remainders_of}
 use Rattle.encoding.specs.InnerRegister.{remainder_at}
 use Rattle.encoding.proofs.Feeding.{length_rest}
@@ -17,12 +17,6 @@ at_zero f i = let e : 0 + i ≡ i = omega arith in pieces_one f (0 + i) ∙ ap f
 rest_is_of : (b : List ℕ) (i : ℕ) → remainder_at b (i * 255) ≡ rest_of b i
 unfolding rest_of remainder_at
 rest_is_of b i = refl
-
-pub loop-i-init : goal.loop-i-init
-loop-i-init c = laid_start _ _ _ _ _
-
-pub put-requires : goal.put-requires
-put-requires c = omega (arith, c.loop-i.invariant.long)
 
 pub loop-i-preserved : goal.loop-i-preserved
 loop-i-preserved c =

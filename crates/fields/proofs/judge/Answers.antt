@@ -1,7 +1,6 @@
 -- `fields::judge` meets its contract: it asks the definition's questions in its order, and stops at the first that is answered yes.
 -- Assumes nothing.
 use mathlib.Core.Path.{sym, ◌∙◌}
-use native.Mathlib.Omega.{arith}
 use borrow.Author.Tests.{eq-eqb, ne_eqb}
 use Rattle.packet.specs.Packet.{judged}
 use Rattle.fields.proofs.judge.Goals as goal
@@ -22,9 +21,6 @@ returns-then-bad_number c =
       sym c.bad_protection.ensures ∙ c.if-bad_protection.false,
       sym c.bad_number.ensures ∙ c.if-bad_number.true,
     )
-
-pub bad_rows-requires : goal.bad_rows-requires
-bad_rows-requires c = omega arith
 
 pub returns-then-bad_rows : goal.returns-then-bad_rows
 unfolding judged

@@ -1,6 +1,6 @@
 -- From exponent 0 alone to all of them.
 -- Assumes nothing.
-use mathlib.Core.Path.{◌≡◌, refl, sym, ap, subst, ◌∙◌}
+use mathlib.Core.Path.{◌≡◌, sym, ap, subst, ◌∙◌}
 use mathlib.Core.List.{List}
 use Prim.Native.Nat.{ℕ}
 use native.Mathlib.Omega.{arith}
@@ -14,12 +14,6 @@ use Rattle.roots.proofs.find.Goals as goal
 as_words : {v t at : List ℕ} {first top n b : ℕ} → t ≡ v → Finding v first top n at v b → Finding t first top n at t b
 as_words {v} {t} {at} {first} {top} {n} {b} e was = subst (λ (l : List ℕ). Finding l first top n at l b) (sym e) was
 
-pub table-table-requires : goal.table-table-requires
-table-table-requires c = c.last-top.ensures.0
-
-pub note-n-requires : goal.note-n-requires
-note-n-requires c = refl
-
 pub loop-b-init : goal.loop-b-init
 loop-b-init c =
     let v : List ℕ = c.args.v in
@@ -31,9 +25,6 @@ pub move_on-w-requires : goal.move_on-w-requires
 move_on-w-requires c =
     let inv = c.loop-b.invariant in
     (c.last-top.ensures.0, inv.short, c.table-table.ensures, stretched_byte inv.stretched)
-
-pub look-n-requires : goal.look-n-requires
-look-n-requires c = (c.loop-b.invariant.held.sized, omega arith)
 
 pub loop-b-preserved : goal.loop-b-preserved
 loop-b-preserved c =

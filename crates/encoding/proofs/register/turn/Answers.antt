@@ -1,4 +1,4 @@
--- From the lowest half byte to the highest.
+-- One half byte more at each turn, to the highest.
 -- Assumes nothing.
 use mathlib.Core.Path.{refl, sym, ◌∙◌}
 use Prim.Native.Nat.{ℕ}
@@ -6,11 +6,8 @@ use native.Mathlib.Omega.{arith}
 use lib.Bits.{bit_xor, xor_lt}
 use Rattle.code.proofs.Lists.{add_comm}
 use Rattle.encoding.specs.InnerRegister.{both, through}
-use Rattle.encoding.proofs.Turns.{turned, turning_start, turning_more, turning_done}
+use Rattle.encoding.proofs.Turns.{turned, turning_more, turning_done}
 use Rattle.encoding.proofs.register.turn.Goals as goal
-
-pub loop-k-init : goal.loop-k-init
-loop-k-init c = turning_start _ _
 
 pub loop-k-preserved : goal.loop-k-preserved
 loop-k-preserved c =

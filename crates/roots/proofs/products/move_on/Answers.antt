@@ -1,16 +1,11 @@
 -- From no coefficient moved to the last that is not 0.
 -- Assumes nothing.
 use native.Mathlib.Omega.{arith}
-use Rattle.roots.proofs.Making.{words_fewer}
-use Rattle.roots.proofs.Moving.{moving_start, moving_more, moving_end, moving_byte, seventh}
+use Rattle.roots.proofs.Moving.{moving_start, moving_more, moving_end, seventh}
 use Rattle.roots.proofs.products.move_on.Goals as goal
 
 pub loop-i-init : goal.loop-i-init
 loop-i-init c = moving_start _ c.requires.1.sized
-
-pub word-w-requires : goal.word-w-requires
-word-w-requires c =
-    (omega (arith, c.requires.0), moving_byte c.loop-i.invariant c.requires.3, words_fewer c.requires.2 (omega arith))
 
 pub loop-i-preserved : goal.loop-i-preserved
 loop-i-preserved c =

@@ -6,18 +6,12 @@ use Rattle.ground.specs.Bits.{sum}
 use Rattle.field.specs.Field.{carryless, reduce, product, expo}
 use Rattle.words.specs.Words.{byte_at}
 use Rattle.roots.proofs.Constant.{rule}
-use Rattle.roots.proofs.Making.{words-none, words_fewer, words_more}
+use Rattle.roots.proofs.Making.{words-none, words_more}
 use Rattle.roots.proofs.products.table.Goals as goal
 
 pub loop-i-init : goal.loop-i-init
 unfolding byte_at expo product reduce carryless sum
 loop-i-init c = (words-none _ refl, rule _ refl tt)
-
-pub put_multiples-requires : goal.put_multiples-requires
-put_multiples-requires c = (c.loop-i.invariant.0.room, omega arith)
-
-pub put_multiples-requires-in-loop-i : goal.put_multiples-requires-in-loop-i
-put_multiples-requires-in-loop-i c = (c.put_multiples.ensures.room, omega arith)
 
 pub loop-i-preserved : goal.loop-i-preserved
 loop-i-preserved c =
@@ -25,6 +19,3 @@ loop-i-preserved c =
     words_more c.loop-i.invariant.0 _ _ _ (λ k h. c.loop-i.invariant.1.entry _ k (omega arith) h) c.put_multiples.ensures (omega arith) c.doubles-high.ensures
     c.put_multiples-in-loop-i.ensures in
     (words, c.loop-i.invariant.1)
-
-pub returns : goal.returns
-returns c = words_fewer c.loop-i.invariant.0 (omega arith)

@@ -7,9 +7,6 @@ use Rattle.roots.proofs.search.look_each.Goals as goal
 pub loop-k-init : goal.loop-k-init
 loop-k-init c = looking_start _ _ _ _ _ c.requires.0
 
-pub note-m-requires : goal.note-m-requires
-note-m-requires c = c.loop-k.invariant.sized
-
 pub loop-k-preserved : goal.loop-k-preserved
 loop-k-preserved c =
     looking_more c.loop-k.invariant (omega arith) _ c.byte.ensures _ _ c.note-m.ensures.sized c.note-m.ensures.held

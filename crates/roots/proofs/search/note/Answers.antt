@@ -5,18 +5,8 @@ use mathlib.Core.Bool.{◌&&◌}
 use native.Mathlib.Omega.{arith}
 use lib.Dec.{eqb, ltb}
 use lib.ListN.{length-set}
-use Rattle.roots.proofs.Holding.{held_same, held-full, held_more, differs, beyond, passes}
+use Rattle.roots.proofs.Holding.{held-full, held_more, passes}
 use Rattle.roots.proofs.search.note.Goals as goal
-
-pub returns-then-x-y : goal.returns-then-x-y
-returns-then-x-y c =
-    let a = c.args in
-    record { sized = c.requires; held = λ l h. held_same h _ a.e (differs a.x a.y a.e c.if-x-y.true) }
-
-pub returns-then-e-ge255 : goal.returns-then-e-ge255
-returns-then-e-ge255 c =
-    let a = c.args in
-    record { sized = c.requires; held = λ l h. held_same h _ a.e (beyond a.x a.y a.e (omega arith)) }
 
 pub returns-then-n-ge16 : goal.returns-then-n-ge16
 returns-then-n-ge16 c =

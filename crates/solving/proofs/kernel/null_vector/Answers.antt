@@ -1,6 +1,4 @@
--- `kernel::null_vector` keeps each vector at a run of its own, which does not annihilate it; there are eight runs, so that one of nine passes them all. Each turn a vector
--- goes one run on, or one vector more is kept and the next begins one run before.
--- Assumes nothing.
+-- What the search leaves of `null_vector`, by the laws of `Turns`.
 use mathlib.Core.Path.{refl}
 use Prim.Native.Nat.{◌<◌}
 use native.Mathlib.Omega.{arith}
