@@ -44,7 +44,7 @@ module _ (h s : List ℕ) (long : length h ≡ record_length) (held : Record) (i
   open_put_back g count r kept s' o p =
       let k = (open_of held s g count).kept in
       let b = put_back h k kept r h' o.answers
-              (λ bytes x e. ap record_bytes (refused-record held s g count x (refused_plan held s g count x e) ∙ is) ∙ bytes-again h bytes long) small p in
+      (λ bytes x e. ap record_bytes (refused-record held s g count x (refused_plan held s g count x e) ∙ is) ∙ bytes-again h bytes long) small p in
       open_says_lem h s g count r held h' s' long is o.leaves b.0 b.1
 
   pub close_put_back : (x : Name) (r : ℕ) (kept : Result Record Refusal) → kept ≡ renewed (close_of held s x)

@@ -22,7 +22,7 @@ use Rattle.packet.specs.Packet.{read_by}
 use Rattle.refusals.specs.Told.{refused_as, verdict_told}
 use Rattle.refusals.proofs.Told.{number_not_0}
 use Rattle.packet.specs.Told.{field_list}
-use Rattle.face.specs.Face.{Said, Says, answer_of, puts, puts_if, valued, with_value, encode_says, repaired_says, repair_says, reading_says, read_says}
+use Rattle.face.specs.Face.{Said, Says, answer_of, puts, puts_if, valued, encode_says, repaired_says, repair_says, reading_says, read_says}
 use Rattle.std.specs.Prelude.{Result}
 use Rattle.std.specs.Prelude.{Ok, Err}
 

@@ -7,9 +7,6 @@ use Rattle.composing.specs.Inner.{pieces, size_by}
 use Rattle.composing.proofs.ComposeLaws.{all_placed, fault_first, room_next, lines_last}
 use Rattle.composing.proofs.write.Goals as goal
 
-pub overflow_cast-result : goal.overflow_cast-result
-overflow_cast-result c = omega arith
-
 pub returns-then-fault-le15 : goal.returns-then-fault-le15
 returns-then-fault-le15 c =
     let a = c.args in
@@ -30,9 +27,6 @@ put_lines-requires c =
       all_placed a.text.now a.d (omega (arith, f.ensures)),
       ltb-false (length a.out.now) (size_by (pieces a.d)) (sym c.lacks_room.ensures ∙ c.if-lacks_room.false),
     )
-
-pub shape_of-out : goal.shape_of-out
-shape_of-out c = omega arith
 
 pub returns : goal.returns
 returns c =

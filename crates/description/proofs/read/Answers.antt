@@ -5,14 +5,8 @@ use Rattle.attributes.proofs.ReadLaws.{lines_fifteen}
 use Rattle.description.proofs.AnswerLaws.{says_line, says_extra, says_attributes}
 use Rattle.description.proofs.read.Goals as goal
 
-pub attributes_in-d-requires : goal.attributes_in-d-requires
-attributes_in-d-requires c = c.split-found.ensures.within
-
 pub overflow_add-found : goal.overflow_add-found
 overflow_add-found c = omega (arith, c.split-found.ensures.counted, lines_fifteen c.args.text.now)
-
-pub overflow_cast-result : goal.overflow_cast-result
-overflow_cast-result c = omega arith
 
 pub returns-then-fault-le15 : goal.returns-then-fault-le15
 returns-then-fault-le15 c =
