@@ -65,28 +65,14 @@ pub fn holds(p: Place, resource: u16, kind: u8) -> bool
 pub fn find_place(held: Record, resource: u16, kind: u8) -> Option<usize>
     ensures { result ≡ place_named held.places (record { resource = resource; kind = kind }) }
 {
-    let mut i: usize = 0;
-    while i < 8 {
-        if holds(held.places[i], resource, kind) {
-            return Some(i);
-        }
-        i += 1;
-    }
-    None
+    held.places.iter().position(|p| holds(*p, resource, kind))
 }
 
 // The first unused place.
 pub fn find_unused(held: Record) -> Option<usize>
     ensures { result ≡ first_unused held.places }
 {
-    let mut i: usize = 0;
-    while i < 8 {
-        if held.places[i].resource == 0 {
-            return Some(i);
-        }
-        i += 1;
-    }
-    None
+    held.places.iter().position(|p| p.resource == 0)
 }
 
 // The bytes that `count` slots for `size` bytes cover.
