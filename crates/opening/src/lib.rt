@@ -99,17 +99,6 @@ pub fn close(held: Record, store: &[u8], resource: u16, kind: u8) -> Result<Reco
     }
     let i = places::find_place(held, resource, kind).ok_or(Refusal::Unknown)?;
     let mut next = held;
-    next.places[i] = Place {
-        resource: 0,
-        kind: 0,
-        update: 0,
-        count: 0,
-        protection: 0,
-        rows: 0,
-        slot: 0,
-        start: 0,
-        edition: 0,
-        order: 0,
-    };
+    next.places[i] = Place::UNUSED;
     Ok(next)
 }

@@ -22,16 +22,9 @@ pub struct Place {
     pub order: u16,
 }
 
-#[derive(Clone, Copy)]
-pub struct Record {
-    pub places: [Place; 8],
-}
-
-// A record whose places are all unused.
-pub fn fresh() -> Record
-    ensures { result ≡ fresh_record }
-{
-    let unused = Place {
+impl Place {
+    // A place that is not in use, as all are in a fresh record and each is once it is closed.
+    pub const UNUSED: Place = Place {
         resource: 0,
         kind: 0,
         update: 0,
@@ -43,8 +36,19 @@ pub fn fresh() -> Record
         edition: 0,
         order: 0,
     };
+}
+
+#[derive(Clone, Copy)]
+pub struct Record {
+    pub places: [Place; 8],
+}
+
+// A record whose places are all unused.
+pub fn fresh() -> Record
+    ensures { result ≡ fresh_record }
+{
     Record {
-        places: [unused; 8],
+        places: [Place::UNUSED; 8],
     }
 }
 
