@@ -43,6 +43,13 @@ pub struct Record {
     pub places: [Place; 8],
 }
 
+// What a place is found by: resource and type together.
+#[derive(Clone, Copy, PartialEq, Eq)]
+pub struct Name {
+    pub resource: u16,
+    pub kind: u8,
+}
+
 // A record whose places are all unused.
 pub fn fresh() -> Record
     ensures { result ≡ fresh_record }
@@ -52,24 +59,22 @@ pub fn fresh() -> Record
     }
 }
 
-// Whether a place is the one that a resource and a type together mean. An unused one is meant by none.
-pub fn holds(p: Place, resource: u16, kind: u8) -> bool
-    ensures { result ≡ names p (record { resource = resource; kind = kind }) }
+// Whether a place is the one that a name means. An unused one is meant by none.
+pub fn holds(p: Place, name: Name) -> bool
+    ensures { result ≡ names p name }
 {
-    if p.resource == 0 {
-        return false;
-    }
-    if p.resource != resource {
-        return false;
-    }
-    p.kind == kind
+    let own = Name {
+        resource: p.resource,
+        kind: p.kind,
+    };
+    p.resource != 0 && own == name
 }
 
-// The place that holds a resource and a type.
-pub fn find_place(held: Record, resource: u16, kind: u8) -> Option<usize>
-    ensures { result ≡ place_named held.places (record { resource = resource; kind = kind }) }
+// The place that a name means.
+pub fn find_place(held: Record, name: Name) -> Option<usize>
+    ensures { result ≡ place_named held.places name }
 {
-    held.places.iter().position(|p| holds(*p, resource, kind))
+    held.places.iter().position(|p| holds(*p, name))
 }
 
 // The first unused place.

@@ -2,7 +2,7 @@
 ghost use Rattle.std.specs.Prelude.{◌≡◌, ◌&&◌, leb};
 ghost use Rattle.places.specs.Places.{usable, end_of, settings_in, ranges_fit, agree};
 
-use places::{Place, end_of};
+use places::{Name, Place, end_of};
 use settings::Settings;
 
 // How much of a store of n bytes is used.
@@ -59,7 +59,11 @@ pub(crate) fn do_agree(p: Place, q: Place) -> bool
     if p.resource == 0 {
         return true;
     }
-    if places::holds(q, p.resource, p.kind) {
+    let name = Name {
+        resource: p.resource,
+        kind: p.kind,
+    };
+    if places::holds(q, name) {
         return false;
     }
     if end_of(p) <= q.start as usize {

@@ -13,5 +13,5 @@ use Rattle.places.proofs.find_place.Goals as goal
 pub returns : goal.returns
 returns c =
     let ps = c.args.held.places in
-    let told = position_from_yields_List (λ (p : Place). names p (record { resource = c.args.resource; kind = c.args.kind })) _ _ _ c.position.ensures.ran (YieldsList-from_slice ps cc) (λ x b q k. search (rules, tests)) in
+    let told = position_from_yields_List (λ (p : Place). names p c.args.name) _ _ _ c.position.ensures.ran (YieldsList-from_slice ps cc) (λ x b q k. search (rules, tests)) in
     told ∙ position_from-zero _ ps ∙ position-first _ ps 0
