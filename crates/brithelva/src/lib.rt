@@ -11,7 +11,7 @@ ghost use Rattle.face.specs.Face.{answer_of, Says, Keeps, encode_says, repair_sa
 ghost use Rattle.listing.specs.Listing.{describe_says, compose_says};
 
 use packet::Packet;
-use places::Record;
+use places::{Name, Record};
 use refusals::Refusal;
 use settings::Settings;
 
@@ -258,7 +258,8 @@ pub fn bh_status(held: &[u8], store: &[u8], resource: u16, kind: u8) -> u64
     if held.len() != holding::RECORD {
         return NO_RECORD;
     }
-    let standing = standing::status(holding::record_in(held), store, resource, kind);
+    let name = Name { resource, kind };
+    let standing = standing::status(holding::record_in(held), store, name);
     answers::standing_as(standing)
 }
 
@@ -277,7 +278,8 @@ pub fn bh_hand_out(
         return NO_RECORD;
     }
     let before = holding::record_in(held);
-    let verdict = readout::hand_out(before, store, resource, kind, length as usize, out);
+    let name = Name { resource, kind };
+    let verdict = readout::hand_out(before, store, name, length as usize, out);
     answers::verdict_of(verdict)
 }
 
@@ -288,7 +290,8 @@ pub fn bh_close(held: &mut [u8], store: &[u8], resource: u16, kind: u8) -> u64
     if held.len() != holding::RECORD {
         return NO_RECORD;
     }
-    let kept = opening::close(holding::record_in(held), store, resource, kind);
+    let name = Name { resource, kind };
+    let kept = opening::close(holding::record_in(held), store, name);
     put_kept(held, kept)
 }
 

@@ -15,7 +15,8 @@ use Rattle.refusals.specs.declared.Refusal.{Refusal}
 use Rattle.settings.specs.declared.Settings.{Settings}
 use Rattle.places.specs.declared.Place.{Place}
 use Rattle.places.specs.declared.Record.{Record}
-use Rattle.places.specs.Places.{Name, settings_name, unused, place_of, good, place_named}
+use Rattle.places.specs.declared.Name.{Name}
+use Rattle.places.specs.Places.{settings_name, unused, place_of, good, place_named}
 use Rattle.places.proofs.Facts.{PlaceFacts, named_facts, end_sum}
 use Rattle.places.proofs.Keeping.{at_set}
 use Rattle.opening.specs.Open.{Plan, refuse, take, plan_of, open_of, closed_at, close_of}

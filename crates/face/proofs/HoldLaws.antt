@@ -9,7 +9,7 @@ use lib.Dec.{eqb}
 use lib.ListN.{length}
 use Rattle.settings.specs.declared.Settings.{Settings}
 use Rattle.places.specs.declared.Record.{Record}
-use Rattle.places.specs.Places.{Name}
+use Rattle.places.specs.declared.Name.{Name}
 use Rattle.record.specs.declared.Offered.{Offered}
 use Rattle.opening.specs.Open.{open_of, close_of}
 use Rattle.refusals.specs.Told.{verdict_told}

@@ -12,7 +12,7 @@ use Rattle.code.specs.Code.{Bytes}
 use Rattle.code.proofs.Lists.{bytes_of}
 use Rattle.settings.specs.declared.Settings.{Settings}
 use Rattle.places.specs.declared.Record.{Record}
-use Rattle.places.specs.Places.{Name}
+use Rattle.places.specs.declared.Name.{Name}
 use Rattle.opening.specs.Open.{Kept, renewed, open_of, Opens, close_of}
 use Rattle.opening.proofs.OpenLaws.{refused_plan, refused-record}
 use Rattle.holding.specs.Layout.{record_length, record_in, record_bytes}

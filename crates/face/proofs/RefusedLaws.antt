@@ -21,7 +21,8 @@ use Rattle.pack.specs.Pack.{pack_of}
 use Rattle.pack.specs.Told.{packed_told}
 use Rattle.pack.proofs.Plans.{pack-refused}
 use Rattle.places.specs.declared.Record.{Record}
-use Rattle.places.specs.Places.{Name, good, place_named}
+use Rattle.places.specs.declared.Name.{Name}
+use Rattle.places.specs.Places.{good, place_named}
 use Rattle.record.specs.declared.Offered.{Offered}
 use Rattle.record.specs.declared.Offered.TheVariants.{Stored, Repeat}
 use Rattle.opening.specs.Open.{open_of, closed_at, close_of}

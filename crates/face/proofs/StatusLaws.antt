@@ -11,7 +11,8 @@ use lib.ListN.{length, get_or}
 use Rattle.refusals.specs.declared.Refusal.{Refusal}
 use Rattle.refusals.specs.declared.Refusal.TheVariants.{Slot}
 use Rattle.places.specs.declared.Record.{Record}
-use Rattle.places.specs.Places.{Name, unused, good, place_named}
+use Rattle.places.specs.declared.Name.{Name}
+use Rattle.places.specs.Places.{unused, good, place_named}
 use Rattle.places.proofs.Facts.{named_facts}
 use Rattle.contents.specs.Contents.{Slot as Content, contents, any_wrong, filled, lowest_empty}
 use Rattle.contents.proofs.Places.{length-contents}

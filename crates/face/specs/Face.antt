@@ -12,7 +12,7 @@ use Rattle.packet.specs.Packet.{read_by}
 use Rattle.packet.specs.Told.{reading_told}
 use Rattle.pack.specs.Pack.{pack_of}
 use Rattle.pack.specs.Told.{packed_told}
-use Rattle.places.specs.Places.{Name}
+use Rattle.places.specs.declared.Name.{Name}
 use Rattle.opening.specs.Open.{open_of, close_of}
 use Rattle.record.specs.Offer.{offer_of}
 use Rattle.record.specs.Told.{offered_told}

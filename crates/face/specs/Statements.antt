@@ -4,7 +4,7 @@
 use Rattle.std.specs.Prelude.{Bool, ◌≡◌, List, ℕ, ◌%◌, length}
 use Rattle.code.specs.Code.{Bytes}
 use Rattle.settings.specs.declared.Settings.{Settings}
-use Rattle.places.specs.Places.{Name}
+use Rattle.places.specs.declared.Name.{Name}
 use Rattle.opening.specs.Open.{open_of, close_of}
 use Rattle.holding.specs.Layout.{record_length, record_in}
 use Rattle.face.specs.Face.{Said, Says, Kept, Keeps, encode_says, repair_says, read_says, pack_says, open_says, offer_says, hand_says, close_says}

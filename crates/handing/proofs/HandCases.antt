@@ -19,7 +19,8 @@ use Rattle.layout.proofs.Coded.{tables_reach}
 use Rattle.layout.proofs.Scatter.{scattered-all}
 use Rattle.places.specs.declared.Place.{Place}
 use Rattle.places.specs.declared.Record.{Record}
-use Rattle.places.specs.Places.{Name, unused, end_of, good, place_named}
+use Rattle.places.specs.declared.Name.{Name}
+use Rattle.places.specs.Places.{unused, end_of, good, place_named}
 use Rattle.places.proofs.Facts.{PlaceFacts, named_facts}
 use Rattle.contents.specs.Contents.{Slot as Content, contents, any_wrong, lowest_empty, joined}
 use Rattle.losses.specs.Losses.{tabled}

@@ -16,7 +16,8 @@ use Rattle.layout.specs.Layout.{tables_of, coded_file}
 use Rattle.layout.proofs.Coded.{length-coded}
 use Rattle.places.specs.declared.Place.{Place}
 use Rattle.places.specs.declared.Record.{Record}
-use Rattle.places.specs.Places.{Name, unused, good, place_named}
+use Rattle.places.specs.declared.Name.{Name}
+use Rattle.places.specs.Places.{unused, good, place_named}
 use Rattle.contents.specs.Contents.{Slot as Content, wrong, holding, contents, any_wrong, filled, lowest_empty, joined}
 use Rattle.contents.proofs.Filled.{holding-right, holding-all, holding-filled, holding-lowest, joined-whole}
 use Rattle.columns.specs.Handing.{Handing, refusing}

@@ -7,7 +7,8 @@ use Rattle.refusals.specs.declared.Refusal.TheVariants.{Unknown, Slot, Missing, 
 use Rattle.layout.specs.Layout.{tables_of}
 use Rattle.places.specs.declared.Place.{Place}
 use Rattle.places.specs.declared.Record.{Record}
-use Rattle.places.specs.Places.{Name, unused, end_of, good, place_named}
+use Rattle.places.specs.declared.Name.{Name}
+use Rattle.places.specs.Places.{unused, end_of, good, place_named}
 use Rattle.contents.specs.Contents.{Slot as Content, contents, any_wrong, lowest_empty, joined}
 use Rattle.columns.specs.Handing.{Handing, refusing, handed, hand_tables}
 use Rattle.columns.specs.Columns.{hand_columns, hand_columns_of}

@@ -3,32 +3,27 @@
 #![tactic(auto)]
 
 ghost use Rattle.std.specs.Prelude.{◌≡◌, Ok, true, not, ◌+◌, ◌/◌, ◌%◌, ◌≤◌, eqb, length};
-ghost use Rattle.packet.specs.Packet.{resource_in, kind_in, read_by, read_of};
+ghost use Rattle.packet.specs.Packet.{read_by, read_of};
 ghost use Rattle.places.specs.Places.{names, fits};
 ghost use Rattle.contents.specs.Contents.{slot_at};
 ghost use Rattle.code.specs.Mend.{mend_rows};
-ghost use Rattle.record.specs.Offer.{packet_name, differs, judge_mended, judge, offer_judged, offer_of};
+ghost use Rattle.record.specs.Offer.{packet_name, name_in, differs, judge_mended, judge, offer_judged, offer_of};
 ghost use Rattle.record.specs.InnerOffer.{Comes, nowhere};
 
 use packet::Packet;
-use places::{Place, Record};
+use places::{Name, Place, Record};
 use record::Offered;
 use refusals::Refusal;
 
-// The resource that a packet names: its bytes 3 and 4.
-fn resource_in(packet: &[u8]) -> u16
+// The resource and type that a packet names: its bytes 3 and 4, and the two high bits of byte 12.
+fn name_in(packet: &[u8]) -> Name
     requires { 19 ≤ length packet.now }
-    ensures { result ≡ resource_in packet.now }
+    ensures { result ≡ name_in packet.now }
 {
-    packet[3] as u16 * 256 + packet[4] as u16
-}
-
-// The type that it names: the two high bits of byte 12.
-fn kind_in(packet: &[u8]) -> u8
-    requires { 19 ≤ length packet.now }
-    ensures { result ≡ kind_in packet.now }
-{
-    packet[12] / 64
+    Name {
+        resource: packet[3] as u16 * 256 + packet[4] as u16,
+        kind: packet[12] / 64,
+    }
 }
 
 // The fields of a packet as the place that it names has it read: in column order refusal 7 is passed over.
@@ -66,7 +61,13 @@ fn differs(p: Place, fields: Packet) -> bool
 }
 
 // A packet with protection: each row of its payload is repaired first, and the repaired payload goes on. There are fifteen rows at most.
-fn offer_rows(p: Place, store: &mut [u8], number: u32, packet: &[u8], payload: &[u8]) -> Result<Offered, Refusal>
+fn offer_rows(
+    p: Place,
+    store: &mut [u8],
+    number: u32,
+    packet: &[u8],
+    payload: &[u8],
+) -> Result<Offered, Refusal>
     requires { (slot_at p number + (p.slot + 2) ≤ length store.old) × (14 ≤ length packet.now) × (length payload.now ≤ p.slot) × (length payload.now ≤ 3825) × (length payload.now % 255 ≡ 0) }
     ensures { Comes (offer_judged p store.old (judge_mended number packet.now (mend_rows (length payload.now / 255) 0 payload.now))) result store.new }
 {
@@ -125,7 +126,7 @@ pub fn offer(held: Record, store: &mut [u8], packet: &[u8]) -> Result<Offered, R
     if packet.len() < Packet::HEADER + 1 + Packet::CRC {
         return Err(Refusal::Short);
     }
-    let Some(i) = places::find_place(held, resource_in(packet), kind_in(packet)) else {
+    let Some(i) = places::find_place(held, name_in(packet)) else {
         return offer_nowhere(packet);
     };
     let p = held.places[i];

@@ -10,7 +10,8 @@ use Rattle.refusals.specs.declared.Refusal.{Refusal}
 use Rattle.refusals.specs.declared.Refusal.TheVariants.{Unknown}
 use Rattle.places.specs.declared.Place.{Place}
 use Rattle.places.specs.declared.Record.{Record}
-use Rattle.places.specs.Places.{Name, unused, good, place_named}
+use Rattle.places.specs.declared.Name.{Name}
+use Rattle.places.specs.Places.{unused, good, place_named}
 use Rattle.places.proofs.Holders.{found-names, named-gone, named-left}
 use Rattle.places.proofs.Keeping.{good_unset}
 use Rattle.opening.specs.Open.{closed_at, close_of}

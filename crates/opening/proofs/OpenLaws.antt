@@ -16,7 +16,8 @@ use Rattle.refusals.specs.declared.Refusal.TheVariants.{Held, Full, Room}
 use Rattle.settings.specs.declared.Settings.{Settings}
 use Rattle.settings.specs.Settings.{settings_fit}
 use Rattle.places.specs.declared.Record.{Record}
-use Rattle.places.specs.Places.{Name, settings_name, unused, in_use, usable, cover_of, end_of, meets, place_of, good, place_named, first_unused}
+use Rattle.places.specs.declared.Name.{Name}
+use Rattle.places.specs.Places.{settings_name, unused, in_use, usable, cover_of, end_of, meets, place_of, good, place_named, first_unused}
 use Rattle.places.specs.Room.{free}
 use Rattle.places.proofs.Facts.{usable-limit, usable-within}
 use Rattle.places.proofs.Holders.{unused-at, unused-none, named_new, named_other}

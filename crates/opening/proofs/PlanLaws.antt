@@ -14,7 +14,6 @@ use Rattle.places.specs.declared.Record.{Record}
 use Rattle.places.specs.Places.{settings_name, cover_of, place_of, count_fits, good, place_named, first_unused}
 use Rattle.places.specs.Room.{lowest_start}
 use Rattle.contents.specs.Slots.{cleared}
-
 use Rattle.opening.specs.Inner.{planned}
 use Rattle.opening.specs.Open.{renewed, Plan, refuse, take, with_start, with_unused, with_holder, plan_of, Opening, carried_out, open_of, Opens}
 use Rattle.std.specs.Prelude.{Option}

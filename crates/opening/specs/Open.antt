@@ -7,7 +7,8 @@ use Rattle.refusals.specs.Refusals.{answered}
 use Rattle.settings.specs.declared.Settings.{Settings}
 use Rattle.settings.specs.Settings.{settings_fit}
 use Rattle.places.specs.declared.Record.{Record}
-use Rattle.places.specs.Places.{Name, settings_name, unused, cover_of, place_of, count_fits, good, place_named, first_unused}
+use Rattle.places.specs.declared.Name.{Name}
+use Rattle.places.specs.Places.{settings_name, unused, cover_of, place_of, count_fits, good, place_named, first_unused}
 use Rattle.places.specs.Room.{lowest_start}
 use Rattle.contents.specs.Slots.{cleared}
 

@@ -10,7 +10,7 @@ ghost use Rattle.opening.specs.Open.{with_unused, plan_of, Opens, renewed, close
 ghost use Rattle.opening.specs.Inner.{planned};
 
 pub use places::fresh;
-use places::{Place, Record};
+use places::{Name, Place, Record};
 use refusals::Refusal;
 use settings::Settings;
 
@@ -41,7 +41,11 @@ fn plan_open(
     if !places::count_fits(count) {
         return Err(Refusal::Field);
     }
-    if let Some(_) = places::find_place(held, settings.resource, settings.kind) {
+    let name = Name {
+        resource: settings.resource,
+        kind: settings.kind,
+    };
+    if let Some(_) = places::find_place(held, name) {
         return Err(Refusal::Held);
     }
     room_for(held, n, places::cover_of(count, settings.size))
@@ -90,26 +94,15 @@ pub fn open_house(
     open(held, store, settings::house(resource, kind, update), count)
 }
 
-// Makes the place that holds a resource and a type unused, all its fields 0. The store stays.
-pub fn close(held: Record, store: &[u8], resource: u16, kind: u8) -> Result<Record, Refusal>
-    ensures { result ≡ renewed (close_of held store.now (record { resource = resource; kind = kind })) }
+// Makes the place that a name means unused, all its fields 0. The store stays.
+pub fn close(held: Record, store: &[u8], name: Name) -> Result<Record, Refusal>
+    ensures { result ≡ renewed (close_of held store.now name) }
 {
     if !room::is_good(held, store.len()) {
         return Err(Refusal::Record);
     }
-    let i = places::find_place(held, resource, kind).ok_or(Refusal::Unknown)?;
+    let i = places::find_place(held, name).ok_or(Refusal::Unknown)?;
     let mut next = held;
-    next.places[i] = Place {
-        resource: 0,
-        kind: 0,
-        update: 0,
-        count: 0,
-        protection: 0,
-        rows: 0,
-        slot: 0,
-        start: 0,
-        edition: 0,
-        order: 0,
-    };
+    next.places[i] = Place::UNUSED;
     Ok(next)
 }

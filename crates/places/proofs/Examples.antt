@@ -9,7 +9,8 @@ use lib.ListN.{set}
 use Rattle.settings.specs.declared.Settings.{Settings}
 use Rattle.settings.specs.Settings.{settings_fit}
 use Rattle.places.specs.declared.Place.{Place}
-use Rattle.places.specs.Places.{unused, fresh_record, Name, same_name, cover_of, end_of, meets, place_of, ranges_fit, fits, agree, good, first_from, place_named, first_unused}
+use Rattle.places.specs.declared.Name.{Name}
+use Rattle.places.specs.Places.{unused, fresh_record, same_name, cover_of, end_of, meets, place_of, ranges_fit, fits, agree, good, first_from, place_named, first_unused}
 use Rattle.places.specs.Room.{clear, free, lowest_from, lowest_start}
 use Rattle.std.specs.Prelude.{Option}
 use Rattle.std.specs.Prelude.{Some, None}

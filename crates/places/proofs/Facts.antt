@@ -14,7 +14,8 @@ use Rattle.std.proofs.lemmas.Bool.{and_parts}
 use Rattle.settings.specs.Settings.{settings_fit, rows_held}
 use Rattle.settings.proofs.Laws.{SettingsFacts, settings_facts}
 use Rattle.places.specs.declared.Place.{Place}
-use Rattle.places.specs.Places.{unused, in_use, Name, place_name, names, usable, end_of, settings_in, count_fits, ranges_fit, fits, good, place_named}
+use Rattle.places.specs.declared.Name.{Name}
+use Rattle.places.specs.Places.{unused, in_use, place_name, names, usable, end_of, settings_in, count_fits, ranges_fit, fits, good, place_named}
 use Rattle.places.proofs.Searches.{first_is}
 use Rattle.places.proofs.Named.{names_in_use, names-name}
 use Rattle.places.proofs.Agreeing.{agree-apart, agree-other}

@@ -10,7 +10,8 @@ use lib.ListN.{length, get_or, set, length-set}
 use lib.Seq.{get_or-set_same, get_or-set_other}
 use Rattle.std.proofs.lemmas.Bool.{false_from_ne_true}
 use Rattle.places.specs.declared.Place.{Place}
-use Rattle.places.specs.Places.{unused, in_use, Name, place_name, names, good, place_named, first_unused}
+use Rattle.places.specs.declared.Name.{Name}
+use Rattle.places.specs.Places.{unused, in_use, place_name, names, good, place_named, first_unused}
 use Rattle.places.proofs.Searches.{first_is, none_passes, first-none, first-only, first-set}
 use Rattle.places.proofs.Named.{names-no, names-unused, names_one}
 use Rattle.places.proofs.Keeping.{at_set}

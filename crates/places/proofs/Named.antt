@@ -6,7 +6,8 @@ use borrow.Author.Tests.{eq-eqb, ne_eqb, eqb-true, eqb-false, not-true}
 use lib.Dec.{eqb}
 use Rattle.std.proofs.lemmas.Bool.{and_parts, false_from_ne_true}
 use Rattle.places.specs.declared.Place.{Place}
-use Rattle.places.specs.Places.{in_use, Name, place_name, same_name, names}
+use Rattle.places.specs.declared.Name.{Name}
+use Rattle.places.specs.Places.{in_use, place_name, same_name, names}
 use Rattle.ground.proofs.Truth.{differ, and_join, not_yes, not_no}
 
 -- ---- names are the same exactly if both parts are

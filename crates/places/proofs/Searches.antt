@@ -5,11 +5,13 @@ use mathlib.Core.Bool.{Bool, true, false, cond}
 use mathlib.Core.List.{List, [], ◌∷◌}
 use Prim.Native.Nat.{ℕ, zero, suc, ◌+◌, ◌<◌}
 use native.Mathlib.Nat.{add-zero, zero-add, add-suc, suc-add}
+use native.Mathlib.Numerals.{add-one}
 use native.Mathlib.Omega.{arith}
 use lib.ListN.{length, get_or, set}
 use Rattle.places.specs.declared.Place.{Place}
 use Rattle.places.specs.Places.{unused, first_from}
 use Rattle.std.specs.Prelude.{Some, None}
+use Rattle.std.specs.List.{position_from}
 
 module _ (f : Place → Bool) where
   -- place i passes and no earlier one does
@@ -91,3 +93,9 @@ module _ (f : Place → Bool) where
   first-set [] j i p e = refl
   first-set (q ∷ ps) j zero p e = rw e
   first-set (q ∷ ps) j (suc i) p e = rw (first-set ps (suc j) i p e)
+
+-- as the library counts in a search
+pub position-first : (f : Place → Bool) (ps : List Place) (i : ℕ) → position_from f i ps ≡ first_from f ps i
+unfolding first_from
+position-first f [] i = refl
+position-first f (p ∷ ps) i = rw (add-one, position-first f ps (suc i))

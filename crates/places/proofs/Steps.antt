@@ -1,4 +1,4 @@
--- One step of a search or a test through a list of places, as the loops take it; and what a test of all of them says of each.
+-- One step of the test of a record, as its loop takes it; and what a test of all places says of each.
 -- Assumes nothing.
 use mathlib.Core.Path.{◌≡◌, refl, sym, ◌∙◌}
 use mathlib.Core.Bool.{Bool, true, false}
@@ -8,37 +8,20 @@ use native.Mathlib.Numerals.{add-one}
 use native.Mathlib.Omega.{arith}
 use lib.ListN.{length, get_or, drop, drop_of_length-le, length-map}
 use lib.Seq.{drop-cons}
+use Rattle.std.specs.List.{list_all}
 use Rattle.std.proofs.lemmas.Bool.{and_parts}
 use Rattle.places.specs.declared.Place.{Place}
-use Rattle.places.specs.Places.{unused, all, agree, fits, good, first_from}
+use Rattle.places.specs.Places.{unused, all, agree, fits, good}
 use Rattle.ground.proofs.Truth.{and_join}
-use Rattle.std.specs.Prelude.{Some, None}
 
 -- the length of an array of structs, from what owning it tells: `search (needs, mapped_length)`
 pub mapped_length : (X Y : Type 0) (f : X → Y) (l : List X) (n : ℕ) → length (map f l) ≡ n → length l ≡ n
 mapped_length X Y f l n e = sym (length-map l f) ∙ e
 
-module _ (f : Place → Bool) (ps : List Place) (i : ℕ) where
-  pub first_hit : i < length ps → f (get_or ps i unused) ≡ true → first_from f (drop i ps) i ≡ Some i
-  unfolding first_from
-  first_hit h e = rw (drop-cons ps i unused, e)
-
-  pub first_miss : i < length ps → f (get_or ps i unused) ≡ false → first_from f (drop i ps) i ≡ first_from f (drop (i + 1) ps) (i + 1)
-  unfolding first_from
-  first_miss h e = rw (add-one, drop-cons ps i unused, e)
-
-  pub first_end : length ps ≤ i → first_from f (drop i ps) i ≡ None
-  unfolding first_from
-  first_end h = rw (drop_of_length-le ps h)
-
-  pub all_yes : i < length ps → f (get_or ps i unused) ≡ true → all f (drop i ps) ≡ all f (drop (i + 1) ps)
-  all_yes h e = rw (add-one, drop-cons ps i unused, e)
-
-  pub all-no : i < length ps → f (get_or ps i unused) ≡ false → all f (drop i ps) ≡ false
-  all-no h e = rw (drop-cons ps i unused, e)
-
-  pub all_end : length ps ≤ i → all f (drop i ps) ≡ true
-  all_end h = rw (drop_of_length-le ps h)
+-- as the library says it of a chain
+pub list_all-all : (f : Place → Bool) (ps : List Place) → list_all f ps ≡ all f ps
+list_all-all f [] = refl
+list_all-all f (p ∷ ps) = rw (list_all-all f ps)
 
 -- all places pass exactly if each does
 pub all-at : (f : Place → Bool) (ps : List Place) (i : ℕ) → all f ps ≡ true → i < length ps → f (get_or ps i unused) ≡ true

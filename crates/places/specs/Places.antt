@@ -5,6 +5,7 @@ use Rattle.settings.specs.declared.Settings.{Settings}
 use Rattle.settings.specs.Settings.{row_wise, settings_fit, rows_held}
 use Rattle.places.specs.declared.Place.{Place}
 use Rattle.places.specs.declared.Record.{Record}
+use Rattle.places.specs.declared.Name.{Name}
 use Rattle.std.specs.Prelude.{Option}
 use Rattle.std.specs.Prelude.{Some, None}
 
@@ -18,11 +19,7 @@ fresh_record = record { places = replicate 8 unused }
 abbrev pub in_use : Place → Bool
 in_use p = not (eqb p.resource 0)
 
--- what a place is found by: resource and type together
-pub record Name : Type 0 where
-  pub resource : ℕ
-  pub kind : ℕ
-
+-- a place is found by resource and type together
 abbrev pub place_name : Place → Name
 place_name p = record { resource = p.resource; kind = p.kind }
 

@@ -22,16 +22,9 @@ pub struct Place {
     pub order: u16,
 }
 
-#[derive(Clone, Copy)]
-pub struct Record {
-    pub places: [Place; 8],
-}
-
-// A record whose places are all unused.
-pub fn fresh() -> Record
-    ensures { result ≡ fresh_record }
-{
-    let unused = Place {
+impl Place {
+    // A place that is not in use, as all are in a fresh record and each is once it is closed.
+    pub const UNUSED: Place = Place {
         resource: 0,
         kind: 0,
         update: 0,
@@ -43,50 +36,52 @@ pub fn fresh() -> Record
         edition: 0,
         order: 0,
     };
+}
+
+#[derive(Clone, Copy)]
+pub struct Record {
+    pub places: [Place; 8],
+}
+
+// What a place is found by: resource and type together.
+#[derive(Clone, Copy, PartialEq, Eq)]
+pub struct Name {
+    pub resource: u16,
+    pub kind: u8,
+}
+
+// A record whose places are all unused.
+pub fn fresh() -> Record
+    ensures { result ≡ fresh_record }
+{
     Record {
-        places: [unused; 8],
+        places: [Place::UNUSED; 8],
     }
 }
 
-// Whether a place is the one that a resource and a type together mean. An unused one is meant by none.
-pub fn holds(p: Place, resource: u16, kind: u8) -> bool
-    ensures { result ≡ names p (record { resource = resource; kind = kind }) }
+// Whether a place is the one that a name means. An unused one is meant by none.
+pub fn holds(p: Place, name: Name) -> bool
+    ensures { result ≡ names p name }
 {
-    if p.resource == 0 {
-        return false;
-    }
-    if p.resource != resource {
-        return false;
-    }
-    p.kind == kind
+    let own = Name {
+        resource: p.resource,
+        kind: p.kind,
+    };
+    p.resource != 0 && own == name
 }
 
-// The place that holds a resource and a type.
-pub fn find_place(held: Record, resource: u16, kind: u8) -> Option<usize>
-    ensures { result ≡ place_named held.places (record { resource = resource; kind = kind }) }
+// The place that a name means.
+pub fn find_place(held: Record, name: Name) -> Option<usize>
+    ensures { result ≡ place_named held.places name }
 {
-    let mut i: usize = 0;
-    while i < 8 {
-        if holds(held.places[i], resource, kind) {
-            return Some(i);
-        }
-        i += 1;
-    }
-    None
+    held.places.iter().position(|p| holds(*p, name))
 }
 
 // The first unused place.
 pub fn find_unused(held: Record) -> Option<usize>
     ensures { result ≡ first_unused held.places }
 {
-    let mut i: usize = 0;
-    while i < 8 {
-        if held.places[i].resource == 0 {
-            return Some(i);
-        }
-        i += 1;
-    }
-    None
+    held.places.iter().position(|p| p.resource == 0)
 }
 
 // The bytes that `count` slots for `size` bytes cover.

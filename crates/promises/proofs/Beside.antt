@@ -16,7 +16,8 @@ use Rattle.settings.specs.declared.Settings.{Settings}
 use Rattle.settings.proofs.Laws.{settings_facts}
 use Rattle.pack.specs.Pack.{count_of, packet_of}
 use Rattle.places.specs.declared.Place.{Place}
-use Rattle.places.specs.Places.{Name, settings_name, unused, in_use, end_of, fresh_record, place_of, first_from, first_unused, place_named}
+use Rattle.places.specs.declared.Name.{Name}
+use Rattle.places.specs.Places.{settings_name, unused, in_use, end_of, fresh_record, place_of, first_from, first_unused, place_named}
 use Rattle.places.specs.Room.{clear, free, lowest_start}
 use Rattle.places.proofs.Named.{in_use_lem, name-same}
 use Rattle.places.proofs.Keeping.{at_set}

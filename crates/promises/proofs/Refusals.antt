@@ -13,7 +13,8 @@ use Rattle.pack.specs.Pack.{pack_of}
 use Rattle.pack.specs.Told.{packed_told}
 use Rattle.pack.proofs.Plans.{pack-refused}
 use Rattle.places.specs.declared.Record.{Record}
-use Rattle.places.specs.Places.{Name, good, place_named}
+use Rattle.places.specs.declared.Name.{Name}
+use Rattle.places.specs.Places.{good, place_named}
 use Rattle.opening.specs.Open.{Kept}
 use Rattle.record.specs.declared.Offered.{Offered}
 use Rattle.opening.specs.Open.{Plan, refuse, take, plan_of, carried_out, open_of, closed_at, close_of}

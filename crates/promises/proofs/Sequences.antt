@@ -13,7 +13,8 @@ use Rattle.refusals.specs.Told.{verdict_told}
 use Rattle.settings.specs.declared.Settings.{Settings}
 use Rattle.places.specs.declared.Place.{Place}
 use Rattle.places.specs.declared.Record.{Record}
-use Rattle.places.specs.Places.{Name, settings_name, unused, good, place_named, place_of}
+use Rattle.places.specs.declared.Name.{Name}
+use Rattle.places.specs.Places.{settings_name, unused, good, place_named, place_of}
 use Rattle.ground.proofs.Truth.{differ}
 use Rattle.places.proofs.Named.{name-same}
 use Rattle.contents.specs.Contents.{contents}

@@ -17,7 +17,8 @@ use Rattle.slices.specs.Slices.{same}
 use Rattle.slices.proofs.SameLaws.{same_equal}
 use Rattle.packet.specs.declared.Packet.{Packet}
 use Rattle.places.specs.declared.Place.{Place}
-use Rattle.places.specs.Places.{Name, unused, in_use, names as holds, good, end_of, in_rows, place_named}
+use Rattle.places.specs.declared.Name.{Name}
+use Rattle.places.specs.Places.{unused, in_use, names as holds, good, end_of, in_rows, place_named}
 use Rattle.ground.proofs.Truth.{differ}
 use Rattle.places.proofs.Searches.{first-only}
 use Rattle.places.proofs.Named.{names_in_use}

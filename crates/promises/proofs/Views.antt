@@ -8,7 +8,8 @@ use borrow.Author.Tests.{lt-ltb}
 use lib.ListN.{length, get_or}
 use Rattle.settings.specs.declared.Settings.{Settings}
 use Rattle.places.specs.declared.Record.{Record}
-use Rattle.places.specs.Places.{Name, place_name, settings_name, unused, in_use, good, place_named}
+use Rattle.places.specs.declared.Name.{Name}
+use Rattle.places.specs.Places.{place_name, settings_name, unused, in_use, good, place_named}
 use Rattle.ground.proofs.Truth.{differ, and_join}
 use Rattle.places.proofs.Named.{same_name_lem, name-other, names_in_use, names-name}
 use Rattle.places.proofs.Holders.{found-names, unused-at}

@@ -7,7 +7,8 @@ use Rattle.settings.specs.Settings.{house}
 use Rattle.pack.specs.Pack.{pack_of}
 use Rattle.pack.specs.Told.{packed_told}
 use Rattle.places.specs.declared.Record.{Record}
-use Rattle.places.specs.Places.{Name, settings_name, same_name, fresh_record}
+use Rattle.places.specs.declared.Name.{Name}
+use Rattle.places.specs.Places.{settings_name, same_name, fresh_record}
 use Rattle.opening.specs.Open.{open_of, close_of}
 use Rattle.record.specs.Offer.{name_in, offer_of}
 use Rattle.record.specs.Told.{offered_told}

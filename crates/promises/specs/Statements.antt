@@ -15,7 +15,8 @@ use Rattle.settings.specs.Settings.{settings_fit}
 use Rattle.layout.specs.Layout.{tables_of}
 use Rattle.pack.specs.Pack.{largest_file, count_of, payload_of, packet_of}
 use Rattle.places.specs.declared.Place.{Place}
-use Rattle.places.specs.Places.{Name, settings_name, unused, in_use, names as holds, good, place_of, in_rows, cover_of}
+use Rattle.places.specs.declared.Name.{Name}
+use Rattle.places.specs.Places.{settings_name, unused, in_use, names as holds, good, place_of, in_rows, cover_of}
 use Rattle.contents.specs.Contents.{Slot as Content, holding, slot_of, contents, any_wrong, filled, lowest_empty}
 use Rattle.record.specs.Mend.{payload_in}
 use Rattle.sealing.specs.Sealing.{agrees}

@@ -17,7 +17,8 @@ use Rattle.packet.specs.Packet.{resource_in, kind_in, fields_in, marked, bad_pro
 use Rattle.packet.proofs.Laws.{resource_in_lem, kind_in_lem}
 use Rattle.places.specs.declared.Place.{Place}
 use Rattle.places.specs.declared.Record.{Record}
-use Rattle.places.specs.Places.{Name, unused, names, place_named}
+use Rattle.places.specs.declared.Name.{Name}
+use Rattle.places.specs.Places.{unused, names, place_named}
 use Rattle.settings.specs.Settings.{row_wise}
 use Rattle.places.proofs.Named.{names-name}
 use Rattle.places.proofs.Facts.{PlaceFacts}

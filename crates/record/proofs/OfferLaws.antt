@@ -17,7 +17,8 @@ use Rattle.packet.specs.declared.Packet.{Packet}
 use Rattle.packet.specs.Edition.{edition_of}
 use Rattle.places.specs.declared.Place.{Place}
 use Rattle.places.specs.declared.Record.{Record}
-use Rattle.places.specs.Places.{Name, place_name, same_name, names, unused, end_of, meets, good, place_named}
+use Rattle.places.specs.declared.Name.{Name}
+use Rattle.places.specs.Places.{place_name, same_name, names, unused, end_of, meets, good, place_named}
 use Rattle.places.proofs.Named.{name-same, name-other, names-name, names_in_use}
 use Rattle.places.proofs.Facts.{PlaceFacts, named_facts, good-apart}
 use Rattle.places.proofs.Holders.{found-names}

@@ -11,7 +11,8 @@ use Rattle.packet.specs.Edition.{edition_of}
 use Rattle.settings.specs.Settings.{row_wise}
 use Rattle.places.specs.declared.Place.{Place}
 use Rattle.places.specs.declared.Record.{Record}
-use Rattle.places.specs.Places.{Name, unused, good, place_named}
+use Rattle.places.specs.declared.Name.{Name}
+use Rattle.places.specs.Places.{unused, good, place_named}
 use Rattle.contents.specs.Slots.{stored}
 use Rattle.contents.specs.Contents.{Slot as Content, wrong, holding, slot_at, slot_of}
 use Rattle.record.specs.declared.Offered.{Offered}

@@ -13,7 +13,7 @@ fn is_clear(s: usize, size: usize, p: Place) -> bool
     if p.resource == 0 {
         return true;
     }
-    if crate::ranges::end_of(p) <= s {
+    if places::end_of(p) <= s {
         return true;
     }
     s + size <= p.start as usize
@@ -29,13 +29,5 @@ pub(crate) fn is_free(held: Record, end: usize, size: usize, s: usize) -> bool
     if end - s < size {
         return false;
     }
-    let mut i: usize = 0;
-    while i < 8 {
-        let p = held.places[i];
-        if !is_clear(s, size, p) {
-            return false;
-        }
-        i += 1;
-    }
-    true
+    held.places.iter().all(|p| is_clear(s, size, *p))
 }

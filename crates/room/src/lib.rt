@@ -15,22 +15,14 @@ mod ranges;
 pub fn is_good(held: Record, n: usize) -> bool
     ensures { result ≡ good n held.places }
 {
-    let mut i: usize = 0;
-    while i < 8 {
-        let p = held.places[i];
-        i += 1;
+    for (i, p) in held.places.iter().enumerate() {
         if p.resource != 0 {
-            if !ranges::is_sound(n, p) {
+            if !ranges::is_sound(n, *p) {
                 return false;
             }
-            // A second loop here, since a function of its own would be handed a copy of the record.
-            let mut j = i;
-            while j < 8 {
-                let q = held.places[j];
-                if !ranges::do_agree(p, q) {
-                    return false;
-                }
-                j += 1;
+            let later = &held.places[i + 1..];
+            if !later.iter().all(|q| ranges::do_agree(*p, *q)) {
+                return false;
             }
         }
     }
@@ -47,22 +39,13 @@ pub fn lowest_start(held: Record, n: usize, size: usize) -> Option<usize>
         return Some(0);
     }
     let mut best = end + 1;
-    let mut i: usize = 0;
-    while i < 8 {
-        let p = held.places[i];
+    for p in held.places {
         if p.resource != 0 {
-            let start = ranges::end_of(p);
-            if start < best {
-                if free::is_free(held, end, size, start) {
-                    best = start;
-                }
+            let start = places::end_of(p);
+            if start < best && free::is_free(held, end, size, start) {
+                best = start;
             }
         }
-        i += 1;
     }
-    if best <= end {
-        Some(best)
-    } else {
-        None
-    }
+    if best <= end { Some(best) } else { None }
 }

@@ -2,7 +2,7 @@
 ghost use Rattle.std.specs.Prelude.{◌≡◌, ◌&&◌, leb};
 ghost use Rattle.places.specs.Places.{usable, end_of, settings_in, ranges_fit, agree};
 
-use places::Place;
+use places::{Name, Place, end_of};
 use settings::Settings;
 
 // How much of a store of n bytes is used.
@@ -10,13 +10,6 @@ pub(crate) fn usable(n: usize) -> usize
     ensures { result ≡ usable n }
 {
     if n <= 16777216 { n } else { 16777216 }
-}
-
-// Where the bytes of a place end.
-pub(crate) fn end_of(p: Place) -> usize
-    ensures { result ≡ end_of p }
-{
-    p.start as usize + places::cover_of(p.count, p.slot)
 }
 
 // The settings that a place holds.
@@ -66,7 +59,11 @@ pub(crate) fn do_agree(p: Place, q: Place) -> bool
     if p.resource == 0 {
         return true;
     }
-    if places::holds(q, p.resource, p.kind) {
+    let name = Name {
+        resource: p.resource,
+        kind: p.kind,
+    };
+    if places::holds(q, name) {
         return false;
     }
     if end_of(p) <= q.start as usize {

@@ -8,7 +8,7 @@ ghost use Rattle.contents.specs.Contents.{contents};
 ghost use Rattle.standing.specs.Survey.{seen_of};
 ghost use Rattle.standing.specs.Status.{standing_in, status_of};
 
-use places::{Place, Record};
+use places::{Name, Place, Record};
 use refusals::Refusal;
 
 // What a pass saw: how many slots are filled, how many stand before the lowest empty one, which is all of them where none is empty, and how many bytes the
@@ -76,13 +76,13 @@ fn stands(p: Place, store: &[u8]) -> Result<Standing, Refusal>
     })
 }
 
-// How many slots of the place of a resource and type are filled, and the lowest empty one. Refused: 9, 10, 15.
-pub fn status(held: Record, store: &[u8], resource: u16, kind: u8) -> Result<Standing, Refusal>
-    ensures { result ≡ status_of held store.now (record { resource = resource; kind = kind }) }
+// How many slots of the place that a name means are filled, and the lowest empty one. Refused: 9, 10, 15.
+pub fn status(held: Record, store: &[u8], name: Name) -> Result<Standing, Refusal>
+    ensures { result ≡ status_of held store.now name }
 {
     if !room::is_good(held, store.len()) {
         return Err(Refusal::Record);
     }
-    let i = places::find_place(held, resource, kind).ok_or(Refusal::Unknown)?;
+    let i = places::find_place(held, name).ok_or(Refusal::Unknown)?;
     stands(held.places[i], store)
 }

@@ -20,7 +20,8 @@ use Rattle.code.proofs.Distance.{distance_self, coded_unique}
 use Rattle.code.proofs.Exact.{repair-coded}
 use Rattle.pack.specs.Pack.{packet_of}
 use Rattle.places.specs.declared.Place.{Place}
-use Rattle.places.specs.Places.{Name, settings_name, first_from, fresh_record, place_of, in_rows}
+use Rattle.places.specs.declared.Name.{Name}
+use Rattle.places.specs.Places.{settings_name, first_from, fresh_record, place_of, in_rows}
 use Rattle.contents.specs.Contents.{Slot as Content, holding, contents}
 use Rattle.opening.specs.Open.{Opening}
 use Rattle.opening.proofs.PlanLaws.{Taking}

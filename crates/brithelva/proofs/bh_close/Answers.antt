@@ -1,6 +1,5 @@
 -- Bytes that are no record are refused; else the record in them is closed and put back.
 use mathlib.Core.Path.{refl}
-use native.Mathlib.Omega.{arith}
 use Rattle.face.proofs.HoldLaws.{close_bad}
 use Rattle.face.proofs.PutBack.{close_put_back}
 use Rattle.brithelva.proofs.bh_close.Goals as goal

@@ -1,6 +1,5 @@
 -- Bytes that are no record are refused; else the record in them is opened and put back.
 use mathlib.Core.Path.{refl}
-use native.Mathlib.Omega.{arith}
 use Rattle.face.proofs.HoldLaws.{open_bad}
 use Rattle.face.proofs.PutBack.{open_put_back}
 use Rattle.brithelva.proofs.bh_open_as.Goals as goal

@@ -1,6 +1,5 @@
 -- The same under the house setting.
 use mathlib.Core.Path.{refl}
-use native.Mathlib.Omega.{arith}
 use Rattle.face.proofs.HoldLaws.{open_bad}
 use Rattle.face.proofs.PutBack.{open_put_back}
 use Rattle.brithelva.proofs.bh_open_house.Goals as goal

@@ -7,7 +7,7 @@ use borrow.Author.Rules.{rules}
 use lib.Dec.{eqb}
 use lib.ListN.{length, get_or}
 use Rattle.packet.specs.Packet.{read_by}
-use Rattle.places.specs.Places.{Name, unused, names, good, place_named}
+use Rattle.places.specs.Places.{unused, names, good, place_named}
 use Rattle.places.proofs.Steps.{mapped_length}
 use Rattle.places.proofs.Keeping.{good-at}
 use Rattle.places.proofs.Holders.{found-names}
@@ -29,15 +29,13 @@ returns-then-packet c =
 pub returns-in_default : goal.returns-in_default
 returns-in_default c =
     let well : good (length c.args.store.now) c.args.held.places ≡ true = sym c.is_good.ensures ∙ c.if-not-is_good.false in
-    let name : ◌≡◌ {A = Name} (record { resource = c.resource_in.result; kind = c.kind_in.result }) (name_in c.args.packet.now) = λ i. record { resource = c.resource_in.ensures i; kind = c.kind_in.ensures i } in
-    let found : place_named c.args.held.places (name_in c.args.packet.now) ≡ c.find_place.result = sym (c.find_place.ensures ∙ ap (place_named c.args.held.places) name) in
+    let found : place_named c.args.held.places (name_in c.args.packet.now) ≡ c.find_place.result = sym (c.find_place.ensures ∙ ap (place_named c.args.held.places) c.name_in.ensures) in
     let s = c.args in
     told (offer-nowhere s.held s.store.now s.packet.now well (found ∙ c.in_default.is) _ c.offer_nowhere.ensures)
 
 pub offset_bounds-held-i : goal.offset_bounds-held-i
 offset_bounds-held-i c =
-    let name : ◌≡◌ {A = Name} (record { resource = c.resource_in.result; kind = c.kind_in.result }) (name_in c.args.packet.now) = λ i. record { resource = c.resource_in.ensures i; kind = c.kind_in.ensures i } in
-    let found : place_named c.args.held.places (name_in c.args.packet.now) ≡ c.find_place.result = sym (c.find_place.ensures ∙ ap (place_named c.args.held.places) name) in
+    let found : place_named c.args.held.places (name_in c.args.packet.now) ≡ c.find_place.result = sym (c.find_place.ensures ∙ ap (place_named c.args.held.places) c.name_in.ensures) in
     let named : place_named c.args.held.places (name_in c.args.packet.now) ≡ Some c.in-Some.i = found ∙ c.in-Some.is in
     let eight : length c.args.held.places ≡ 8 = search (rules, mapped_length) in
     let below : c.in-Some.i < 8 = omega (arith, (found-names _ _ _ named).0, eight) in
@@ -45,8 +43,7 @@ offset_bounds-held-i c =
 
 pub bounds-held-i : goal.bounds-held-i
 bounds-held-i c =
-    let name : ◌≡◌ {A = Name} (record { resource = c.resource_in.result; kind = c.kind_in.result }) (name_in c.args.packet.now) = λ i. record { resource = c.resource_in.ensures i; kind = c.kind_in.ensures i } in
-    let found : place_named c.args.held.places (name_in c.args.packet.now) ≡ c.find_place.result = sym (c.find_place.ensures ∙ ap (place_named c.args.held.places) name) in
+    let found : place_named c.args.held.places (name_in c.args.packet.now) ≡ c.find_place.result = sym (c.find_place.ensures ∙ ap (place_named c.args.held.places) c.name_in.ensures) in
     let named : place_named c.args.held.places (name_in c.args.packet.now) ≡ Some c.in-Some.i = found ∙ c.in-Some.is in
     let eight : length c.args.held.places ≡ 8 = search (rules, mapped_length) in
     let below : c.in-Some.i < 8 = omega (arith, (found-names _ _ _ named).0, eight) in
@@ -55,8 +52,7 @@ bounds-held-i c =
 pub returns-in_default-reading : goal.returns-in_default-reading
 returns-in_default-reading c =
     let well : good (length c.args.store.now) c.args.held.places ≡ true = sym c.is_good.ensures ∙ c.if-not-is_good.false in
-    let name : ◌≡◌ {A = Name} (record { resource = c.resource_in.result; kind = c.kind_in.result }) (name_in c.args.packet.now) = λ i. record { resource = c.resource_in.ensures i; kind = c.kind_in.ensures i } in
-    let found : place_named c.args.held.places (name_in c.args.packet.now) ≡ c.find_place.result = sym (c.find_place.ensures ∙ ap (place_named c.args.held.places) name) in
+    let found : place_named c.args.held.places (name_in c.args.packet.now) ≡ c.find_place.result = sym (c.find_place.ensures ∙ ap (place_named c.args.held.places) c.name_in.ensures) in
     let named : place_named c.args.held.places (name_in c.args.packet.now) ≡ Some c.in-Some.i = found ∙ c.in-Some.is in
     let s = c.args in
     told (offer_unread_at s.held s.store.now s.packet.now well _ named _ (sym c.read_at-reading.ensures ∙ c.unwrap_err.ensures))
@@ -64,8 +60,7 @@ returns-in_default-reading c =
 pub offer_at-requires : goal.offer_at-requires
 offer_at-requires c =
     let well : good (length c.args.store.now) c.args.held.places ≡ true = sym c.is_good.ensures ∙ c.if-not-is_good.false in
-    let name : ◌≡◌ {A = Name} (record { resource = c.resource_in.result; kind = c.kind_in.result }) (name_in c.args.packet.now) = λ i. record { resource = c.resource_in.ensures i; kind = c.kind_in.ensures i } in
-    let found : place_named c.args.held.places (name_in c.args.packet.now) ≡ c.find_place.result = sym (c.find_place.ensures ∙ ap (place_named c.args.held.places) name) in
+    let found : place_named c.args.held.places (name_in c.args.packet.now) ≡ c.find_place.result = sym (c.find_place.ensures ∙ ap (place_named c.args.held.places) c.name_in.ensures) in
     let named : place_named c.args.held.places (name_in c.args.packet.now) ≡ Some c.in-Some.i = found ∙ c.in-Some.is in
     let read : read_by (not (eqb (get_or c.args.held.places c.in-Some.i unused).order 1)) c.args.packet.now ≡ Ok c.in-Ok.fields = sym c.read_at-reading.ensures ∙ c.in-Ok.is in
     let s = c.args in
@@ -79,8 +74,7 @@ offer_at-requires c =
 pub returns : goal.returns
 returns c =
     let well : good (length c.args.store.now) c.args.held.places ≡ true = sym c.is_good.ensures ∙ c.if-not-is_good.false in
-    let name : ◌≡◌ {A = Name} (record { resource = c.resource_in.result; kind = c.kind_in.result }) (name_in c.args.packet.now) = λ i. record { resource = c.resource_in.ensures i; kind = c.kind_in.ensures i } in
-    let found : place_named c.args.held.places (name_in c.args.packet.now) ≡ c.find_place.result = sym (c.find_place.ensures ∙ ap (place_named c.args.held.places) name) in
+    let found : place_named c.args.held.places (name_in c.args.packet.now) ≡ c.find_place.result = sym (c.find_place.ensures ∙ ap (place_named c.args.held.places) c.name_in.ensures) in
     let named : place_named c.args.held.places (name_in c.args.packet.now) ≡ Some c.in-Some.i = found ∙ c.in-Some.is in
     let read : read_by (not (eqb (get_or c.args.held.places c.in-Some.i unused).order 1)) c.args.packet.now ≡ Ok c.in-Ok.fields = sym c.read_at-reading.ensures ∙ c.in-Ok.is in
     let s = c.args in

@@ -1,14 +1,13 @@
 -- The tests are those of `close_of`; the place that was found is set to an unused one.
 use mathlib.Core.Path.{◌≡◌, sym, ap, ◌∙◌}
 use mathlib.Core.Bool.{true}
-use Prim.Native.Nat.{◌<◌}
 use native.Mathlib.Omega.{arith}
 use borrow.Author.Rules.{rules}
 use lib.ListN.{length}
-use Rattle.std.specs.Prelude.{Some, None, Err}
+use Rattle.std.specs.Prelude.{Some, None}
 use Rattle.std.proofs.lemmas.Result.{err_from_is_err_and}
 use Rattle.refusals.specs.declared.Refusal.TheVariants.{Unknown}
-use Rattle.places.specs.Places.{good, place_named}
+use Rattle.places.specs.Places.{good}
 use Rattle.places.proofs.Steps.{mapped_length}
 use Rattle.opening.specs.Open.{renewed}
 use Rattle.opening.proofs.CloseLaws.{close-record, close_unknown, close-found, close-below}

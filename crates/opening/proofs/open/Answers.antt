@@ -8,7 +8,7 @@ use Rattle.std.proofs.lemmas.Result.{err_from_is_err_and}
 use Rattle.places.specs.declared.Place.{Place}
 use Rattle.places.proofs.Steps.{mapped_length}
 use Rattle.opening.specs.Open.{take, plan_of}
-use Rattle.opening.proofs.PlanLaws.{Taking, taking, planned-refuse, planned-take, open_refused, open_taken}
+use Rattle.opening.proofs.PlanLaws.{taking, planned-refuse, planned-take, open_refused, open_taken}
 use Rattle.opening.proofs.OpenLaws.{open_below, open_room, open_start}
 use Rattle.opening.proofs.open.Goals as goal
 

@@ -2,7 +2,6 @@
 use mathlib.Core.Path.{◌≡◌, sym, ap, ◌∙◌}
 use mathlib.Core.Bool.{true}
 use Prim.Native.Nat.{ℕ}
-use native.Mathlib.Omega.{arith}
 use Rattle.settings.specs.Settings.{settings_fit}
 use Rattle.places.specs.Places.{count_fits, good, first_unused}
 use Rattle.opening.specs.Open.{with_unused}

@@ -1,42 +1,17 @@
--- `places::find_place` meets its contract: at every turn what is left of the places gives the same answer.
+-- `places::find_place` meets its contract: the first place that `holds` passes is the first that the definition finds.
 -- Assumes nothing.
-use mathlib.Core.Path.{◌≡◌, sym, ◌∙◌}
-use native.Mathlib.Omega.{arith}
-use borrow.Author.Rules.{rules}
-use lib.ListN.{length}
-use Rattle.places.proofs.Steps.{mapped_length, first_hit, first_miss, first_end}
+use mathlib.Core.Path.{◌∙◌}
+use Rattle.std.proofs.Common.{rules, tests}
+use Rattle.std.proofs.lemmas.Iterator.{YieldsList-from_slice}
+use Rattle.std.proofs.lemmas.Iterator.Search.{position_from_yields_List}
+use Rattle.std.proofs.lemmas.Iterator.Adapters.{position_from-zero}
+use Rattle.places.specs.declared.Place.{Place}
+use Rattle.places.specs.Places.{names}
+use Rattle.places.proofs.Searches.{position-first}
 use Rattle.places.proofs.find_place.Goals as goal
-
-pub offset_bounds-held-i : goal.offset_bounds-held-i
-offset_bounds-held-i c = omega arith
-
-pub bounds-held-i : goal.bounds-held-i
-bounds-held-i c = omega arith
-
-pub returns-then-holds : goal.returns-then-holds
-returns-then-holds c =
-    let eight : length c.args.held.places ≡ 8 = search (rules, mapped_length) in
-    let ps = c.args.held.places in
-    sym (first_hit _ ps c.loop-i.i (omega (arith, eight)) (sym c.holds.ensures ∙ c.if-holds.true))
-    ∙ c.loop-i.invariant.1
-
-pub overflow_add-i : goal.overflow_add-i
-overflow_add-i c = omega arith
-
-pub loop-i-smaller : goal.loop-i-smaller
-loop-i-smaller c = omega arith
-
-pub loop-i-preserved : goal.loop-i-preserved
-loop-i-preserved c =
-    let eight : length c.args.held.places ≡ 8 = search (rules, mapped_length) in
-    let ps = c.args.held.places in (
-      search rules,
-      sym (first_miss _ ps c.loop-i.i (omega (arith, eight)) (sym c.holds.ensures ∙ c.if-holds.false))
-          ∙ c.loop-i.invariant.1,
-    )
 
 pub returns : goal.returns
 returns c =
-    let eight : length c.args.held.places ≡ 8 = search (rules, mapped_length) in
-    sym (first_end _ c.args.held.places c.loop-i.i (omega (arith, eight)))
-    ∙ c.loop-i.invariant.1
+    let ps = c.args.held.places in
+    let told = position_from_yields_List (λ (p : Place). names p c.args.name) _ _ _ c.position.ensures.ran (YieldsList-from_slice ps cc) (λ x b q k. search (rules, tests)) in
+    told ∙ position_from-zero _ ps ∙ position-first _ ps 0

@@ -29,7 +29,7 @@ returns-in_default c =
 
 pub offset_bounds-held-i : goal.offset_bounds-held-i
 offset_bounds-held-i c =
-    let found : place_named c.args.held.places (record { resource = c.args.resource; kind = c.args.kind }) ≡ Some c.in-Some.i = sym c.find_place.ensures ∙ c.in-Some.is in
+    let found : place_named c.args.held.places c.args.name ≡ Some c.in-Some.i = sym c.find_place.ensures ∙ c.in-Some.is in
     let below : c.in-Some.i < 8 = let a = c.args in
     let eight : length a.held.places ≡ 8 = search (rules, mapped_length) in
     omega (arith, (found-names a.held.places _ c.in-Some.i found).0) in
@@ -37,7 +37,7 @@ offset_bounds-held-i c =
 
 pub bounds-held-i : goal.bounds-held-i
 bounds-held-i c =
-    let found : place_named c.args.held.places (record { resource = c.args.resource; kind = c.args.kind }) ≡ Some c.in-Some.i = sym c.find_place.ensures ∙ c.in-Some.is in
+    let found : place_named c.args.held.places c.args.name ≡ Some c.in-Some.i = sym c.find_place.ensures ∙ c.in-Some.is in
     let below : c.in-Some.i < 8 = let a = c.args in
     let eight : length a.held.places ≡ 8 = search (rules, mapped_length) in
     omega (arith, (found-names a.held.places _ c.in-Some.i found).0) in
@@ -49,5 +49,5 @@ shape_of-out c = omega arith
 pub returns : goal.returns
 returns c =
     let sound : good (length c.args.store.now) c.args.held.places ≡ true = sym c.is_good.ensures ∙ c.if-not-is_good.false in
-    let found : place_named c.args.held.places (record { resource = c.args.resource; kind = c.args.kind }) ≡ Some c.in-Some.i = sym c.find_place.ensures ∙ c.in-Some.is in
+    let found : place_named c.args.held.places c.args.name ≡ Some c.in-Some.i = sym c.find_place.ensures ∙ c.in-Some.is in
     comes_from (out-placed _ _ _ sound _ found _ _) c.hand_place.ensures

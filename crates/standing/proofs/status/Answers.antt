@@ -29,7 +29,7 @@ returns-in_err-i c =
 pub offset_bounds-held-i : goal.offset_bounds-held-i
 offset_bounds-held-i c =
     let at : c.find_place.result ≡ Some c.in_ok-i.i = grind arith in
-    let found : place_named c.args.held.places (record { resource = c.args.resource; kind = c.args.kind }) ≡ Some c.in_ok-i.i = sym c.find_place.ensures ∙ at in
+    let found : place_named c.args.held.places c.args.name ≡ Some c.in_ok-i.i = sym c.find_place.ensures ∙ at in
     let below : c.in_ok-i.i < 8 = let a = c.args in
     let eight : length a.held.places ≡ 8 = search (rules, mapped_length) in
     omega (arith, (found-names a.held.places _ c.in_ok-i.i found).0) in
@@ -38,7 +38,7 @@ offset_bounds-held-i c =
 pub bounds-held-i : goal.bounds-held-i
 bounds-held-i c =
     let at : c.find_place.result ≡ Some c.in_ok-i.i = grind arith in
-    let found : place_named c.args.held.places (record { resource = c.args.resource; kind = c.args.kind }) ≡ Some c.in_ok-i.i = sym c.find_place.ensures ∙ at in
+    let found : place_named c.args.held.places c.args.name ≡ Some c.in_ok-i.i = sym c.find_place.ensures ∙ at in
     let below : c.in_ok-i.i < 8 = let a = c.args in
     let eight : length a.held.places ≡ 8 = search (rules, mapped_length) in
     omega (arith, (found-names a.held.places _ c.in_ok-i.i found).0) in
@@ -48,12 +48,12 @@ pub stands-requires : goal.stands-requires
 stands-requires c =
     let sound : good (length c.args.store.now) c.args.held.places ≡ true = sym c.is_good.ensures ∙ c.if-not-is_good.false in
     let at : c.find_place.result ≡ Some c.in_ok-i.i = grind arith in
-    let found : place_named c.args.held.places (record { resource = c.args.resource; kind = c.args.kind }) ≡ Some c.in_ok-i.i = sym c.find_place.ensures ∙ at in
+    let found : place_named c.args.held.places c.args.name ≡ Some c.in_ok-i.i = sym c.find_place.ensures ∙ at in
     (named_facts _ _ sound _ _ found).ends-within
 
 pub returns : goal.returns
 returns c =
     let sound : good (length c.args.store.now) c.args.held.places ≡ true = sym c.is_good.ensures ∙ c.if-not-is_good.false in
     let at : c.find_place.result ≡ Some c.in_ok-i.i = grind arith in
-    let found : place_named c.args.held.places (record { resource = c.args.resource; kind = c.args.kind }) ≡ Some c.in_ok-i.i = sym c.find_place.ensures ∙ at in
+    let found : place_named c.args.held.places c.args.name ≡ Some c.in_ok-i.i = sym c.find_place.ensures ∙ at in
     c.stands.ensures ∙ status_found_lem _ _ _ sound _ found
