@@ -95,7 +95,13 @@ fn fill(file: &[u8], m: usize, from: usize, n: usize, out: &mut [u8])
 
 // Writes n bytes of the file's tables of m rows, sent column by column, from byte `from` on, to the start of `out`. Refused, and nothing written: 17 where m is not 1 to 255, the
 // file is above 16,777,216 bytes, n is above 4077, or the bytes lie beyond the file's tables; 26 where `out` has no room for them.
-pub fn put_columns(file: &[u8], m: usize, from: usize, n: usize, out: &mut [u8]) -> Result<(), Refusal>
+pub fn put_columns(
+    file: &[u8],
+    m: usize,
+    from: usize,
+    n: usize,
+    out: &mut [u8],
+) -> Result<(), Refusal>
     ensures { (result ≡ lay_verdict (length file.now) m from n (length out.old)) × (out.new ≡ lay_into file.now m from n out.old) }
 {
     if !serves(file.len(), m, from, n) {

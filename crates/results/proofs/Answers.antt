@@ -27,4 +27,3 @@ put_if_one κs a r s d e p q = (equation p.answers q.answers, after 2 (lent (equ
 
 pub with_value_one : OneResult (ended_of _ answers.with_value.Kinds.ps answers.with_value.Kinds.r) answers.with_value.Reads.Learnt
 with_value_one κs a r s d e p q = (equation p q, refl)
-

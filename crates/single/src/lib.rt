@@ -20,10 +20,7 @@ pub fn repair(row: [u8; 255]) -> Result<Corrected, Refusal>
 {
     let mut fixed = row;
     let count = repair::mend(&mut fixed)?;
-    Ok(Corrected {
-        row: fixed,
-        count,
-    })
+    Ok(Corrected { row: fixed, count })
 }
 
 // The same, of a row that lies in a slice; another length than 255 is refused.
