@@ -10,7 +10,6 @@ ghost use Rattle.columns.specs.InnerJudge.{Tabled, Shaped, beyond_in, hand_judge
 ghost use Rattle.weighing.specs.Inner.{fault_of};
 ghost use Rattle.layout.specs.Spread.{Columns};
 
-use crate::lengths;
 use errata::Errata;
 use places::Place;
 use refusals::Refusal;
@@ -23,27 +22,12 @@ enum Fault {
     Padding,
 }
 
-// How many information bytes of row `q` stand in a file of `n` bytes.
-fn columns_within(m: usize, q: usize, n: usize) -> usize
-    requires { (0 < m) × (m ≤ 255) × (q * 255 < 2 ^ 63) }
-    ensures { Columns m n (row_start m q) result }
-{
-    let start = q / m * (239 * m) + q % m;
-    if start + 238 * m < n {
-        return 239;
-    }
-    if n <= start {
-        return 0;
-    }
-    (n - start - 1) / m + 1
-}
-
 // Whether row `q`, once it is restored, holds 0 wherever it reaches beyond a file of `n` bytes. Few rows do.
 fn row_ends(row: [u8; 255], e: &Errata, m: usize, q: usize, n: usize) -> bool
     requires { (0 < m) × (m ≤ 255) × (q * 255 < 2 ^ 63) }
     ensures { result ≡ all_zero (beyond_in m n q (mended_by row (entries e.now.at) (entries e.now.values) e.now.n)) }
 {
-    let k = columns_within(m, q, n);
+    let k = layout::columns_within(m, layout::row_start(m, q), n);
     if k == 239 {
         return true;
     }
@@ -77,7 +61,7 @@ pub(crate) fn judge(p: Place, store: &[u8], n: usize) -> Result<(), Refusal>
     ensures { result ≡ weighed_of p store.now n }
 {
     let mut answer = Ok(());
-    for q in 0..lengths::rows_of(p.rows, n) {
+    for q in 0..layout::rows_of(p.rows, n) as u32 {
         match fault_of(p, store, n, q) {
             Some(Fault::Lost) => return Err(Refusal::Lost(q)),
             Some(Fault::Uncoded) => answer = Err(Refusal::Code),

@@ -13,11 +13,11 @@ pub returns-in-Some-Lost : goal.returns-in-Some-Lost
 returns-in-Some-Lost c =
     let g = c.requires in
     weighed_lost _ _ _ g.1 g.0.serving.place.rows _
-    (judging_lost _ _ _ _ _ _ _ c.loop-q.invariant (omega (arith, c.rows_of-q-end.ensures.0)) (ap Some (sym c.in-Some-Lost.field-0-is) ∙ sym c.in-Some-Lost.is ∙ c.fault_of.ensures))
+    (judging_lost _ _ _ _ _ _ _ c.loop-q.invariant (omega (arith, c.rows_of-q-end.ensures)) (ap Some (sym c.in-Some-Lost.field-0-is) ∙ sym c.in-Some-Lost.is ∙ c.fault_of.ensures))
 
 pub loop-q-preserved : goal.loop-q-preserved
 loop-q-preserved c =
-    let below : c.loop-q.q < c.args.p.rows * tables_of c.args.p.rows c.args.n = omega (arith, c.rows_of-q-end.ensures.0) in
+    let below : c.loop-q.q < c.args.p.rows * tables_of c.args.p.rows c.args.n = omega (arith, c.rows_of-q-end.ensures) in
     let at = c.loop-q.invariant in
     elim c.match-fault_of.branch [
       | in-Some-Uncoded w ↦
@@ -31,4 +31,4 @@ loop-q-preserved c =
 pub returns : goal.returns
 returns c =
     let g = c.requires in
-    weighed_end _ _ _ g.1 g.0.serving.place.rows _ _ c.loop-q.invariant (omega (arith, c.rows_of-q-end.ensures.0))
+    weighed_end _ _ _ g.1 g.0.serving.place.rows _ _ c.loop-q.invariant (omega (arith, c.rows_of-q-end.ensures))
