@@ -2,7 +2,7 @@
 -- Assumes nothing.
 use mathlib.Core.Path.{◌≡◌, sym, ap, ◌∙◌}
 use Prim.Native.Nat.{ℕ, suc, ◌+◌, ◌-◌, ◌*◌, ◌/◌, ◌%◌, ◌^◌, ◌<◌, ◌≤◌}
-use native.Mathlib.Nat.{suc-mul, mul_assoc, mul_comm, mul-le-mul_right, mod-lt, mod-add-mod, div-add-mod'}
+use native.Mathlib.Nat.{suc-mul, mul_assoc, mul_comm, mul-le-mul_right, mod-lt, mod-add-mod, div-add-mod', le-div_iff_mul-le}
 use Rattle.std.specs.Prelude.{min}
 use native.Mathlib.Omega.{arith}
 use Rattle.layout.specs.Spread.{row_start, columns_within, Columns}
@@ -23,6 +23,13 @@ pub start_told : (m q r : ℕ) → q * 255 < 2 ^ 63 → r ≡ row_start m q % 2 
 start_told m q r b e = omega (arith, start_by m q, e)
 
 -- ---- which bytes of a row stand in the file
+
+pub columns_full : (m p n : ℕ) → 0 < m → m ≤ (n - p) / 239 → 239 ≡ columns_within m p n
+columns_full m p n h l =
+    let x : ℕ = n - p + (m - 1) in
+    let b : 239 * m ≤ x = omega arith in
+    let d : 239 ≤ x / m = (le-div_iff_mul-le {k = m} {x = 239} {y = x} h).1 b in
+    omega arith
 
 pub columns_told : (m p n k : ℕ) → 0 < m → k ≡ columns_within m p n → Columns m n p k
 columns_told m p n k h e =

