@@ -4,7 +4,6 @@ pub mod Recovered
 pub mod Lowest
 pub mod Gone
 pub mod ZeroLaws
-pub mod SpanLaws
 pub mod RowLaws
 pub mod LengthLaws
 pub mod PaddingLaws

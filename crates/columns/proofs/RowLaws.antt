@@ -19,13 +19,11 @@ use Rattle.errata.specs.Restoring.{falling_to, among, filling_of}
 use Rattle.errata.specs.InnerErrata.{entries, mended_by}
 use Rattle.errata.proofs.Filled.{filling_found, filling_none}
 use Rattle.places.specs.declared.Place.{Place}
-use Rattle.contents.specs.Contents.{Slot as Content, contents}
+use Rattle.contents.specs.Contents.{contents}
 use Rattle.losses.specs.declared.Came.{Came}
 use Rattle.losses.specs.Losses.{came_at, sent_at, row_came, lost_in, lost_places, tabled, came_of}
 use Rattle.losses.proofs.Tabling.{came_row, came_lost, came_places}
-use Rattle.columns.specs.Handing.{all_zero}
-use Rattle.columns.specs.Columns.{lacks, row_restored, uncoded}
-use Rattle.columns.specs.InnerJudge.{beyond_in, spoilt, fault_of}
+use Rattle.columns.specs.Columns.{lacks, row_restored}
 use Rattle.columns.proofs.Gone.{length-places, places_fall, among-lost}
 
 -- ---- what came
@@ -88,24 +86,3 @@ module _ (p : Place) (s : List ℕ) (fits : tabled p (length s) ≡ true) (q : �
       pub row-none : None ≡ filling_of (remainder 239 c.row) c.at c.lost → row_restored p.rows p.slot (contents p s) q ≡ none
       row-none unfilled =
           sym restored_by ∙ filling_none (remainder 239 c.row) c.at c.lost rest_long rest_bytes room falling c.row row-long bytes refl unfilled
-
--- ---- what is wrong with it
-
-module _ (m size : ℕ) (c : List Content) (n q : ℕ) where
-  pub fault_lacks : lacks m size c q ≡ true → 1 ≡ fault_of m size c n q
-  unfolding fault_of
-  fault_lacks l = rw l refl
-
-  module _ (l : lacks m size c q ≡ false) where
-    pub fault_uncoded : row_restored m size c q ≡ none → 2 ≡ fault_of m size c n q
-    unfolding fault_of uncoded
-    fault_uncoded e = rw (l, e) refl
-
-    module _ (row : List ℕ) (e : row_restored m size c q ≡ found row) where
-      pub fault_spoilt : all_zero (beyond_in m n q row) ≡ false → 3 ≡ fault_of m size c n q
-      unfolding fault_of uncoded spoilt
-      fault_spoilt z = rw (l, e, z) refl
-
-      pub fault_none : all_zero (beyond_in m n q row) ≡ true → 0 ≡ fault_of m size c n q
-      unfolding fault_of uncoded spoilt
-      fault_none z = rw (l, e, z) refl

@@ -10,7 +10,7 @@ use Rattle.places.specs.Room.{lowest_from}
 use Rattle.contents.specs.Contents.{Slot as Content, contents, any_wrong}
 use Rattle.losses.specs.Losses.{tabled}
 use Rattle.columns.specs.Handing.{Handing, all_zero}
-use Rattle.columns.specs.Columns.{sent_length, length_serves, misfits, lacks, uncoded, row_restored, row_in, hand_full}
+use Rattle.columns.specs.Columns.{sent_length, length_serves, misfits, lacks, row_restored, row_in, hand_full}
 use Rattle.std.specs.Prelude.{Option}
 use Rattle.std.specs.Prelude.{Some, None}
 
@@ -49,10 +49,6 @@ beyond_in m n q row = listed (λ k. cond (ltb (row_start m q + k * m) n) 0 (get_
 -- row q, restored, holds another byte than 0 there
 unfoldable pub spoilt : ℕ → ℕ → List Content → ℕ → ℕ → Bool
 spoilt m size c n q = not (all_zero (beyond_in m n q (row_in (row_restored m size c q))))
-
--- what is wrong with row q: 1 where it lacks more than sixteen bytes, 2 where it fits no coded row, 3 where its padding is not 0; 0 where nothing is
-unfoldable pub fault_of : ℕ → ℕ → List Content → ℕ → ℕ → ℕ
-fault_of m size c n q = cond (lacks m size c q) 1 (cond (uncoded m size c q) 2 (cond (spoilt m size c n q) 3 0))
 
 -- Hand out where no length is wrong
 unfoldable pub hand_judged : Place → List ℕ → ℕ → List ℕ → Handing

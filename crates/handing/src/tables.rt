@@ -17,31 +17,6 @@ pub(crate) fn needs_tables(n: usize, m: usize, count: usize) -> bool
     n <= room && room - n < size
 }
 
-// Where a row begins in the file, and how many of its information bytes stand there.
-#[derive(Clone, Copy)]
-struct Span {
-    start: usize,
-    count: usize,
-}
-
-// Row `q` in a file of `n` bytes, the rows of all tables counted through.
-fn row_span(m: usize, q: usize, n: usize) -> Span
-    requires { (0 < m) × (m ≤ 255) × (q * 255 < 2 ^ 63) }
-    ensures { (result.start ≡ row_start m q) × Columns m n result.start result.count }
-{
-    let start = q / m * (239 * m) + q % m;
-    if start + 238 * m < n {
-        return Span { start, count: 239 };
-    }
-    if n <= start {
-        return Span { start, count: 0 };
-    }
-    Span {
-        start,
-        count: (n - start - 1) / m + 1,
-    }
-}
-
 // Writes the first `k` information bytes of the row at `at` to `p`, `p + m` and so on.
 fn scatter_row(store: &[u8], at: usize, k: usize, m: usize, p: usize, out: &mut [u8])
     requires { (at + 239 ≤ length store.now) × (m ≤ 255) × (k ≤ 239) × ((c : ℕ) → c < k → p + c * m < length out.old) }
@@ -69,9 +44,8 @@ pub(crate) fn scatter_rows(
     ensures { Scatters m n store.now at count q out.old out.new }
 {
     for j in 0..count {
-        let row = row_span(m, q + j, n);
-        let k = row.count;
-        let p = row.start;
+        let p = layout::row_start(m, q + j);
+        let k = layout::columns_within(m, p, n);
         scatter_row(store, at + j * 255, k, m, p, out);
     }
 }
@@ -82,7 +56,7 @@ pub(crate) fn rows_end(store: &[u8], at: usize, count: usize, m: usize, q: usize
     ensures { Padding m n store.now at count q result }
 {
     for j in 0..count {
-        let k = row_span(m, q + j, n).count;
+        let k = layout::columns_within(m, layout::row_start(m, q + j), n);
         let a = at + j * 255;
         if !store[a + k..a + 239].iter().all(|b| *b == 0) {
             return false;

@@ -18,7 +18,7 @@ fn serves(len: usize, m: usize, from: usize, n: usize) -> bool
     if m == 0 || 255 < m || 16777216 < len || 4077 < n {
         return false;
     }
-    let all = 255 * m * words::over(len, 239 * m);
+    let all = 255 * layout::rows_of(m as u8, len);
     from <= all && n <= all - from
 }
 

@@ -2,54 +2,52 @@
 -- Assumes nothing.
 use mathlib.Core.Path.{◌≡◌, sym, ap, ◌∙◌}
 use Prim.Native.Nat.{ℕ, suc, ◌+◌, ◌-◌, ◌*◌, ◌/◌, ◌%◌, ◌^◌, ◌<◌, ◌≤◌}
-use native.Mathlib.Nat.{suc-mul, mul_assoc, mul_comm, mul-le-mul_right, mod-lt, div-add-mod', div-lt_iff_lt-mul}
+use native.Mathlib.Nat.{suc-mul, mul_assoc, mul_comm, mul-le-mul_right, mod-lt, mod-add-mod, div-add-mod', le-div_iff_mul-le}
+use Rattle.std.specs.Prelude.{min}
 use native.Mathlib.Omega.{arith}
-use Rattle.layout.specs.Spread.{row_start, Columns}
+use Rattle.layout.specs.Spread.{row_start, columns_within, Columns}
 
 -- ---- where a row begins
 
-pub start_is : (m q : ℕ) → q / m * (239 * m) + q % m ≡ row_start m q
-start_is m q = omega arith
-
-pub start_most : (m q : ℕ) → q / m * (239 * m) ≤ q * 239
-start_most m q =
+start_by : (m q : ℕ) → (q - q % m) * 239 + q % m ≡ row_start m q
+start_by m q =
     let e : q / m * (239 * m) ≡ q / m * m * 239 = ap (λ (x : ℕ). q / m * x) (mul_comm 239 m) ∙ sym (mul_assoc (q / m) m 239) in
-    omega (arith, div-add-mod' q m)
+    omega (arith, e, div-add-mod' q m)
 
--- all its bytes stand below this
-pub start_below : (m q : ℕ) → 0 < m → m ≤ 255 → q * 255 < 2 ^ 63 → q / m * (239 * m) + q % m + 238 * m < 2 ^ 64
-start_below m q h l b = omega (arith, start_most m q, mod-lt q h)
+-- modulo w
+pub start_modulo : (m q w : ℕ) → ((q - q % m) * 239 % w + q % m) % w ≡ row_start m q % w
+start_modulo m q w = mod-add-mod ((q - q % m) * 239) w (q % m) ∙ ap (λ (x : ℕ). x % w) (start_by m q)
+
+-- of a row that is counted in a word
+pub start_told : (m q r : ℕ) → q * 255 < 2 ^ 63 → r ≡ row_start m q % 2 ^ 64 → r ≡ row_start m q
+start_told m q r b e = omega (arith, start_by m q, e)
 
 -- ---- which bytes of a row stand in the file
 
-module _ (m p n : ℕ) where
-  pub columns_all : p + 238 * m < n → Columns m n p 239
-  columns_all h = record {
-    within = omega arith;
-    inside = λ c l.
-        let c' : c ≤ 238 = omega arith in
-        omega (arith, mul-le-mul_right m c');
-    outside = λ c a b. omega arith;
-  }
+pub columns_full : (m p n : ℕ) → 0 < m → m ≤ (n - p) / 239 → 239 ≡ columns_within m p n
+columns_full m p n h l =
+    let x : ℕ = n - p + (m - 1) in
+    let b : 239 * m ≤ x = omega arith in
+    let d : 239 ≤ x / m = (le-div_iff_mul-le {k = m} {x = 239} {y = x} h).1 b in
+    omega arith
 
-  pub columns_none : n ≤ p → Columns m n p 0
-  columns_none h = record { within = omega arith; inside = λ c l. omega arith; outside = λ c a b. omega arith }
+pub columns_told : (m p n k : ℕ) → 0 < m → k ≡ columns_within m p n → Columns m n p k
+columns_told m p n k h e =
+    let x : ℕ = n - p + (m - 1) in
+    let d : ℕ = x / m in
+    let k' : k ≡ min d 239 = e in
+    let f : d * m + x % m ≡ x = div-add-mod' x m in
+    let r : x % m < m = mod-lt x h in
+    record {
+      within = omega arith;
+      inside = λ c l.
+          let c' : suc c ≤ d = omega arith in
+          omega (arith, mul-le-mul_right m c', suc-mul c m);
+      outside = λ c a b.
+          let c' : d ≤ c = omega arith in
+          omega (arith, mul-le-mul_right m c');
+    }
 
-  module _ (h : 0 < m) (a : n ≤ p + 238 * m) (b : p < n) where
-    pub columns_few : (n - p - 1) / m < 238
-    columns_few = (div-lt_iff_lt-mul {k = m} {x = n - p - 1} {y = 238} h).1 (omega arith)
-
-    pub columns_some : Columns m n p ((n - p - 1) / m + 1)
-    columns_some =
-        let q : ℕ = (n - p - 1) / m in
-        let e : q * m + (n - p - 1) % m ≡ n - p - 1 = div-add-mod' (n - p - 1) m in
-        let r : (n - p - 1) % m < m = mod-lt (n - p - 1) h in
-        record {
-          within = omega (arith, columns_few);
-          inside = λ c l.
-              let c' : c ≤ q = omega arith in
-              omega (arith, mul-le-mul_right m c');
-          outside = λ c k l.
-              let c' : suc q ≤ c = omega arith in
-              omega (arith, mul-le-mul_right m c', suc-mul q m);
-        }
+-- of a row that is counted in a word, from where it begins as the code reckons it
+pub row_told : (m q n r k : ℕ) → 0 < m → q * 255 < 2 ^ 63 → r ≡ row_start m q % 2 ^ 64 → k ≡ columns_within m r n → Columns m n (row_start m q) k
+row_told m q n r k h b e f = columns_told m (row_start m q) n k h (f ∙ ap (λ (x : ℕ). columns_within m x n) (start_told m q r b e))

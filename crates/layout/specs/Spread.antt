@@ -1,6 +1,7 @@
 -- Rows that come one after the other, written to where their bytes stand in the file: vocabulary for the contracts of private functions of the layers above.
 -- Nobody needs to believe it: `scattered-all` (proofs/Scatter.antt) says that it gives the tables undone. Assumes nothing.
-use Rattle.std.specs.Prelude.{cond, List, [], ◌∷◌, ℕ, zero, suc, ◌+◌, ◌*◌, ◌/◌, ◌%◌, ◌<◌, ◌≤◌, ltb, set}
+use Rattle.std.specs.Prelude.{cond, List, [], ◌∷◌, ℕ, zero, suc, ◌+◌, ◌-◌, ◌*◌, ◌/◌, ◌%◌, ◌<◌, ◌≤◌, min, ltb, set}
+use Rattle.ground.specs.Lists.{ceil}
 use Rattle.layout.specs.Layout.{file_byte_at}
 
 -- x at p, if that is below n
@@ -15,6 +16,10 @@ spread m n (x ∷ xs) p out = spread m n xs (p + m) (set_below n out p x)
 -- where row q, the rows of all tables counted through, begins in the file
 abbrev pub row_start : ℕ → ℕ → ℕ
 row_start m q = file_byte_at m (record { table = q / m; row = q % m; column = 0 })
+
+-- how many of the 239 bytes at p, p + m .. stand below n
+abbrev pub columns_within : ℕ → ℕ → ℕ → ℕ
+columns_within m p n = min (ceil (n - p) m) 239
 
 -- the information bytes of the rows below k
 abbrev pub scattered : ℕ → ℕ → (ℕ → List ℕ) → ℕ → List ℕ → List ℕ

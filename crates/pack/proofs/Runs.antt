@@ -2,7 +2,7 @@
 -- Assumes nothing.
 use mathlib.Core.Path.{◌≡◌, sym, ap, ◌∙◌}
 use mathlib.Core.List.{List, ◌++◌, flatten}
-use Prim.Native.Nat.{ℕ, ◌+◌, ◌-◌, ◌*◌, ◌/◌, ◌%◌, ◌<◌, ◌≤◌}
+use Prim.Native.Nat.{ℕ, ◌+◌, ◌-◌, ◌*◌, ◌/◌, ◌%◌, ◌^◌, ◌<◌, ◌≤◌}
 use native.Mathlib.Nat.{add-zero, mul_assoc, mul_comm, add-mul, mul-pos, zero-lt-suc, mod-lt, div-lt_iff_lt-mul}
 use native.Mathlib.Omega.{arith}
 use borrow.Rule.Slice.PartMut.{put_mid}
@@ -14,6 +14,7 @@ use Rattle.encoding.specs.Encode.{coded_row}
 use Rattle.filling.specs.Put.{info_from, rows_from, put_verdict, put_rows}
 use Rattle.filling.proofs.Serving.{serves_where, put_accepted, put-done}
 use Rattle.layout.specs.Layout.{tables_of, row_of, coded_file}
+use Rattle.layout.specs.Spread.{row_start}
 use Rattle.layout.proofs.Coded.{info_from_lem, length-coded, row-behind, coded_rows_lem}
 use Rattle.pack.specs.Inner.{coded_rows, RunFits}
 use Rattle.laying.proofs.Starts.{tables_few, start_below}
@@ -90,13 +91,14 @@ module _ (file : List ℕ) (m q n room at : ℕ) (fits : RunFits file m q n room
         put_accepted (length file) m (q / m * (239 * m) + q % m) k o
         (serves_where (length file) m (q / m * (239 * m) + q % m) k fits.rows fits.rows-most (omega (arith, fits.few)) run_start fits.len) h
 
-    -- written in the part of the output that is lent, from byte `at` on
-    pub run-written : (out x : List ℕ) → length out ≡ room → x ≡ put_rows file m (q / m * (239 * m) + q % m) k (take (length out - at) (drop at out))
+    -- written in the part of the output that is lent, from byte `at` on, as the code reckons where the run begins
+    pub run-written : (out x : List ℕ) (b : ℕ) → b ≡ row_start m q % 2 ^ 64 → length out ≡ room → x ≡ put_rows file m b k (take (length out - at) (drop at out))
         → put_mid at (length out - at) out x ≡ sets out at (coded_rows file m q k)
-    run-written out x e w =
+    run-written out x b f e w =
         let part : List ℕ = take (length out - at) (drop at out) in
         let r : at + n * 255 ≤ room = fits.enough in
+        let s : b ≡ q / m * (239 * m) + q % m = omega (arith, f, run_start) in
         let d : length part ≡ length out - at = length-take (length out - at) (drop at out) ∙ omega (arith, length-drop at out) in
         ap (put_mid at (length out - at) out)
-        (w ∙ sym (put-done file m (q / m * (239 * m) + q % m) k part (run_accepted (length part) (omega arith)) (omega arith)) ∙ ap (sets part 0) run-rows)
+        (w ∙ ap (λ (i : ℕ). put_rows file m i k part) s ∙ sym (put-done file m (q / m * (239 * m) + q % m) k part (run_accepted (length part) (omega arith)) (omega arith)) ∙ ap (sets part 0) run-rows)
         ∙ lent-sets at (coded_rows file m q k) out 0 (omega arith) ∙ ap (λ (i : ℕ). sets out i (coded_rows file m q k)) (add-zero at)

@@ -1,10 +1,8 @@
 -- What packing tells: document 01, sections 4 and 6.
 -- Assumes nothing.
-use Rattle.std.specs.Prelude.{[], ◌∷◌}
 use Rattle.refusals.specs.Told.{Told, length_told}
 use Rattle.refusals.specs.declared.Refusal.{Refusal}
 use Rattle.std.specs.Prelude.{Result}
-use Rattle.std.specs.Prelude.{Ok, Err}
 use Rattle.std.specs.Prelude.{ℕ}
 
 -- the length of the packet that was written, or the refusal

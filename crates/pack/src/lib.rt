@@ -22,8 +22,7 @@ fn coded_length(settings: Settings, len: usize) -> usize
     if settings.protection == 0 {
         return len;
     }
-    let rows = settings.rows as usize;
-    255 * rows * words::over(len, 239 * rows)
+    255 * layout::rows_of(settings.rows, len)
 }
 
 // The first of the refusals 17, 23, 25, 6; or the count of packets of a file of `len` bytes, and the length of the payload of packet `number`.
@@ -79,7 +78,7 @@ fn put_run(file: &[u8], m: usize, q: usize, left: usize, out: &mut [u8], at: usi
     ensures { (0 < result) × (result ≤ left) × (out.new ≡ sets out.old at (coded_rows file.now m q result)) }
 {
     let n = left.min(m - q % m);
-    let _ = filling::put_rows(file, m, q / m * (239 * m) + q % m, n, &mut out[at..]);
+    let _ = filling::put_rows(file, m, layout::row_start(m, q), n, &mut out[at..]);
     n
 }
 

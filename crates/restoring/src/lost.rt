@@ -81,7 +81,7 @@ fn restore_row(p: Place, store: &[u8], q: u32, n: usize, out: &mut [u8])
     let row = came.row;
     let values = lost_values(row, at, lost);
     let m = p.rows as usize;
-    let base = q as usize / m * (239 * m) + q as usize % m;
+    let base = layout::row_start(m, q as usize);
     put_lost(at, values, lost, m, base, n, out);
 }
 
@@ -90,9 +90,7 @@ pub(crate) fn restore_rows(p: Place, store: &[u8], n: usize, out: &mut [u8])
     requires { Writable p store.now n × (n ≤ length out.old) }
     ensures { Nearer (aim_of p store.now) n (LostBelow p store.now (p.rows * tables_of p.rows n)) out.old out.new }
 {
-    let m = p.rows as usize;
-    let rows = (m * words::over(n, 239 * m)) as u32;
-    for q in 0..rows {
+    for q in 0..layout::rows_of(p.rows, n) as u32 {
         restore_row(p, store, q, n, out);
     }
 }

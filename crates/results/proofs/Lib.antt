@@ -8,6 +8,7 @@ pub mod Crc
 pub mod Checksum
 pub mod Roots
 pub mod Encoding
+pub mod Layout
 pub mod Filling
 pub mod Laying
 pub mod Terms

@@ -2,70 +2,72 @@
 -- Assumes nothing.
 use mathlib.Core.Path.{◌≡◌, refl, sym, ap, ◌∙◌}
 use mathlib.Core.Bool.{Bool, true, false, cond, not, ◌&&◌}
-use mathlib.Core.List.{List, []}
+use mathlib.Core.List.{List}
 use Prim.Native.Nat.{ℕ, ◌+◌, ◌<◌, ◌≤◌}
-use native.Mathlib.Omega.{arith}
-use lib.Dec.{eqb}
-use Rattle.ground.proofs.Truth.{differ, not_no}
-use Rattle.code.specs.Search.{Repaired}
+use Rattle.std.specs.Prelude.{Option, Some, None, Result, Ok, Err}
+use Rattle.std.specs.Result.{result_and}
+use Rattle.refusals.specs.declared.Refusal.{Refusal}
+use Rattle.refusals.specs.declared.Refusal.TheVariants.{Code, Padding}
 use Rattle.code.specs.Search.Repaired.{found, none}
 use Rattle.places.specs.Room.{lowest_from}
 use Rattle.contents.specs.Contents.{Slot as Content}
-use Rattle.standing.specs.Survey.{before}
 use Rattle.columns.specs.Handing.{all_zero}
-use Rattle.columns.specs.Columns.{lacks, row_restored, is_none, uncoded, row_in}
-use Rattle.columns.specs.InnerJudge.{is_nothing, beyond_in, spoilt, fault_of}
+use Rattle.columns.specs.Columns.{lacks, row_restored, uncoded}
+use Rattle.columns.specs.InnerJudge.{is_nothing, beyond_in, spoilt}
 use Rattle.columns.proofs.Lowest.{lowest_left, left-first, left_end, left_here, left-next, none-next}
-use Rattle.columns.proofs.ZeroLaws.{each_beyond}
-use Rattle.weighing.specs.Inner.{Judges}
-use Rattle.std.specs.Prelude.{Option}
+use Rattle.weighing.specs.declared.judge.Fault.{Fault}
+use Rattle.weighing.specs.declared.judge.Fault.TheVariants.{Lost, Uncoded, Padding as Unclear}
+use Rattle.weighing.specs.Inner.{fault_of}
 
 -- ---- one row
 
 module _ (m size : ℕ) (c : List Content) (n q : ℕ) where
-  -- a row that fits no coded row has no padding
-  uncoded-clear : uncoded m size c q ≡ true → spoilt m size c n q ≡ false
-  unfolding uncoded spoilt
-  uncoded-clear = by (row_restored m size c q)
+  pub fault_lacks : lacks m size c q ≡ true → Some Lost ≡ fault_of m size c n q
+  unfolding fault_of
+  fault_lacks l = rw l refl
+
+  module _ (l : lacks m size c q ≡ false) where
+    pub fault_uncoded : row_restored m size c q ≡ none → Some Uncoded ≡ fault_of m size c n q
+    unfolding fault_of uncoded
+    fault_uncoded e = rw (l, e) refl
+
+    module _ (row : List ℕ) (e : row_restored m size c q ≡ found row) where
+      pub fault_spoilt : all_zero (beyond_in m n q row) ≡ false → Some Unclear ≡ fault_of m size c n q
+      unfolding fault_of uncoded spoilt
+      fault_spoilt z = rw (l, e, z) refl
+
+      pub fault_none : all_zero (beyond_in m n q row) ≡ true → None ≡ fault_of m size c n q
+      unfolding fault_of uncoded spoilt
+      fault_none z = rw (l, e, z) refl
+
+  -- what a fault says of the row
+  abbrev Says : Option Fault → Type 0
+  Says (Some Lost) = lacks m size c q ≡ true
+  Says (Some Uncoded) = (lacks m size c q ≡ false) × (uncoded m size c q ≡ true)
+  Says (Some Unclear) = (lacks m size c q ≡ false) × (uncoded m size c q ≡ false) × (spoilt m size c n q ≡ true)
+  Says None = (lacks m size c q ≡ false) × (uncoded m size c q ≡ false) × (spoilt m size c n q ≡ false)
+
+  says : (f : Option Fault) → f ≡ fault_of m size c n q → Says f
+  unfolding fault_of
+  says f e = rw e (by (lacks m size c q) (uncoded m size c q) (spoilt m size c n q) refl refl refl)
     where
-      by : (r : Repaired) → is_none r ≡ true → not (all_zero (beyond_in m n q (row_in r))) ≡ false
-      by (found s) e = differ (sym e)
-      by none e = not_no (each_beyond m n q [] (λ k h l. refl))
-
-  module _ (r : ℕ) (told : r ≡ fault_of m size c n q) where
-    pub fault_first : r ≡ 1 → lacks m size c q ≡ true
-    unfolding fault_of
-    fault_first one = by (lacks m size c q) (uncoded m size c q) (spoilt m size c n q) (sym one ∙ told)
-      where
-        by : (a b d : Bool) → ◌≡◌ {A = ℕ} 1 (cond a 1 (cond b 2 (cond d 3 0))) → a ≡ true
-        by true b d e = refl
-        by false true d e = absurd (omega arith)
-        by false false true e = absurd (omega arith)
-        by false false false e = absurd (omega arith)
-
-    -- what is said of another row
-    pub record Other : Type 0 where
-      pub full : lacks m size c q ≡ false
-      pub codes : not (eqb r 2) ≡ not (uncoded m size c q)
-      pub clears : not (eqb r 3) ≡ not (spoilt m size c n q)
-
-    pub fault_other : (r ≡ 1 → ⊥) → Other
-    unfolding fault_of
-    fault_other h = by (lacks m size c q) (uncoded m size c q) (spoilt m size c n q) refl refl refl told
-      where
-        by : (a b d : Bool) → lacks m size c q ≡ a → uncoded m size c q ≡ b → spoilt m size c n q ≡ d → r ≡ cond a 1 (cond b 2 (cond d 3 0)) → Other
-        by true b d x y z e = absurd (h e)
-        by false true true x y z e = differ (sym z ∙ uncoded-clear y)
-        by false true false x y z e =
-            record { full = x; codes = ap (λ (k : ℕ). not (eqb k 2)) e ∙ sym (ap not y); clears = ap (λ (k : ℕ). not (eqb k 3)) e ∙ sym (ap not z) }
-        by false false true x y z e =
-            record { full = x; codes = ap (λ (k : ℕ). not (eqb k 2)) e ∙ sym (ap not y); clears = ap (λ (k : ℕ). not (eqb k 3)) e ∙ sym (ap not z) }
-        by false false false x y z e =
-            record { full = x; codes = ap (λ (k : ℕ). not (eqb k 2)) e ∙ sym (ap not y); clears = ap (λ (k : ℕ). not (eqb k 3)) e ∙ sym (ap not z) }
+      by : (a b d : Bool) → lacks m size c q ≡ a → uncoded m size c q ≡ b → spoilt m size c n q ≡ d
+          → Says (cond a (Some Lost) (cond b (Some Uncoded) (cond d (Some Unclear) None)))
+      by true b d x y z = x
+      by false true d x y z = (x, y)
+      by false false true x y z = (x, y, z)
+      by false false false x y z = (x, y, z)
 
 -- ---- the pass, at row q: no row before it lacks more than sixteen bytes
 
-pub record Judging (m size : ℕ) (c : List Content) (n rows : ℕ) (coded clear : Bool) (q : ℕ) : Type 0 where
+-- what is answered where no row does
+abbrev pub verdict : Bool → Bool → Result (Unit {0}) Refusal
+verdict coded clear = cond coded (cond clear (Ok tt) (Err Padding)) (Err Code)
+
+pub record Judging (m size : ℕ) (c : List Content) (n rows : ℕ) (answer : Result (Unit {0}) Refusal) (q : ℕ) : Type 0 where
+  pub coded : Bool
+  pub clear : Bool
+  pub answers : answer ≡ verdict coded clear
   pub lacking : lowest_left (lacks m size c) rows q ≡ lowest_from (lacks m size c) 0 rows
   pub codes : (coded && is_nothing (lowest_left (uncoded m size c) rows q)) ≡ is_nothing (lowest_from (uncoded m size c) 0 rows)
   pub clears : (clear && is_nothing (lowest_left (spoilt m size c n) rows q)) ≡ is_nothing (lowest_from (spoilt m size c n) 0 rows)
@@ -78,41 +80,78 @@ and-true : (a : Bool) → (a && true) ≡ a
 and-true true = refl
 and-true false = refl
 
+verdict_code : (a b : Bool) → Err Code ≡ verdict (a && false) b
+verdict_code true b = refl
+verdict_code false b = refl
+
+verdict_padding : (a b : Bool) → result_and {U = Unit {0}} (verdict a b) (Err Padding) ≡ verdict (a && true) (b && false)
+verdict_padding true true = refl
+verdict_padding true false = refl
+verdict_padding false b = refl
+
+verdict_same : (a b : Bool) → verdict a b ≡ verdict (a && true) (b && true)
+verdict_same true true = refl
+verdict_same true false = refl
+verdict_same false b = refl
+
 module _ (m size : ℕ) (c : List Content) (n rows : ℕ) where
-  pub judging_first : Judging m size c n rows true true 0
+  pub judging_first : Judging m size c n rows (Ok tt) 0
   judging_first = record {
+    coded = true;
+    clear = true;
+    answers = refl;
     lacking = left-first (lacks m size c) rows;
     codes = ap is_nothing (left-first (uncoded m size c) rows);
     clears = ap is_nothing (left-first (spoilt m size c n) rows);
   }
 
-  module _ (coded clear : Bool) (q : ℕ) (v : Judging m size c n rows coded clear q) where
-    pub judging_end : rows ≤ q → Judges m size c n rows (record { lacks = rows; coded = coded; clear = clear })
-    judging_end h = record {
-      lacking = ap (λ (o : Option ℕ). before o rows) (sym (left_end (lacks m size c) rows q h) ∙ v.lacking);
-      coded = λ e. sym (and-true coded) ∙ ap (λ (o : Option ℕ). coded && is_nothing o) (sym (left_end (uncoded m size c) rows q h)) ∙ v.codes;
-      clear = λ e. sym (and-true clear) ∙ ap (λ (o : Option ℕ). clear && is_nothing o) (sym (left_end (spoilt m size c n) rows q h)) ∙ v.clears;
-    }
+  module _ (answer : Result (Unit {0}) Refusal) (q : ℕ) (v : Judging m size c n rows answer q) where
+    -- all rows are passed
+    module _ (h : rows ≤ q) where
+      pub none_lacks : lowest_from (lacks m size c) 0 rows ≡ None
+      none_lacks = sym v.lacking ∙ left_end (lacks m size c) rows q h
 
-    module _ (h : q < rows) (r : ℕ) (told : r ≡ fault_of m size c n q) where
-      pub judging_lacks : r ≡ 1 → Judges m size c n rows (record { lacks = q; coded = coded; clear = clear })
-      judging_lacks e = record {
-        lacking = ap (λ (o : Option ℕ). before o rows) (sym (left_here (lacks m size c) rows q h (fault_first m size c n q r told e)) ∙ v.lacking);
-        coded = λ z. absurd (omega arith);
-        clear = λ z. absurd (omega arith);
-      }
+      pub all_coded : v.coded ≡ is_nothing (lowest_from (uncoded m size c) 0 rows)
+      all_coded = sym (and-true v.coded) ∙ ap (λ (o : Option ℕ). v.coded && is_nothing o) (sym (left_end (uncoded m size c) rows q h)) ∙ v.codes
 
-      pub judging_next : (r ≡ 1 → ⊥) → Judging m size c n rows (coded && not (eqb r 2)) (clear && not (eqb r 3)) (q + 1)
-      judging_next d =
-          let o = fault_other m size c n q r told d in
+      pub all_clear : v.clear ≡ is_nothing (lowest_from (spoilt m size c n) 0 rows)
+      all_clear = sym (and-true v.clear) ∙ ap (λ (o : Option ℕ). v.clear && is_nothing o) (sym (left_end (spoilt m size c n) rows q h)) ∙ v.clears
+
+    -- one row more
+    module _ (h : q < rows) where
+      pub judging_lost : Some Lost ≡ fault_of m size c n q → lowest_from (lacks m size c) 0 rows ≡ Some q
+      judging_lost e = sym v.lacking ∙ left_here (lacks m size c) rows q h (says m size c n q (Some Lost) e)
+
+      one_more : (u z : Bool) → lacks m size c q ≡ false → uncoded m size c q ≡ u → spoilt m size c n q ≡ z → (a : Result (Unit {0}) Refusal)
+          → a ≡ verdict (v.coded && not u) (v.clear && not z) → Judging m size c n rows a (q + 1)
+      one_more u z l s t a e =
           record {
-            lacking = sym (left-next (lacks m size c) rows q h o.full) ∙ v.lacking;
+            coded = v.coded && not u;
+            clear = v.clear && not z;
+            answers = e;
+            lacking = sym (left-next (lacks m size c) rows q h l) ∙ v.lacking;
             codes =
-                and_assoc coded (not (eqb r 2)) (is_nothing (lowest_left (uncoded m size c) rows (q + 1)))
-                ∙ ap (λ (b : Bool). coded && (b && is_nothing (lowest_left (uncoded m size c) rows (q + 1)))) o.codes
-                ∙ ap (λ (b : Bool). coded && b) (sym (none-next (uncoded m size c) rows q h)) ∙ v.codes;
+                and_assoc v.coded (not u) (is_nothing (lowest_left (uncoded m size c) rows (q + 1)))
+                ∙ ap (λ (b : Bool). v.coded && (not b && is_nothing (lowest_left (uncoded m size c) rows (q + 1)))) (sym s)
+                ∙ ap (λ (b : Bool). v.coded && b) (sym (none-next (uncoded m size c) rows q h)) ∙ v.codes;
             clears =
-                and_assoc clear (not (eqb r 3)) (is_nothing (lowest_left (spoilt m size c n) rows (q + 1)))
-                ∙ ap (λ (b : Bool). clear && (b && is_nothing (lowest_left (spoilt m size c n) rows (q + 1)))) o.clears
-                ∙ ap (λ (b : Bool). clear && b) (sym (none-next (spoilt m size c n) rows q h)) ∙ v.clears;
+                and_assoc v.clear (not z) (is_nothing (lowest_left (spoilt m size c n) rows (q + 1)))
+                ∙ ap (λ (b : Bool). v.clear && (not b && is_nothing (lowest_left (spoilt m size c n) rows (q + 1)))) (sym t)
+                ∙ ap (λ (b : Bool). v.clear && b) (sym (none-next (spoilt m size c n) rows q h)) ∙ v.clears;
           }
+
+      pub judging_uncoded : Some Uncoded ≡ fault_of m size c n q → Judging m size c n rows (Err Code) (q + 1)
+      judging_uncoded e =
+          let t = says m size c n q (Some Uncoded) e in
+          one_more true (spoilt m size c n q) t.0 t.1 refl (Err Code) (verdict_code v.coded (v.clear && not (spoilt m size c n q)))
+
+      pub judging_unclear : Some Unclear ≡ fault_of m size c n q → Judging m size c n rows (result_and {U = Unit {0}} answer (Err Padding)) (q + 1)
+      judging_unclear e =
+          let t = says m size c n q (Some Unclear) e in
+          one_more false true t.0 t.1 t.2 (result_and {U = Unit {0}} answer (Err Padding))
+          (ap (λ (a : Result (Unit {0}) Refusal). result_and {U = Unit {0}} a (Err Padding)) v.answers ∙ verdict_padding v.coded v.clear)
+
+      pub judging_none : None ≡ fault_of m size c n q → Judging m size c n rows answer (q + 1)
+      judging_none e =
+          let t = says m size c n q None e in
+          one_more false false t.0 t.1 t.2 answer (v.answers ∙ verdict_same v.coded v.clear)

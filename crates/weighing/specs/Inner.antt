@@ -1,15 +1,12 @@
--- What the private pass over all rows of a place in column order finds. Nobody needs to believe it: the public contract does not cite it.
+-- What the private judgement of one row of a place in column order finds. Nobody needs to believe it: the public contract does not cite it.
 -- Assumes nothing.
-use Rattle.std.specs.Prelude.{◌≡◌, List, ℕ}
-use Rattle.places.specs.Room.{lowest_from}
+use Rattle.std.specs.Prelude.{cond, List, ℕ, Option, Some, None}
 use Rattle.contents.specs.Contents.{Slot as Content}
-use Rattle.standing.specs.Survey.{before}
 use Rattle.columns.specs.Columns.{lacks, uncoded}
-use Rattle.columns.specs.InnerJudge.{is_nothing, spoilt}
-use Rattle.weighing.specs.declared.judge.Judged.{Judged}
+use Rattle.columns.specs.InnerJudge.{spoilt}
+use Rattle.weighing.specs.declared.judge.Fault.{Fault}
+use Rattle.weighing.specs.declared.judge.Fault.TheVariants.{Lost, Uncoded, Padding}
 
--- the first row that lacks more than sixteen bytes; where none does, whether every row is coded, and has 0 in its padding
-pub record Judges (m size : ℕ) (c : List Content) (n rows : ℕ) (j : Judged) : Type 0 where
-  pub lacking : j.lacks ≡ before (lowest_from (lacks m size c) 0 rows) rows
-  pub coded : j.lacks ≡ rows → j.coded ≡ is_nothing (lowest_from (uncoded m size c) 0 rows)
-  pub clear : j.lacks ≡ rows → j.clear ≡ is_nothing (lowest_from (spoilt m size c n) 0 rows)
+-- what is wrong with row q: it lacks more than sixteen bytes, it fits no coded row, or its padding is not 0
+unfoldable pub fault_of : ℕ → ℕ → List Content → ℕ → ℕ → Option Fault
+fault_of m size c n q = cond (lacks m size c q) (Some Lost) (cond (uncoded m size c q) (Some Uncoded) (cond (spoilt m size c n q) (Some Padding) None))

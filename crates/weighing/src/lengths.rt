@@ -8,15 +8,6 @@ ghost use Rattle.columns.specs.InnerJudge.{Serving, is_nothing};
 
 use places::Place;
 
-// How many rows the tables of a file of `n` bytes have, `m` in each table.
-pub(crate) fn rows_of(m: u8, n: usize) -> u32
-    requires { (1 ≤ m) × (n ≤ 16777216) }
-    ensures { (result ≡ m * tables_of m n) × (result < 2 ^ 17) }
-{
-    let rows = m as usize;
-    (rows * words::over(n, 239 * rows)) as u32
-}
-
 // Whether a file of `n` bytes may have been sent in as many packets as the place has slots.
 pub(crate) fn length_serves(p: Place, n: usize) -> bool
     requires { (1 ≤ p.rows) × (1 ≤ p.slot) }
@@ -28,7 +19,7 @@ pub(crate) fn length_serves(p: Place, n: usize) -> bool
     if 16777216 < n {
         return false;
     }
-    let sent = 255 * (rows_of(p.rows, n) as usize);
+    let sent = 255 * layout::rows_of(p.rows, n);
     words::over(sent, p.slot as usize) == p.count as usize
 }
 
@@ -45,7 +36,7 @@ pub(crate) fn lengths_fit(p: Place, store: &[u8], n: usize) -> bool
     ensures { result ≡ is_nothing (lowest_from (misfits p.slot (sent_length p.rows n) (contents p store.now)) 0 p.count) }
 {
     let size = p.slot as usize;
-    let mut left = 255 * (rows_of(p.rows, n) as usize);
+    let mut left = 255 * layout::rows_of(p.rows, n);
     for k in 0..p.count {
         let at = p.start as usize + k as usize * (size + 2);
         let full = words::lesser(size, left);

@@ -2,9 +2,8 @@
 // written; lengths are judged first, then row by row what is lost, what fits no coded row, and the padding.
 #![tactic(auto)]
 
-ghost use Rattle.std.specs.Prelude.{◌≡◌, replicate};
-ghost use Rattle.columns.specs.Columns.{hand_columns_of, weighed_of};
-ghost use Rattle.columns.specs.InnerJudge.{Shaped, hand_judged};
+ghost use Rattle.std.specs.Prelude.{◌≡◌};
+ghost use Rattle.columns.specs.Columns.{weighed_of};
 
 use places::Place;
 use refusals::Refusal;
@@ -26,25 +25,5 @@ pub fn weigh(p: Place, store: &[u8], n: usize) -> Result<(), Refusal>
     if !lengths::lengths_fit(p, store, n) {
         return Err(Refusal::Shape);
     }
-    weigh_rows(p, store, n)
-}
-
-// The same where no length is wrong: what is left is judged row by row.
-fn weigh_rows(p: Place, store: &[u8], n: usize) -> Result<(), Refusal>
-    requires { Shaped p store.now n × (hand_columns_of p store.now n (replicate n 0) ≡ hand_judged p store.now n (replicate n 0)) }
-    ensures { result ≡ weighed_of p store.now n }
-{
-    let rows = lengths::rows_of(p.rows, n);
-    let judged = judge::judge(p, store, n, rows);
-    let lacks = judged.lacks;
-    if lacks < rows {
-        return Err(Refusal::Lost(lacks));
-    }
-    if !judged.coded {
-        return Err(Refusal::Code);
-    }
-    if !judged.clear {
-        return Err(Refusal::Padding);
-    }
-    Ok(())
+    judge::judge(p, store, n)
 }

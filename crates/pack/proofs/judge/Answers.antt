@@ -14,7 +14,7 @@ use Rattle.settings.specs.Settings.{settings_fit}
 use Rattle.settings.proofs.Laws.{settings_facts}
 use Rattle.pack.specs.Pack.{coded_length, count_of}
 use Rattle.pack.specs.Inner.{payload_length}
-use Rattle.std.specs.Prelude.{Ok, Err}
+use Rattle.std.specs.Prelude.{Ok}
 use Rattle.pack.proofs.Plans.{plan_field, plan_none, plan_long, plan_count, plan_number, plan_go}
 use Rattle.pack.proofs.judge.Goals as goal
 

@@ -15,5 +15,5 @@ returns c =
       omega arith,
       omega arith,
       run-written a.file.now a.m a.q a.left (length a.out.now) a.at c.requires.1 c.requires.0 c.min-n.result (omega arith) (omega arith)
-          a.out.now _ refl c.put_rows.ensures.1,
+          a.out.now _ _ c.row_start.ensures refl c.put_rows.ensures.1,
     )

@@ -59,8 +59,8 @@ returns-then-not-lengths_fit c =
     weighed_as _ _ _ _
     (columns_shape _ _ _ _ placed right serving (sym c.lengths_fit.ensures ∙ c.if-not-lengths_fit.true))
 
-pub weigh_rows-requires : goal.weigh_rows-requires
-weigh_rows-requires c =
+pub judge-requires : goal.judge-requires
+judge-requires c =
     let placed : tabled c.args.p (length c.args.store.now) ≡ true = sym c.is_tabled.ensures ∙ c.if-not-is_tabled.false in
     let some : c.survey.result ≡ Some c.in_ok-ok_or.field-0 = grind arith in
     let right : any_wrong (contents c.args.p c.args.store.now) ≡ false = (seen_right _ _ (tabled-known _ c.args.store.now placed).ends _ _ c.survey.ensures some).right in

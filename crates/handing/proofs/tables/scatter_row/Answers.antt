@@ -1,7 +1,7 @@
 -- Byte c is written where it belongs; once k are, the others stand beyond n.
 use native.Mathlib.Nat.{add-mul}
 use native.Mathlib.Omega.{arith}
-use Rattle.handing.proofs.TableLaws.{writing_first, writing_room, writing_next, writing_end}
+use Rattle.handing.proofs.TableLaws.{writing_room, writing_next, writing_end}
 use Rattle.handing.proofs.tables.scatter_row.Goals as goal
 
 pub bounds-out-to : goal.bounds-out-to

@@ -1,7 +1,7 @@
 -- Nothing is lost of the row; or what is lost of it is restored, and put where it belongs.
 -- Assumes nothing.
 use native.Mathlib.Omega.{arith}
-use Rattle.layout.proofs.Spans.{start_is}
+use Rattle.layout.proofs.Spans.{start_told}
 use Rattle.columns.proofs.Standings.{base_few}
 use Rattle.columns.proofs.Recovering.{came_few, came_below, row-whole, row_done}
 use Rattle.restoring.proofs.lost.restore_row.Goals as goal
@@ -25,4 +25,4 @@ pub returns : goal.returns
 returns c =
     let r = c.gather-came in
     row_done c.args.p c.args.store.now c.args.n c.requires.0 c.args.q c.requires.1 r.result r.ensures _ c.args.out.now _
-    c.lost_values-values.ensures _ (start_is c.args.p.rows c.args.q) c.requires.2 c.put_lost.ensures
+    c.lost_values-values.ensures _ (start_told _ _ _ (omega arith) c.row_start-base.ensures) c.requires.2 c.put_lost.ensures

@@ -1,6 +1,5 @@
 -- What came is written; where no slot is empty that is the file. Else what is lost is put in, and both are all there is.
 -- Assumes nothing.
-use native.Mathlib.Omega.{arith}
 use Rattle.columns.proofs.Whole.{surveyed, known_written, both-written}
 use Rattle.restoring.proofs.write.write_file.Goals as goal
 

@@ -7,7 +7,8 @@ use borrow.Author.Rules.{rules}
 use lib.ListN.{get_or}
 use Rattle.code.specs.Code.{Bytes}
 use Rattle.code.proofs.Lists.{bytes_of}
-use Rattle.columns.proofs.RowLaws.{row-lacks, row-full, row-found, row-none, fault_lacks, fault_uncoded, fault_spoilt, fault_none}
+use Rattle.columns.proofs.RowLaws.{row-lacks, row-full, row-found, row-none}
+use Rattle.weighing.proofs.JudgeLaws.{fault_lacks, fault_uncoded, fault_spoilt, fault_none}
 use Rattle.weighing.proofs.judge.fault_of.Goals.{After-fill}
 use Rattle.weighing.proofs.judge.fault_of.Goals as goal
 

@@ -15,4 +15,4 @@ returns-then-n-gt16777216 c = serves_much _ _ c.if-n-eq0.false c.if-n-gt16777216
 pub returns : goal.returns
 returns c =
     ap (λ (x : ℕ). eqb x c.args.p.count) c.over.ensures
-    ∙ serves-count c.args.p c.args.n c.if-n-eq0.false c.if-n-gt16777216.false _ c.rows_of.ensures.0
+    ∙ serves-count c.args.p c.args.n c.if-n-eq0.false c.if-n-gt16777216.false _ c.rows_of-sent.ensures
