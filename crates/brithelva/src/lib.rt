@@ -15,10 +15,10 @@ use places::{Name, Record};
 use refusals::Refusal;
 use settings::Settings;
 
-// Record's number, for bytes lent as a record that are not as many as it has.
+// Record's number, for bytes lent as a record that are not as many as it has: what C is answered is a number.
 const NO_RECORD: u64 = 9;
 
-// Field's number, for a description that is not thirty numbers.
+// Field's number, for a description that is not thirty numbers; a number for the same reason.
 const NOT_THIRTY: u64 = 17;
 
 // The CRC-32 of the bytes.

@@ -17,7 +17,8 @@ use refusals::Refusal;
 use slices::copy_in;
 use times::time_text;
 
-// A line's value: at most nineteen bytes at the front of `bytes`, then a part of the text. One of the two has no bytes.
+// A line's value: at most nineteen bytes at the front of `bytes`, then a part of the text. One of the two has no bytes. Their count stands beside them, since the
+// library has no heap.
 #[derive(Clone, Copy)]
 struct Value {
     bytes: [u8; 19],

@@ -7,7 +7,8 @@ ghost use Rattle.description.specs.Inner.{Ending, Split, Stepped};
 
 use attributes::Part;
 
-// The values of the lines that are there, empty parts for those that are not; how many there are, and where they end.
+// The values of the lines that are there, empty parts for those that are not; how many there are, and where they end. An array
+// and a count, since the library has no heap.
 #[derive(Clone, Copy)]
 pub(crate) struct Lines {
     pub(crate) parts: [Part; 15],

@@ -6,7 +6,7 @@ ghost use Rattle.packet.specs.Edition.{spare_of, is_of, edition_of};
 
 use packet::{Packet, Spare};
 
-// What is told of a packet that is of neither edition.
+// What is told of a packet that is of neither edition: editions are numbers that C hands over, and `edition_of` is defined by them.
 const NEITHER: u16 = 0;
 
 // What an edition writes: all ones in edition 1, all zeros in edition 2. Of a number that is no edition, zeros.

@@ -10,7 +10,7 @@ mod register;
 
 use refusals::Refusal;
 
-// The sixteen checks of a row; zeros beside a refusal.
+// The sixteen checks of a row; zeros beside a refusal, which a `Result` could not say (`encode_row_refuses_with_ones`).
 #[derive(Clone, Copy)]
 pub struct Encoded {
     pub verdict: Result<(), Refusal>,

@@ -7,7 +7,7 @@ ghost use Rattle.face.specs.Face.{Says, puts};
 
 use packet::Packet;
 
-// Output's number, for an output that is too short.
+// Output's number, for an output that is too short: what C is answered is a number.
 const NO_ROOM: u64 = 26;
 
 // The bytes at the start of the output, if it has room.

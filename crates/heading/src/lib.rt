@@ -7,6 +7,7 @@ ghost use Rattle.packet.specs.Packet.{header_of};
 use packet::Packet;
 
 // The fourteen bytes before a payload. Of a field that is too wide for the header its low bits are written.
+// Most fields do not begin at a byte, so that the library's conversions to bytes would serve one of nine.
 pub fn header(packet: Packet) -> [u8; Packet::HEADER]
     ensures { result ≡ header_of packet }
 {

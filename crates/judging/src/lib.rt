@@ -12,7 +12,7 @@ use calendar::{Time, not_given};
 use content::Content;
 use words::within;
 
-// The kind of texts, the only one that has a charset.
+// The kind of texts, the only one that has a charset: a number of source document 001 that C hands over.
 const TEXT: u64 = 21;
 
 // Whether a number that is asked for lies between two; one that is not asked for must be `none`.
@@ -94,7 +94,7 @@ fn judged(text: &[u8], d: Description) -> [bool; 15]
     ]
 }
 
-// The lowest line whose attribute cannot stand there, 1 to 15; 16 where all can. The texts are parts of `text`; one that reaches beyond it cannot stand.
+// The lowest line whose attribute cannot stand there, 1 to 15; 16 where all can, as the definition `lowest` has it. The texts are parts of `text`; one that reaches beyond it cannot stand.
 pub fn lowest_fault(text: &[u8], d: Description) -> u64
     ensures { result ≡ lowest (rules text.now d) }
 {

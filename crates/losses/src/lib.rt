@@ -8,7 +8,8 @@ use places::Place;
 
 mod runs;
 
-// The row's bytes, 0 for each that is lost; how many are lost; and the first sixteen of these, each told by its exponent, 254 less its column.
+// The row's bytes, 0 for each that is lost; how many are lost; and the first sixteen of these, each told by its exponent, 254 less its column. An
+// array and a count, since the library has no heap.
 #[derive(Clone, Copy)]
 pub struct Came {
     pub row: [u8; 255],

@@ -22,7 +22,7 @@ fn length_at(store: &[u8], at: usize) -> usize
     words::index(store[at]) + words::index(store[at + 1]) * 256
 }
 
-// Whether a slot for `size` bytes may hold `n`, `by_rows` saying whether payloads are whole rows.
+// Whether a slot for `size` bytes may hold `n`, `by_rows` saying whether payloads are whole rows: `contents::length_fits` finds that out anew for each slot.
 fn may_hold(size: usize, by_rows: bool, n: usize) -> bool
     ensures { result ≡ (leb n size && (not by_rows || eqb (n % 255) 0)) }
 {

@@ -44,7 +44,7 @@ fn offer_nowhere(packet: &[u8]) -> Result<Offered, Refusal>
     Err(Refusal::Unknown)
 }
 
-// Refusal 11.
+// Refusal 11. Packet and place are two types, of which four fields are compared, the last under protection alone.
 fn differs(p: Place, fields: Packet) -> bool
     ensures { result ≡ differs p fields }
 {

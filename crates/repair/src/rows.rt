@@ -6,7 +6,7 @@ ghost use Rattle.errata.specs.InnerErrata.{mended_by, entries};
 
 use errata::Errata;
 
-// What row i leaves.
+// What row i leaves. The front of what one row leaves is taken in crate solving too; a public call for both would have to be total, and longer than both.
 fn rest_in(rests: &[u8; 240], i: usize) -> [u8; 16]
     requires { i < 15 }
     ensures { result ≡ take 16 (drop (i * 16) rests.now) }
@@ -43,7 +43,8 @@ fn finish(ended: usize, rows: &mut [u8], e: &Errata) -> usize
 }
 
 // Mends the rows, of which the first is row i, or none of them: what was found of a row waits until all rows behind it are found. The first row that has no coded
-// row within eight bytes; where all are mended 15, which no row is, and as many more as the bytes that were mended.
+// row within eight bytes; where all are mended 15, which no row is, and as many more as the bytes that were mended. A number,
+// since each row would take an enum apart and build it anew.
 pub(crate) fn mend_from(rows: &mut [u8], i: usize, rests: &[u8; 240]) -> usize
     requires { Resting rows.old i rests.now }
     ensures { Ends rows.old (mend_rows (length rows.old / 255) i rows.old) result rows.new }

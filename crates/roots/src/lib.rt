@@ -12,7 +12,7 @@ mod products;
 mod search;
 mod table;
 
-// The exponents of the first n roots, in increasing order; zeros behind them.
+// The exponents of the first n roots, in increasing order; zeros behind them. An array and a count, since the library has no heap.
 #[derive(Clone, Copy)]
 pub struct Roots {
     pub n: usize,

@@ -75,7 +75,7 @@ fn entries(v: Vector) -> [u8; 9]
 }
 
 // The vector. Each is reduced, run by run, by the one that is kept for the run; where none is kept and the run does not annihilate it, it is kept there itself, and the next
-// begins as x times it. Where the pivot is 0 none is kept.
+// begins as x times it. Where the pivot is 0 none is kept. The runs are gone through to and fro, so by `while`.
 pub(crate) fn null_vector(s: Sixteen) -> [u8; 9]
     ensures { Annihilated (list_of s) result }
 {
