@@ -8,7 +8,7 @@ pub mod Crc
 pub mod Checksum
 pub mod Roots
 pub mod Encoding
-pub mod Layout
+pub mod TableRows
 pub mod Filling
 pub mod Laying
 pub mod Terms
