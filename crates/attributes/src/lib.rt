@@ -1,4 +1,4 @@
-// The attributes of a description file (document 02, R-4; source document 001, section 7.2), and what reading and writing one answers. No code: the crate has the definitions
+// The attributes of a description file (document 02, R-4; source document 001, section 7.2). No code: the crate has the definitions
 // of the fifteen lines (specs/) and what is proved of the format in both directions (proofs/).
 #![tactic(auto)]
 

@@ -5,7 +5,7 @@ use crate::{buffer, digests, numbers, tokens};
 use refusals::Refusal;
 use settings::Settings;
 
-// Accepted with a value, or refused; then with the refusal's number and value, and whether the call changed anything.
+// Accepted with a value, or refused; then with the refusal's number and value, and whether the call changed anything, of which both are printed.
 #[derive(Clone, Copy, PartialEq, Eq)]
 pub(crate) enum Answer {
     Accepted(u64),

@@ -30,7 +30,7 @@ struct Step {
     next: usize,
 }
 
-// Whether the two digits of k and a colon stand at `at`.
+// Whether the two digits of k and a colon stand at `at`: the same three bytes as the writer's `label` in crate composing.
 fn labelled(text: &[u8], k: usize, at: usize) -> bool
     requires { at ≤ length text.now }
     ensures { result ≡ same (take 3 (drop at text.now)) (label k) }

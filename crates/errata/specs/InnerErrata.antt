@@ -1,5 +1,5 @@
 -- Vocabulary of the private functions that find the places of the wrong bytes and what to add there. A place is told by its exponent a: byte 254 - a of a row, whose locator is
--- α^a. Nobody needs to believe it: no contract of a public call cites it.
+-- α^a. Nobody needs to believe it but for `entries` and `mended_by`, which say what `Errata::added_to` answers: no other contract of a public call cites it.
 -- Assumes nothing.
 use Rattle.std.specs.Prelude.{◌≡◌, ◌≢◌, cond, Option, Some, None, List, ℕ, zero, suc, ◌+◌, ◌-◌, ◌≤◌, ◌<◌, eqb, length, get_or, set, replicate}
 use Rattle.ground.specs.Bits.{sum}

@@ -7,7 +7,8 @@ ghost use Rattle.std.specs.Prelude.{◌≡◌};
 ghost use Rattle.errata.specs.InnerErrata.{entries, mended_by};
 
 // The n places at which to add something, and what; zeros behind them. `solving::find` tells the places in increasing order, with values that are never 0; `solving::fill`
-// those that it was given, with values that may be. Places and values stand apart, since the field works on sixteen of either at once.
+// those that it was given, with values that may be. Places and values stand apart, since the field works on sixteen of either at once;
+// arrays and a count, since the library has no heap.
 #[derive(Clone, Copy)]
 pub struct Errata {
     pub n: usize,

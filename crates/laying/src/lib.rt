@@ -51,6 +51,7 @@ fn put_row(file: &[u8], m: usize, t: usize, p: usize, n: usize, out: &mut [u8], 
     let r = p % m;
     let c = p / m;
     let mut row = [0u8; 255];
+    // It serves and has room, so nothing is refused.
     let _ = filling::put_rows(file, m, t * (239 * m) + r, 1, &mut row);
     strew(&row, c, m, n, out, o);
 }
@@ -88,6 +89,7 @@ fn fill(file: &[u8], m: usize, from: usize, n: usize, out: &mut [u8])
     ensures { out.new ≡ sets out.old 0 (listed (sent_byte m file.now) n from) }
 {
     let mut x: usize = 0;
+    // By while, since each step is as long as the run that was put.
     while x < n {
         x += put_run(file, m, from + x, n - x, out, x);
     }

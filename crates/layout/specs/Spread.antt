@@ -1,5 +1,5 @@
--- Rows that come one after the other, written to where their bytes stand in the file: vocabulary for the contracts of private functions of the layers above.
--- Nobody needs to believe it: `scattered-all` (proofs/Scatter.antt) says that it gives the tables undone. Assumes nothing.
+-- Rows that come one after the other, written to where their bytes stand in the file. `row_start` and `columns_within` are what the public calls of these
+-- names answer; the rest is vocabulary of private functions above, which nobody needs to believe: `scattered-all` (proofs/Scatter.antt) says that it gives the tables undone. Assumes nothing.
 use Rattle.std.specs.Prelude.{cond, List, [], ◌∷◌, ℕ, zero, suc, ◌+◌, ◌-◌, ◌*◌, ◌/◌, ◌%◌, ◌<◌, ◌≤◌, min, ltb, set}
 use Rattle.ground.specs.Lists.{ceil}
 use Rattle.layout.specs.Layout.{file_byte_at}

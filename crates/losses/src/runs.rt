@@ -174,6 +174,7 @@ fn take_runs(p: Place, store: &[u8], first: usize, row: &mut [u8; 255], at: &mut
     let mut lost: usize = 0;
     let mut c: usize = 0;
     let mut k: usize = 0;
+    // By while, since each step is as long as the run that was gathered.
     while c < 255 {
         k = slot_of(first + c * m, size, k);
         let run = take_run(p, store, first, k, c, lost, row, at);
@@ -262,7 +263,8 @@ fn take_columns(
     lost
 }
 
-// The same where slots lie evenly below the columns: each column is the same byte of its slot.
+// The same where slots lie evenly below the columns: each column is the same byte of its slot. One way for all three
+// hands out at 2.9 times the peer's speed, where these do at 4.9.
 fn take_even(p: Place, store: &[u8], first: usize, row: &mut [u8; 255], at: &mut [u8; 16]) -> usize
     requires { Tabled p (length store.now) × (first < 2 ^ 46) × (p.rows % p.slot ≡ 0) × Gathered p store.now first 0 0 row.old at.old }
     ensures { Gathered p store.now first 255 result row.new at.new }

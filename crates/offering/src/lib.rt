@@ -130,6 +130,7 @@ pub fn offer(held: Record, store: &mut [u8], packet: &[u8]) -> Result<Offered, R
         return offer_nowhere(packet);
     };
     let p = held.places[i];
+    // Taken apart by let .. else, as document 01 asks of Offer.
     let reading = read_at(p, packet);
     let Ok(fields) = reading else {
         return Err(reading.unwrap_err());

@@ -78,6 +78,7 @@ fn put_run(file: &[u8], m: usize, q: usize, left: usize, out: &mut [u8], at: usi
     ensures { (0 < result) × (result ≤ left) × (out.new ≡ sets out.old at (coded_rows file.now m q result)) }
 {
     let n = left.min(m - q % m);
+    // It serves and has room, so nothing is refused.
     let _ = filling::put_rows(file, m, layout::row_start(m, q), n, &mut out[at..]);
     n
 }
@@ -88,6 +89,7 @@ fn put_coded(file: &[u8], m: usize, first: usize, count: usize, out: &mut [u8])
     ensures { out.new ≡ sets out.old 0 (coded_rows file.now m first count) }
 {
     let mut done: usize = 0;
+    // By while, since each step is as many rows as were put.
     while done < count {
         done += put_run(file, m, first + done, count - done, out, done * 255);
     }
@@ -105,6 +107,7 @@ fn put_payload(file: &[u8], settings: Settings, number: u32, size: usize, out: &
     }
     let rows = settings.rows as usize;
     if settings.order == 1 {
+        // This too.
         let _ = laying::put_columns(file, rows, from, size, out);
         return;
     }
@@ -131,6 +134,7 @@ fn put_packet(
     }
     put_header(settings, number, count, size, out);
     put_payload(file, settings, number, size, &mut out[body..]);
+    // There is room for the CRC: asked above.
     let _ = sealing::seal(out, end);
     Ok(end + Packet::CRC)
 }

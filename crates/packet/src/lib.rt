@@ -1,4 +1,4 @@
-// The packet of document 01, section 2: its fields, its lengths, and what reading them finds. No code: the crate has the definitions of the header, of reading it and of its
+// The packet of document 01, section 2: its fields and its lengths. No code: the crate has the definitions of the header, of reading it and of its
 // two editions (specs/), and what is proved of them (proofs/). They are read and written in crate fields; what an edition writes and shows is told in crate edition.
 #![tactic(auto)]
 

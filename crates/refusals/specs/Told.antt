@@ -1,5 +1,5 @@
--- What a call answers, in document 01's own terms: a number, 0 where the call is accepted and else the refusal's (section 6), and the values beside it. Each enum that is an
--- answer has such a definition by its cases, in the crate that owns the enum; the promises and the C face speak through them. Assumes nothing.
+-- What a call answers, in document 01's own terms: a number, 0 where the call is accepted and else the refusal's (section 6), and the values beside it. Each kind of
+-- answer has such a definition by its cases, in the crate that has its definitions, and a length here; the promises and the C face speak through them. Assumes nothing.
 use Rattle.std.specs.Prelude.{List, [], ◌∷◌, ℕ, Result, Ok, Err}
 use Rattle.refusals.specs.declared.Refusal.{Refusal}
 use Rattle.refusals.specs.Refusals.{number_of, values_of}

@@ -1,4 +1,4 @@
-// The refusals of document 01, section 6, and of document 02, one enum for all calls, and the verdict of a call that hands nothing else over.
+// The refusals of document 01, section 6, and of document 02, one enum for all calls.
 #![tactic(auto)]
 
 ghost use Rattle.std.specs.Prelude.{◌≡◌};

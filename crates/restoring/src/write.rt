@@ -56,6 +56,7 @@ fn write_known(p: Place, store: &[u8], n: usize, out: &mut [u8])
     ensures { Nearer (aim_of p store.now) n (Known p store.now) out.old out.new }
 {
     let mut f: usize = 0;
+    // By while, since each step is as long as the part that was copied.
     while f < n {
         let c = chunk_at(p, n, f);
         copy_chunk(p, store, c, f, out);
@@ -69,6 +70,7 @@ pub(crate) fn write_file(p: Place, store: &[u8], n: usize, out: &mut [u8])
     ensures { out.new ≡ undone 1 p.rows (restored p.rows p.slot (contents p store.now) (sent_length p.rows n)) n 0 ++ drop n out.old }
 {
     write_known(p, store, n, out);
+    // Every length was judged before, so that something is seen.
     let seen = standing::survey(p, store).unwrap();
     if seen.filled == p.count {
         return;

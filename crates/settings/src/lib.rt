@@ -21,7 +21,7 @@ pub struct Settings {
 }
 
 impl Settings {
-    // The edition that is meant where none is named. Editions and orders are numbers that C hands over, and a call takes each.
+    // The edition that is meant where none is named. Editions and orders are numbers that C hands over; every call takes any number.
     pub const EDITION: u16 = 2;
     // And the order: by rows.
     pub const ORDER: u16 = 0;

@@ -15,7 +15,7 @@ pub fn fill(row: [u8; 255], at: [u8; 16], n: usize) -> Option<Errata>
     fill_rest(rest_of(row), at, n)
 }
 
-// What a row leaves when the generator divides it.
+// What a row leaves when the generator divides it. Crate repair takes sixteen bytes of many rows' so (`rest_in`, which says why).
 fn rest_of(row: [u8; 255]) -> [u8; 16]
     ensures { result ≡ remainder 239 row }
 {

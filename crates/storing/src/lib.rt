@@ -34,6 +34,7 @@ pub fn put_in(
         return Err(Refusal::Slot);
     }
     if n == 0 {
+        // The slot lies in the store and has room: asked above.
         let _ = contents::put_slot(store, at, payload);
         return Ok(Offered::Stored(mended));
     }

@@ -7,7 +7,8 @@ ghost use Rattle.times.specs.Written.{time_text, form, formed, two_at, time_at, 
 
 use calendar::{Time, is_real};
 
-// Stands for a value that writes no real time. It is none itself, nor the time of zeros, which stands for none given.
+// Stands for a value that writes no real time. It is none itself, nor the time of zeros, which stands for none given. A time
+// and no None, since `wrong_time` (specs/), by which `time_in` is defined, is one.
 const WRONG: Time = Time {
     year: 0,
     month: 1,

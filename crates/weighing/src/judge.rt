@@ -55,7 +55,8 @@ fn fault_of(p: Place, store: &[u8], n: usize, q: u32) -> Option<Fault>
     None
 }
 
-// The refusals 31, 32 and 24. The first row that lacks more than sixteen bytes ends the pass, since that is refused before all else; of the others one fault does not hide another.
+// The refusals 31, 32 and 24. The first row that lacks more than sixteen bytes ends the pass, since that is refused before all else; of the others a row that fits
+// no coded row (32) is told before one that is not 0 beyond the end (24), in whatever order they come.
 pub(crate) fn judge(p: Place, store: &[u8], n: usize) -> Result<(), Refusal>
     requires { Shaped p store.now n × (hand_columns_of p store.now n (replicate n 0) ≡ hand_judged p store.now n (replicate n 0)) }
     ensures { result ≡ weighed_of p store.now n }
