@@ -1,5 +1,5 @@
 // The library's C face: each function stands for one call of the crates below, with its answer as one number. Crate brithelva_c exports them, and
-// include/brithelva.h documents them for C.
+// include/brithelva.h documents them for C. Parameters that travel together stay apart here, since C hands over numbers.
 #![tactic(auto)]
 
 ghost use Rattle.std.specs.Prelude.{◌≡◌, true, false, length, MatchResult};
@@ -101,7 +101,7 @@ pub fn bh_pack_as(
     answers::length_as(packed)
 }
 
-// The same in the edition and the order that are meant where none is named.
+// The same in the edition and the order that are meant where none is named. It stays beside the other, since each is a call of C.
 pub fn bh_pack(
     file: &[u8],
     resource: u16,
@@ -192,7 +192,7 @@ pub fn bh_open_as(
     put_kept(held, kept)
 }
 
-// The same in the edition and the order that are meant where none is named.
+// The same in the edition and the order that are meant where none is named. It stays beside the other, since each is a call of C.
 pub fn bh_open(
     held: &mut [u8],
     store: &mut [u8],

@@ -70,7 +70,7 @@ pub extern "C" fn bh_pack_as(
     )
 }
 
-// The same in the edition and the order that are meant where none is named.
+// The same in the edition and the order that are meant where none is named. It stays beside the other, since each is a call of C.
 #[unsafe(no_mangle)]
 pub extern "C" fn bh_pack(
     file: &[u8],
@@ -127,7 +127,7 @@ pub extern "C" fn bh_open_as(
     )
 }
 
-// The same in the edition and the order that are meant where none is named.
+// The same in the edition and the order that are meant where none is named. It stays beside the other, since each is a call of C.
 #[unsafe(no_mangle)]
 pub extern "C" fn bh_open(
     held: &mut [u8],
