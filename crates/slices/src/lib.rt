@@ -5,16 +5,22 @@ ghost use Rattle.std.specs.Prelude.{◌≡◌, ◌+◌, ◌<◌, ◌≤◌};
 ghost use Rattle.std.proofs.lemmas.List.Edits.{sets};
 ghost use Rattle.slices.specs.Slices.{same};
 
-// Copies `bytes` into `store` from `at` on, as far as the store reaches.
-#[tactic(auto, using(ground::proofs::Writing::sets_out, ground::proofs::Writing::put_reach))]
+// Copies `bytes` into `store` from `at` on, as far as the store reaches. Byte by byte: most copies are short, where the library's copy of a part is slower, and it
+// would have the archive for C ask for one function more from outside, memmove.
 pub fn copy_in(store: &mut [u8], at: usize, bytes: &[u8])
     ensures { store.new ≡ sets store.old at bytes.now }
 {
-    if store.len() <= at {
-        return;
+    let n = reach(store.len(), at, bytes.len());
+    for i in 0..n {
+        store[at + i] = bytes[i];
     }
-    let n = bytes.len().min(store.len() - at);
-    store[at..at + n].copy_from_slice(&bytes[..n]);
+}
+
+// How many of `n` bytes from `at` on lie in `size` bytes.
+fn reach(size: usize, at: usize, n: usize) -> usize
+    ensures { (result ≤ n) × (0 < result → at + result ≤ size) × (result < n → size ≤ at + result) }
+{
+    n.min(size.saturating_sub(at))
 }
 
 // Whether two slices hold the same bytes.
