@@ -2,27 +2,30 @@
 // which what a place holds is told. A store reads as 0 beyond its end.
 #![tactic(auto)]
 
-ghost use Rattle.std.specs.Prelude.{◌≡◌, length, get_or};
+ghost use Rattle.std.specs.Prelude.{◌≡◌, ◌+◌, ◌≤◌, length};
 ghost use Rattle.contents.specs.Slots.{length_at, room_for, slot_verdict, stored_within};
 ghost use Rattle.contents.specs.Contents.{length_fits};
 
 use places::Place;
 use refusals::Refusal;
 
-// The length that stands in the slot at `at`.
+// The length that stands in the slot at `at`. Every slot of a place is asked, so that the bytes are looked up one by one only at the store's end.
 pub fn slot_length(store: &[u8], at: usize) -> usize
     ensures { result ≡ length_at store.now at }
 {
-    let low = byte(store, at);
-    let high = byte(store, at.saturating_add(1));
-    u16::from_le_bytes([low, high]) as usize
+    let n = store.len();
+    if n < 2 || n - 1 <= at {
+        return low_byte(store, at);
+    }
+    u16::from_le_bytes([store[at], store[at + 1]]) as usize
 }
 
-// Byte i of the store, 0 beyond its end.
-fn byte(store: &[u8], i: usize) -> u8
-    ensures { result ≡ get_or store.now i 0 }
+// The same where the store has at most the first byte of it.
+fn low_byte(store: &[u8], at: usize) -> usize
+    requires { length store.now ≤ at + 1 }
+    ensures { result ≡ length_at store.now at }
 {
-    store.get(i).copied().unwrap_or(0)
+    usize::from(store.get(at).copied().unwrap_or(0))
 }
 
 // Whether a slot of a place may hold `n` bytes.
