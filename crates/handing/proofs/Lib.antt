@@ -1,5 +1,6 @@
 pub mod WalkLaws
 pub mod TableLaws
+pub mod ZeroLaws
 pub mod RowLaws
 pub mod PassLaws
 pub mod PaddingLaws

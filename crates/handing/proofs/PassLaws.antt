@@ -15,10 +15,11 @@ use Rattle.ground.proofs.Writing.{sets-front, Run, run_begin, run_jump, run_end}
 use Rattle.layout.specs.Spread.{scattered}
 use Rattle.layout.proofs.Scatter.{length-scattered}
 use Rattle.places.specs.declared.Place.{Place}
+use Rattle.contents.specs.Slots.{length_at}
 use Rattle.contents.specs.Contents.{slot_at}
 use Rattle.contents.proofs.Bytes.{bytes-part}
-use Rattle.handing.specs.Passes.{sent_in, info_at, info_in, RowsAt, Scatters, Clear, Padding, clear, spoilt, Rowed}
-use Rattle.handing.proofs.WalkLaws.{fits-rows, Walk, walk_first, walk_done, Turn}
+use Rattle.handing.specs.Passes.{sent_in, Filled, info_at, info_in, RowsAt, Scatters, Clear, Padding, clear, spoilt, Rowed}
+use Rattle.handing.proofs.WalkLaws.{fits-rows, Walk, walk_first, walk_done, Turn, turn}
 
 -- ---- payloads joined: o bytes are written
 
@@ -31,12 +32,16 @@ module _ (p : Place) (s before : List ℕ) where
   joining_first = record { walk = walk_first p s; run = run_begin (λ i. get_or (sent_in p s) i 0) (length (sent_in p s)) 0 before }
 
   module _ (out : List ℕ) (o k : ℕ) (v : Joining p s before out o k) where
-    pub joining_next : (l : ℕ) → Turn p s k o l → (z : List ℕ) → z ≡ sets out o (take (slot_at p k + 2 + l - (slot_at p k + 2)) (drop (slot_at p k + 2) s))
+    -- the turn at the slot that stands at `at`
+    pub joining_turn : (at : ℕ) → at ≡ slot_at p k → Filled p s → k < p.count → (l : ℕ) → l ≡ length_at s at → Turn p s k o l
+    joining_turn at stands f h l e = turn p s k o v.walk f h l (e ∙ ap (length_at s) stands)
+
+    pub joining_next : (at : ℕ) → at ≡ slot_at p k → (l : ℕ) → Turn p s k o l → (z : List ℕ) → z ≡ sets out o (take (at + 2 + l - (at + 2)) (drop (at + 2) s))
         → Joining p s before z (o + l) (k + 1)
-    joining_next l t z e =
-        let d : slot_at p k + 2 + l - (slot_at p k + 2) ≡ l = omega arith in
-        let bytes : take (slot_at p k + 2 + l - (slot_at p k + 2)) (drop (slot_at p k + 2) s) ≡ listed (λ i. get_or (sent_in p s) i 0) l o =
-        ap (λ (x : ℕ). take x (drop (slot_at p k + 2) s)) d ∙ sym (bytes-part s (slot_at p k + 2) l t.room)
+    joining_next at stands l t z e =
+        let d : at + 2 + l - (at + 2) ≡ l = omega arith in
+        let bytes : take (at + 2 + l - (at + 2)) (drop (at + 2) s) ≡ listed (λ i. get_or (sent_in p s) i 0) l o =
+        ap₂ (λ (x y : ℕ). take x (drop (y + 2) s)) d stands ∙ sym (bytes-part s (slot_at p k + 2) l t.room)
         ∙ listed_same (λ i. get_or s i 0) (λ i. get_or (sent_in p s) i 0) l (slot_at p k + 2) o (λ j h. sym (t.reads j h)) in
         record {
           walk = t.next;

@@ -15,14 +15,16 @@ fn write_plain(p: Place, store: &[u8], out: &mut [u8])
     ensures { out.new ≡ sent_in p store.now ++ drop (length (sent_in p store.now)) out.old }
 {
     let width = p.slot as usize + 2;
+    // A product for each slot takes longer.
+    let mut at = p.start as usize;
     let mut o: usize = 0;
     for k in 0..p.count {
-        let at = p.start as usize + k as usize * width;
         let n = contents::slot_length(store, at);
         let from = at + 2;
         let to = from + n;
         slices::copy_in(out, o, &store[from..to]);
         o += n;
+        at += width;
     }
 }
 

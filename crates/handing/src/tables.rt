@@ -2,7 +2,6 @@
 ghost use Rattle.std.specs.Prelude.{◌≡◌, ℕ, ◌+◌, ◌-◌, ◌*◌, ◌≤◌, ◌<◌, ◌^◌, eqb, length};
 ghost use Rattle.layout.specs.Layout.{tables_of};
 ghost use Rattle.layout.specs.Spread.{spread, row_start};
-ghost use Rattle.contents.specs.Contents.{bytes_at};
 ghost use Rattle.columns.specs.Handing.{all_zero};
 ghost use Rattle.handing.specs.Passes.{RowsAt, info_at, Scatters, Padding};
 ghost use Rattle.layout.specs.Spread.{Columns};
@@ -50,6 +49,18 @@ pub(crate) fn scatter_rows(
     }
 }
 
+// Whether bytes, no more of them than a row has, are 0. They are compared with as many zeros, since that looks at many at once.
+fn is_zero(bytes: &[u8]) -> bool
+    requires { length bytes.now ≤ 239 }
+    ensures { result ≡ all_zero bytes.now }
+{
+    if bytes.len() == 0 {
+        return true;
+    }
+    let zeros = [0u8; 239];
+    slices::same(bytes, &zeros[..bytes.len()])
+}
+
 // Whether the rows hold 0 wherever they reach beyond a file of `n` bytes.
 pub(crate) fn rows_end(store: &[u8], at: usize, count: usize, m: usize, q: usize, n: usize) -> bool
     requires { RowsAt m (length store.now) at count q }
@@ -58,7 +69,7 @@ pub(crate) fn rows_end(store: &[u8], at: usize, count: usize, m: usize, q: usize
     for j in 0..count {
         let k = layout::columns_within(m, layout::row_start(m, q + j), n);
         let a = at + j * 255;
-        if !store[a + k..a + 239].iter().all(|b| *b == 0) {
+        if !is_zero(&store[a + k..a + 239]) {
             return false;
         }
     }
