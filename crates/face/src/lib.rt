@@ -25,10 +25,10 @@ pub fn put(bytes: &[u8], out: &mut [u8]) -> u64
 pub fn put_fields(f: Packet, out: &mut [u32]) -> u64
     ensures { Says (puts (field_list f) out.old) result out.new }
 {
-    if out.len() < 10 {
+    let Some(first) = out.first_chunk_mut::<10>() else {
         return NO_ROOM;
-    }
-    out[..10].copy_from_slice(&[
+    };
+    *first = [
         f.resource as u32,
         f.number,
         f.update as u32,
@@ -39,6 +39,6 @@ pub fn put_fields(f: Packet, out: &mut [u32]) -> u64
         f.rows as u32,
         f.reserved as u32,
         edition::edition_of(f) as u32,
-    ]);
+    ];
     0
 }
