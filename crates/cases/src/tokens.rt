@@ -1,5 +1,5 @@
 // The words of a line: names, decimal and hexadecimal numbers, pairs of hexadecimal digits. A word that is missing is empty, and an empty number is 0.
-ghost use Rattle.std.specs.Prelude.{◌+◌, ◌*◌, ◌≤◌};
+ghost use Rattle.std.specs.Prelude.{◌+◌, ◌*◌, ◌<◌, ◌≤◌};
 
 use crate::buffer;
 
@@ -39,7 +39,9 @@ pub(crate) fn meaning<T: Copy>(table: &[(&[u8], T)], name: &[u8]) -> Option<T> {
 }
 
 // What a digit stands for, decimal or hexadecimal.
-fn digit(b: u8) -> u8 {
+fn digit(b: u8) -> u8
+    ensures { result < 16 }
+{
     match b {
         b'0'..=b'9' => b - b'0',
         b'a'..=b'f' => b - b'a' + 10,
