@@ -16,8 +16,8 @@ use Rattle.code.proofs.Division.{length-remainder, remainder-bytes}
 use Rattle.code.proofs.Restored.{restore_same}
 use Rattle.errata.specs.declared.Errata.{Errata}
 use Rattle.errata.specs.Restoring.{falling_to, among, filling_of}
-use Rattle.errata.specs.InnerErrata.{entries, mended_by}
-use Rattle.errata.proofs.Filled.{filling_found, filling_none}
+use Rattle.errata.specs.InnerErrata.{entries, mended_by, Placed}
+use Rattle.errata.proofs.Filled.{filling_placed, filling_found, filling_none}
 use Rattle.places.specs.declared.Place.{Place}
 use Rattle.contents.specs.Contents.{contents}
 use Rattle.losses.specs.declared.Came.{Came}
@@ -79,6 +79,9 @@ module _ (p : Place) (s : List ℕ) (fits : tabled p (length s) ≡ true) (q : �
       rest_bytes = remainder-bytes 239 c.row bytes
 
       module _ (e : Errata) (filled : Some e ≡ filling_of (remainder 239 c.row) c.at c.lost) where
+        pub row-placed : Placed e.n e.at
+        row-placed = filling_placed (remainder 239 c.row) c.at c.lost rest_long rest_bytes room falling e filled
+
         pub row-found : row_restored p.rows p.slot (contents p s) q ≡ found (mended_by c.row (entries e.at) (entries e.values) e.n)
         row-found =
             sym restored_by ∙ filling_found (remainder 239 c.row) c.at c.lost rest_long rest_bytes room falling c.row row-long bytes refl e filled
