@@ -65,6 +65,10 @@ module _ (b₀ b : List ℕ) (n r : ℕ) (room : n * 255 ≤ length b₀) (c : C
   unfolding checked_of
   checking_done h e = laid_done (checked_row b₀) 255 n 0 b₀ b r h c.laid ∙ ap (λ (k : ℕ). sets b₀ 0 (pieces (checked_row b₀) k 0)) e
 
+-- the number of rows that are done, told otherwise
+pub checking_at : (b₀ b : List ℕ) (n r s : ℕ) → s ≡ r → Checking b₀ b n r → Checking b₀ b n s
+checking_at b₀ b n r s e c = subst (λ (k : ℕ). Checking b₀ b n k) (sym e) c
+
 -- two rows at once: the first one's checks are no information of the second
 pub checking_two : (b₀ b : List ℕ) (n r s : ℕ) → n * 255 ≤ length b₀ → Checking b₀ b n r → (next : List ℕ) → s ≡ r + 2 → s ≤ n → next ≡ sealed b (r * 255)
     → Checking b₀ next n s

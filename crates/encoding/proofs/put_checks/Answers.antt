@@ -1,10 +1,9 @@
 -- Two rows at a time, and then the one that may be left.
 -- Assumes nothing.
-use mathlib.Core.Path.{◌≡◌, refl}
-use Prim.Native.Nat.{ℕ, ◌+◌, ◌*◌, ◌/◌}
-use lib.ListN.{length}
+use mathlib.Core.Path.{refl}
+use Prim.Native.Nat.{◌*◌}
 use native.Mathlib.Omega.{arith}
-use Rattle.encoding.proofs.Checking.{checking_more, checking_two, checking_done}
+use Rattle.encoding.proofs.Checking.{checking_at, checking_more, checking_two, checking_done}
 use Rattle.encoding.proofs.put_checks.Goals as goal
 
 pub loop-i-preserved : goal.loop-i-preserved
@@ -16,7 +15,6 @@ returns-then-n-r c = checking_done _ _ _ (2 * c.loop-i.i) (omega arith) c.loop-i
 
 pub returns : goal.returns
 returns c =
-    let n : ℕ = length c.args.rows.now / 255 in
-    let all : c.loop-i.i ≡ n / 2 = omega arith in
-    checking_done _ _ _ (2 * (n / 2) + 1) (omega arith)
-    (checking_more _ _ _ (2 * (n / 2)) (omega arith) (rw all at c.loop-i.invariant) _ _ c.if-n-r.false c.checks-q.ensures c.put.ensures) (omega arith) refl
+    checking_done _ _ _ _ (omega arith)
+    (checking_more _ _ _ _ (omega arith) (checking_at _ _ _ (2 * c.loop-i.i) _ (omega arith) c.loop-i.invariant) _ _ c.if-n-r.false c.checks-q.ensures c.put.ensures)
+    (omega arith) refl
